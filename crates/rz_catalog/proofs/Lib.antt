@@ -17,3 +17,9 @@ pub mod InTurn
 pub mod Applies
 pub mod Holding
 pub mod Staying
+pub mod Pairs
+pub mod Numbered
+pub mod Changes
+pub mod Lookups
+pub mod Own
+pub mod Bytes

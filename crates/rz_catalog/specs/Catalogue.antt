@@ -1,5 +1,6 @@
 -- The catalogue of a list of resources: an entry for each leaf of each tree.
-use Rattle.std.specs.Prelude.{◌≡◌, ℕ, ℤ, List, [], ◌∷◌, length}
+use Rattle.std.specs.Prelude.{◌≡◌, ℕ, ◌<◌, ◌^◌, ℤ, FitsSigned, List, [], ◌∷◌, length}
+use Rattle.std.specs.Int.{w16}
 use Rattle.std.specs.List.{flat_map}
 use Rattle.rz_core.specs.Lists.{each_with_front}
 use Rattle.rz_core.specs.declared.fault.Mark.{Mark}
@@ -28,3 +29,7 @@ catalogue stock = flat_map (λ s. entries_of s.resource.kind s.resource.id (text
 -- these entries are the catalogue of the list
 abbrev pub IsCatalogue : List Declaration → Moment → List Resource → List Entry → Type 0
 IsCatalogue types moment list entries = (stock : List Stocked) × AreStocked types moment list stock × (entries ≡ catalogue stock)
+
+-- a resource has a type of 32 bits and an id of 16
+abbrev pub HasKey : Resource → Type 0
+HasKey r = (r.kind.code < 2 ^ 32) × FitsSigned w16 r.id

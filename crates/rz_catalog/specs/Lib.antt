@@ -5,3 +5,5 @@ pub mod Catalogue
 pub mod Apply
 pub mod Held
 pub mod Stays
+pub mod Own
+pub mod Became

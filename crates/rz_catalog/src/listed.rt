@@ -1,6 +1,6 @@
 //! The catalogue of a list of resources. See `specs/Catalogue`.
 
-ghost use Rattle.std.specs.Prelude.{◌≡◌, ◌≤◌, ◌++◌, ℕ, length, IfOk, List, OnOk, Option, option_map};
+ghost use Rattle.std.specs.Prelude.{◌≡◌, ◌≤◌, ◌++◌, length, IfOk, List, OnOk, Option, option_map};
 ghost use Rattle.rz_core.specs.Decided.{Decided};
 ghost use Rattle.rz_types.specs.Field.{PlainBody};
 ghost use Rattle.rz_types.specs.Template.{template_of};
@@ -97,6 +97,22 @@ pub fn facts_of(alloc: Global, resource: &Resource, moment: Moment) -> Result<Fa
         attr: resource.attr,
         moment,
     })
+}
+
+/// The entries for the texts of one resource, of which so much is known, where this template is declared for it, as
+/// [`catalogue`] gives them. So resources that are lent can be listed too. `NoMemory` is the only refusal.
+pub fn entries_under(
+    alloc: Global,
+    template: Option<&Template>,
+    facts: &Facts,
+    bytes: &[u8],
+) -> Result<Entries, NoMemory>
+    ensures { (row : Option (List Tree)) → Decided (λ row. (body : PlainBody) × IsTree (option_map (λ one. template_of one.now) template.entry) facts.now bytes.now body row) row
+        → IfOk result (λ entries. entries ≡ entries_of facts.now.kind facts.now.id (texts_in row)) }
+{
+    let mut entries = Entries::new(alloc);
+    append_entries(alloc, template, facts, bytes, &mut entries)?;
+    Ok(entries)
 }
 
 /// Appends the entries for the texts of one resource, of which so much is known, where this template is declared for it.

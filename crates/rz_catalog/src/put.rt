@@ -1,6 +1,6 @@
 //! Rows with other texts in the places of their leaves. See `specs/Leaves`.
 
-ghost use Rattle.std.specs.Prelude.{◌≡◌, ◌≤◌, ◌++◌, length, map, IfOk};
+ghost use Rattle.std.specs.Prelude.{◌≡◌, ◌≤◌, ◌++◌, length, IfOk};
 ghost use Rattle.rz_catalog.specs.Leaves.{blank, blank_of, leaves, leaves_of};
 ghost use Rattle.rz_catalog.specs.Put.{blank_rows, row_leaves, IsAText, IsFirst};
 

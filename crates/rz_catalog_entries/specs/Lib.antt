@@ -1,3 +1,4 @@
 pub mod InOrder
 pub mod Entries
 pub mod Read
+pub mod Stored

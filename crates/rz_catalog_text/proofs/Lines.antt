@@ -7,10 +7,10 @@ use Rattle.rz_core.specs.Decimal.{decimal_of, signed_of}
 use Rattle.rz_core.specs.Numbers.{be}
 use Rattle.rz_core.specs.Quoted.{quoted}
 use Rattle.rz_lex.specs.declared.sign.Sign.TheVariants.{Semicolon}
-use Rattle.rz_show.proofs.Pieces.{first_piece, last_piece}
-use Rattle.rz_show.proofs.Writes.{signed_is, text_both}
-use Rattle.rz_show.specs.Print.{signed_written}
-use Rattle.rz_show.specs.Written.{a_blank, a_number, a_sign, line_text, lines_text, Written}
+use Rattle.rz_show_lines.proofs.Pieces.{first_piece, last_piece}
+use Rattle.rz_show_lines.proofs.Writes.{signed_is, text_both}
+use Rattle.rz_show_lines.specs.Print.{signed_written}
+use Rattle.rz_show_lines.specs.Written.{a_blank, a_number, a_sign, line_text, lines_text, Written}
 use Rattle.rz_catalog_entries.specs.declared.entry.Entry.{Entry}
 use Rattle.rz_catalog_text.specs.Text.{entries_text, entry_lines, head_line, head_text, piece_text, pieces_text}
 

@@ -5,9 +5,8 @@ use Rattle.rz_core.specs.Numbers.{be}
 use Rattle.rz_core.specs.Quoted.{literal_text, quoted}
 use Rattle.rz_lex.specs.declared.sign.Sign.TheVariants.{Semicolon}
 use Rattle.rz_catalog_entries.specs.declared.entry.Entry.{Entry}
-use Rattle.rz_show.specs.Lines.{text_lines}
-use Rattle.rz_show.specs.Print.{signed_written}
-use Rattle.rz_show.specs.Written.{a_blank, a_literal, a_number, a_sign, lines_text, Written}
+use Rattle.rz_show_lines.specs.Print.{signed_written, text_lines}
+use Rattle.rz_show_lines.specs.Written.{a_blank, a_literal, a_number, a_sign, lines_text, Written}
 
 -- the type, the id and the place of the text, with a blank between
 abbrev pub head_line : Entry → List Written

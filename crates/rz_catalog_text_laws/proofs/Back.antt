@@ -14,7 +14,6 @@ use Rattle.rz_core.specs.declared.resource.OsType.{OsType}
 use Rattle.rz_lex.specs.Joined.{joined}
 use Rattle.rz_lex.specs.Lines.{HasLines}
 use Rattle.rz_lex.specs.Page.{lines_from, page, StandsOnPage}
-use Rattle.rz_lex.specs.Printed.{AreBytes}
 use Rattle.rz_lex.specs.Token.{is_the_sign}
 use Rattle.rz_lex.specs.declared.sign.Sign.TheVariants.{Semicolon}
 use Rattle.rz_lex.specs.declared.token.Shape.{Shape}
@@ -22,19 +21,19 @@ use Rattle.rz_lex.specs.declared.token.Shape.TheVariants as shapes
 use Rattle.rz_lex.specs.declared.token.Token.{Token}
 use Rattle.rz_catalog_entries.specs.Entries.{chunks, first_mark, id_shapes, id_value, in_first, AreEntries, IsEntry, IsEntryAnswer}
 use Rattle.rz_catalog_entries.specs.InOrder.{EachInOrder}
+use Rattle.rz_catalog_entries.specs.Stored.{unmarked, IsStored}
 use Rattle.rz_catalog_entries.specs.declared.entry.Entry.{Entry}
 use Rattle.rz_catalog_text.specs.Text.{entries_text, entry_lines, head_line}
-use Rattle.rz_catalog_text_laws.specs.Back.{unmarked, AreReadBack, AreThese, IsStored}
-use Rattle.rz_show.specs.Pieces.{text_pieces}
-use Rattle.rz_show.specs.Print.{signed_written}
-use Rattle.rz_show.specs.Written.{a_blank, a_number, a_sign, are_apart, line_shapes, lines_shapes, lines_text, IsWritten, Written}
-use Rattle.rz_show_laws.specs.Page.{ArePrinted, IsPage}
-use Rattle.rz_show_laws.proofs.CutLines.{all_printed, pieces_lines, IsCutBack}
-use Rattle.rz_show_laws.proofs.Heads.{none_live}
-use Rattle.rz_show_laws.proofs.Pages.{has_tokens}
-use Rattle.rz_show_laws.proofs.Split.{front_and_back, none_left, one_and_more, shapes_in}
-use Rattle.rz_show_laws.proofs.Texts.{all_pieces, pieces_join, pieces_small}
-use Rattle.rz_show_laws.proofs.Tokens.{lines_both, piece_tokens}
+use Rattle.rz_catalog_text_laws.specs.Back.{AreReadBack, AreThese}
+use Rattle.rz_show_lines.specs.Pieces.{text_pieces}
+use Rattle.rz_show_lines.specs.Print.{signed_written}
+use Rattle.rz_show_lines.specs.Written.{a_blank, a_number, a_sign, are_apart, line_shapes, lines_shapes, lines_text, IsWritten, Written}
+use Rattle.rz_show_lines_laws.specs.Page.{ArePrinted, IsPage}
+use Rattle.rz_show_lines_laws.proofs.CutLines.{all_printed, none_live, pieces_lines, IsCutBack}
+use Rattle.rz_show_lines_laws.proofs.Pages.{has_tokens}
+use Rattle.rz_show_lines_laws.proofs.Split.{front_and_back, none_left, one_and_more, shapes_in}
+use Rattle.rz_show_lines_laws.proofs.Texts.{all_pieces, four_bytes, pieces_join, pieces_small}
+use Rattle.rz_show_lines_laws.proofs.Tokens.{lines_both, piece_tokens}
 
 -- The tokens of an entry.
 
@@ -71,10 +70,6 @@ tokens_are entry =
     ∙ sym (front_is entry [] (map shapes.Text (texts_of entry) ++ shapes.Sign Semicolon ∷ []))
 
 -- The lines are cut into them.
-
-four_bytes : (code : ℕ) → AreBytes (be 4 code)
-unfolding be
-four_bytes code = (omega arith, (omega arith, (omega arith, (omega arith, tt))))
 
 id_written : (id : ℤ) → FitsSigned w16 id → AllByRecursion IsWritten (signed_written id)
 id_written (pos n) fits = (omega (arith, fits), tt)

@@ -23,5 +23,6 @@ mod unfolding;
 
 pub use condition::Tool;
 pub use laws::{one_expansion, one_program};
+pub use open::text_of;
 pub use program::{Def, Defs, Failure, Program};
 pub use unfolding::preprocess;

@@ -15,10 +15,10 @@ use Rattle.rz_core.specs.declared.facts.Facts.{Facts}
 use Rattle.rz_core.specs.declared.moment.Moment.{Moment}
 use Rattle.rz_show.specs.Head.{head_end, head_front, head_lines}
 use Rattle.rz_show.specs.Number.{by_value, number_shown}
-use Rattle.rz_show.specs.Print.{block, by_name, in_binary, in_decimal, in_group, in_hex, in_literal, in_octal, in_text, list_lines, named_block, no_prints, pieces, print, single, single_written}
+use Rattle.rz_show_lines.specs.Print.{block, by_name, in_decimal, in_group, in_hex, in_literal, in_text, list_lines, named_block, no_prints, pieces, print, single}
 use Rattle.rz_show.specs.Shown.{text_print}
 use Rattle.rz_show.specs.Statement.{data_lines, statement_lines}
-use Rattle.rz_show.specs.Written.{a_hex_text, line_text, lines_text, octal_count, written_text}
+use Rattle.rz_show_lines.specs.Written.{lines_text}
 
 abbrev field : NumForm → ℤ → Bool → Radix → List Symbol → PlainNumber
 field form width unsigned radix symbols = record { form = form; width = width; unsigned = unsigned; radix = radix; symbols = symbols; fixed = None; key = false }
@@ -54,20 +54,6 @@ a_truth = refl
 a_char : by_value (field forms.Char (pos 8) false radixes.Hex []) 65 ≡ in_text (65 ∷ [])
 a_char = refl
 
-hex_word : line_text (single_written (in_hex 3 171)) ≡ codes "0x0AB"
-hex_word = refl
-
-octal_word : line_text (single_written (in_octal 64)) ≡ codes "0100"
-unfolding octal_count
-octal_word = refl
-
-octal_zero : line_text (single_written (in_octal 0)) ≡ codes "0"
-unfolding octal_count
-octal_zero = refl
-
-binary_word : line_text (single_written (in_binary 5 6)) ≡ codes "0B00110"
-binary_word = refl
-
 first_symbol : number_shown none (field forms.Byte (pos 8) false radixes.Hex (symbol (codes "on") (pos 1) ∷ symbol (codes "ON") (pos 2) ∷ symbol (codes "full") (negsuc 0) ∷ [])) 255 ≡ by_name (codes "full")
 unfolding int_wrap
 first_symbol = refl
@@ -79,9 +65,6 @@ later_symbol_of_a_name = refl
 hidden_symbol : number_shown all (field forms.Byte (pos 8) false radixes.Hex (symbol (codes "on") (pos 1) ∷ [])) 1 ≡ in_hex 2 1
 unfolding int_wrap
 hidden_symbol = refl
-
-hex_piece : written_text (a_hex_text (1 ∷ 2 ∷ 3 ∷ [])) ≡ codes "$\"0102 03\""
-hex_piece = refl
 
 empty_piece : lines_text (list_lines 1 (print (text_print true []) no_prints)) ≡ codes "    $\"\"\n"
 empty_piece = refl

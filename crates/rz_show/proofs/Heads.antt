@@ -16,13 +16,14 @@ use Rattle.rz_show.specs.declared.lines.Part.{Part}
 use Rattle.rz_show.specs.declared.lines.Part.TheVariants as parts
 use Rattle.rz_show.specs.declared.lines.Rest.{Rest}
 use Rattle.rz_show.specs.declared.open_list.OpenList.{OpenList}
-use Rattle.rz_show.specs.declared.text.Text.{Text}
+use Rattle.rz_show_lines.specs.declared.text.Text.{Text}
 use Rattle.rz_show.specs.Height.{heights}
-use Rattle.rz_show.specs.Lines.{behind_piece, closing, end_if, end_left, hidden_in, is_settled, items_left, left, level, lines_left, named, names_behind, outside, part_behind, part_left, pending_lines, text_lines, AreItemsReady, AreReady, IsBehindHead, IsOpen, IsSound, IsWithout}
-use Rattle.rz_show.specs.Print.{comma, list_lines, margin, no_prints, piece_written, print, Prints}
+use Rattle.rz_show_lines.specs.Texts.{behind_piece, pending_lines}
+use Rattle.rz_show.specs.Lines.{closing, end_if, end_left, hidden_in, is_settled, items_left, left, level, lines_left, named, names_behind, outside, part_behind, part_left, AreItemsReady, AreReady, IsBehindHead, IsOpen, IsSound, IsWithout}
+use Rattle.rz_show_lines.specs.Print.{comma, list_lines, margin, no_prints, piece_written, print, text_lines, Prints}
 use Rattle.rz_show.specs.Shown.{row_prints, text_print}
 use Rattle.rz_show.specs.Statement.{close_lines, data_items, data_lines, statement_lines}
-use Rattle.rz_show.specs.Written.{as_line, line_text, lines_text, Written}
+use Rattle.rz_show_lines.specs.Written.{as_line, line_text, lines_text, Written}
 use Rattle.rz_show.proofs.RowHeight.{row_low}
 
 -- an empty name is no long one

@@ -7,7 +7,7 @@ use Rattle.rz_types_fields.specs.declared.tree.Tree.{Tree}
 use Rattle.rz_types_fields.specs.Laid.{first_value, other_values}
 use Rattle.rz_types.specs.Field.{plain_body, plain_field, PlainBody}
 use Rattle.rz_show.specs.Lines.{comma_if, is_settled}
-use Rattle.rz_show.specs.Print.{comma}
+use Rattle.rz_show_lines.specs.Print.{comma}
 use Rattle.rz_show.specs.Shown.{field_print, print_if, row_prints, rows_prints}
 
 some : (n : ℕ) → (suc n == 0) ≡ false

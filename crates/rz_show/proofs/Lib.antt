@@ -4,16 +4,11 @@ pub mod Symbols
 pub mod Widths
 pub mod RowHeight
 pub mod Names
-pub mod Writes
 pub mod Forms
-pub mod Pieces
 pub mod Left
 pub mod Nested
 pub mod Heads
-pub mod Octal
 pub mod Trees
-pub mod ShortTokens
-pub mod ShortItems
 pub mod ShortHeads
 pub mod ShortRows
 pub mod Short

@@ -12,7 +12,8 @@ use Rattle.rz_types_fields.specs.declared.field.Symbol.{Symbol}
 use Rattle.rz_types.specs.Field.{case_and, field_and, no_cases, no_fields, Align, Array, Fill, Label, Number, PlainBody, PlainCases, PlainField, PlainNumber, Points, Switch, Text}
 use Rattle.rz_types.specs.Range.{fits_number}
 use Rattle.rz_types.specs.Shape.{are_cases_shaped, are_shaped, is_fixed_number, is_key_shaped, is_none_or, is_number_shaped, is_own_name, is_own_width, is_shaped, is_symbol_name, is_symbol_of, is_well_shaped}
-use Rattle.rz_show.specs.Printable.{HasName, HasNames, HaveNames, IsName}
+use Rattle.rz_show.specs.Printable.{HasName, HasNames, HaveNames}
+use Rattle.rz_show_lines.specs.Written.{IsName}
 use Rattle.rz_show.proofs.Widths.{fields_shaped}
 
 short : (n : ℕ) → nat_le n 255 ≡ true → n ≤ 255

@@ -4,11 +4,12 @@ use Rattle.std.specs.Option.{is_none, is_some}
 use Rattle.std.specs.Prelude.{not}
 use Rattle.rz_lex.specs.declared.sign.Sign.TheVariants as signs
 use Rattle.rz_show.specs.declared.open_list.OpenList.{OpenList}
-use Rattle.rz_show.specs.declared.text.Text.{Text}
-use Rattle.rz_show.specs.Cut.{cut}
-use Rattle.rz_show.specs.Lines.{behind_lines, behind_piece, block_print, closing, comma_if, left, level, open_lines, opening, pending_lines, text_lines, GivesLine}
-use Rattle.rz_show.specs.Print.{comma, deeper, list_lines, margin, piece_written, print, print_lines, Print, Prints}
-use Rattle.rz_show.specs.Written.{a_sign, as_line, Written}
+use Rattle.rz_show_lines.specs.declared.text.Text.{Text}
+use Rattle.rz_show_lines.specs.Cut.{cut}
+use Rattle.rz_show.specs.Lines.{behind_lines, block_print, closing, comma_if, left, level, open_lines, opening, GivesLine}
+use Rattle.rz_show_lines.specs.Texts.{behind_piece, pending_lines}
+use Rattle.rz_show_lines.specs.Print.{comma, deeper, list_lines, margin, piece_written, print, print_lines, text_lines, Print, Prints}
+use Rattle.rz_show_lines.specs.Written.{a_sign, as_line, Written}
 
 deeper_is : (outer : ℕ) → deeper (level outer) ≡ level (suc outer)
 deeper_is outer = omega arith

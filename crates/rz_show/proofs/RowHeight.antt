@@ -15,7 +15,7 @@ use Rattle.rz_types.specs.Field.{case_and, field_and, no_cases, no_fields, takes
 use Rattle.rz_types.specs.Shape.{body_depth, cases_depth, field_depth}
 use Rattle.rz_show.specs.Height.{height, heights, single_height}
 use Rattle.rz_show.specs.Number.{by_form, by_literal, by_radix, by_truth, is_literal_width, named_or}
-use Rattle.rz_show.specs.Print.{no_prints, Print, Prints, Single}
+use Rattle.rz_show_lines.specs.Print.{no_prints, Print, Prints, Single}
 use Rattle.rz_show.specs.Shown.{case_print, field_print, print_if, row_prints, rows_prints}
 
 literal_low : (width number : ℕ) → single_height (by_literal width number) ≡ 0

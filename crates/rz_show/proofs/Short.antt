@@ -11,11 +11,11 @@ use Rattle.rz_types.specs.Field.{PlainBody}
 use Rattle.rz_types.specs.Kept.{IsKept}
 use Rattle.rz_types.specs.Shape.{is_well_shaped}
 use Rattle.rz_show.specs.Head.{head_lines}
-use Rattle.rz_show.specs.Lines.{IsShort}
-use Rattle.rz_show.specs.Print.{list_lines, Prints}
+use Rattle.rz_show_lines.specs.Cut.{IsShort}
+use Rattle.rz_show_lines.specs.Print.{list_lines, Prints}
 use Rattle.rz_show.specs.Statement.{close_lines, data_items, data_lines, row_items, row_lines, statement_lines}
 use Rattle.rz_show.proofs.ShortHeads.{head_short, text_few}
-use Rattle.rz_show.proofs.ShortItems.{list_short, AreBrief}
+use Rattle.rz_show_lines.proofs.ShortItems.{list_short, AreBrief}
 use Rattle.rz_show.proofs.ShortRows.{row_brief}
 
 statement_short : (word : List ℕ) (code : ℕ) (id : ℤ) (name : List ℕ) (attr : ℕ) (items : Prints) → length word ≤ 8 → FitsSigned w16 id → AreBrief items

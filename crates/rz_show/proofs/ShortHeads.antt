@@ -12,12 +12,12 @@ use Rattle.rz_words.specs.Attribute.{bit_of, setting_word}
 use Rattle.rz_words.specs.declared.attribute.Attribute.{Attribute}
 use Rattle.rz_words.specs.declared.attribute.Attribute.TheVariants.{Changed, Locked, Preload, Protected, Purgeable, SystemHeap}
 use Rattle.rz_show.specs.Head.{attr_written, behind_comma, head_end, head_front, head_lines, name_lines, word_written}
-use Rattle.rz_show.specs.Lines.{IsShort}
-use Rattle.rz_show.specs.Pieces.{in_pieces, text_pieces}
-use Rattle.rz_show.specs.Print.{signed_written}
-use Rattle.rz_show.specs.Written.{a_blank, a_literal, a_sign, a_text, a_word}
-use Rattle.rz_show.proofs.ShortItems.{is_short, pieces_short, IsPiece}
-use Rattle.rz_show.proofs.ShortTokens.{negative_short, positive_short, quoted_short, size, size_both, size_one}
+use Rattle.rz_show_lines.specs.Cut.{IsShort}
+use Rattle.rz_show_lines.specs.Pieces.{in_pieces, text_pieces}
+use Rattle.rz_show_lines.specs.Print.{signed_written}
+use Rattle.rz_show_lines.specs.Written.{a_blank, a_literal, a_sign, a_text, a_word}
+use Rattle.rz_show_lines.proofs.ShortItems.{is_short, pieces_short, IsPiece}
+use Rattle.rz_show_lines.proofs.ShortTokens.{negative_short, positive_short, quoted_short, size, size_both, size_one}
 
 -- Pieces.
 

@@ -23,16 +23,16 @@ use Rattle.rz_types.specs.Rules.{case_names}
 use Rattle.rz_types.specs.Shape.{is_well_shaped}
 use Rattle.rz_types.specs.Value.{symbol_value}
 use Rattle.rz_types.specs.Walk.{and_names, around_names, names_of, Own}
-use Rattle.rz_show.specs.Number.{by_form, by_hex, by_literal, by_radix, by_truth, by_value, is_stored, named_or, number_shown, signed_number, symbol_for, truth}
-use Rattle.rz_show.specs.Print.{group_written, no_prints, single_written, Print, Prints, Single}
-use Rattle.rz_show.specs.Printable.{HasName, HasNames, HasWidth, HasWidths, HaveNames, HaveWidths, IsName, IsWidth}
+use Rattle.rz_show.specs.Number.{by_form, by_hex, by_literal, by_radix, by_truth, by_value, is_stored, named_or, number_shown, symbol_for, truth}
+use Rattle.rz_show_lines.specs.Print.{group_written, no_prints, signed_number, single_written, Print, Prints, Single}
+use Rattle.rz_show.specs.Printable.{HasName, HasNames, HasWidth, HasWidths, HaveNames, HaveWidths, IsWidth}
+use Rattle.rz_show_lines.specs.Written.{a_binary, a_hex, a_literal, a_text, a_word, an_octal, octal_count, IsName}
 use Rattle.rz_show.specs.Shown.{case_print, field_print, print_if, row_prints, rows_prints}
-use Rattle.rz_show.specs.Written.{a_binary, a_hex, a_literal, a_text, a_word, an_octal, octal_count}
 use Rattle.rz_show.proofs.Names.{shaped_names}
-use Rattle.rz_show.proofs.Octal.{octal_few}
+use Rattle.rz_show_lines.proofs.Octal.{octal_few}
 use Rattle.rz_show.proofs.ShortHeads.{text_few}
-use Rattle.rz_show.proofs.ShortItems.{AreBrief, IsBrief}
-use Rattle.rz_show.proofs.ShortTokens.{group_short, positive_short, quoted_short, signed_short, size, size_one}
+use Rattle.rz_show_lines.proofs.ShortItems.{AreBrief, IsBrief}
+use Rattle.rz_show_lines.proofs.ShortTokens.{group_short, positive_short, quoted_short, signed_short, size, size_one}
 use Rattle.rz_show.proofs.Trees.{choice_chosen, choice_differs, fronted, group_is, line_is, number_is, rows_are, taken}
 use Rattle.rz_show.proofs.Widths.{kept_widths, width_most}
 

@@ -5,9 +5,9 @@ use Rattle.rz_lex.specs.declared.sign.Sign.TheVariants as signs
 use Rattle.rz_words.specs.Attribute.{bit_of, setting_word}
 use Rattle.rz_words.specs.declared.attribute.Attribute.{Attribute}
 use Rattle.rz_words.specs.declared.attribute.Attribute.TheVariants.{Changed, Locked, Preload, Protected, Purgeable, SystemHeap}
-use Rattle.rz_show.specs.Pieces.{text_pieces}
-use Rattle.rz_show.specs.Print.{piece_lines, signed_written}
-use Rattle.rz_show.specs.Written.{a_blank, a_hex_byte, a_literal, a_sign, a_text, a_word, Written}
+use Rattle.rz_show_lines.specs.Pieces.{text_pieces}
+use Rattle.rz_show_lines.specs.Print.{piece_lines, signed_written}
+use Rattle.rz_show_lines.specs.Written.{a_blank, a_hex_byte, a_literal, a_sign, a_text, a_word, Written}
 
 -- something more stands behind a comma
 abbrev pub behind_comma : List Written → List Written

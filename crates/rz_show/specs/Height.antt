@@ -1,6 +1,6 @@
 -- How many braces of printed items stand in each other. (MPW Rez bounds the depth of brackets.)
 use Rattle.std.specs.Prelude.{ℕ, suc, max}
-use Rattle.rz_show.specs.Print.{block, in_group, named_block, no_prints, pieces, print, single, Print, Prints, Single}
+use Rattle.rz_show_lines.specs.Print.{block, in_group, named_block, no_prints, pieces, print, single, Print, Prints, Single}
 
 abbrev pub single_height : Single → ℕ
 single_height (in_group numbers) = 1

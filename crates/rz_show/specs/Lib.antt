@@ -1,6 +1,3 @@
-pub mod Written
-pub mod Pieces
-pub mod Print
 pub mod Number
 pub mod Shown
 pub mod Printable
@@ -9,6 +6,6 @@ pub mod Head
 pub mod Statement
 pub mod Showing
 pub mod Height
-pub mod Cut
-pub mod Single
 pub mod Lines
+pub use Rattle.rz_show_lines.specs.Print
+pub use Rattle.rz_show_lines.specs.Written

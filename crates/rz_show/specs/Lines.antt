@@ -12,21 +12,18 @@ use Rattle.rz_show.specs.declared.lines.Part.TheVariants as parts
 use Rattle.rz_show.specs.declared.lines.Rest.{Rest}
 use Rattle.rz_show.specs.declared.open_list.Item.{Item}
 use Rattle.rz_show.specs.declared.open_list.OpenList.{OpenList}
-use Rattle.rz_show.specs.declared.text.Text.{Text}
-use Rattle.rz_show.specs.Cut.{cut}
+use Rattle.rz_show_lines.specs.declared.text.Text.{Text}
+use Rattle.rz_show_lines.specs.Cut.{cut, IsShort}
 use Rattle.rz_show.specs.Head.{behind_comma, head_end, head_lines, name_lines}
-use Rattle.rz_show.specs.Pieces.{text_pieces}
-use Rattle.rz_show.specs.Print.{block, comma, list_lines, margin, named_block, piece_lines, print, single, Print, Prints}
+use Rattle.rz_show_lines.specs.Print.{block, comma, list_lines, margin, named_block, print, single, text_lines, Print, Prints}
 use Rattle.rz_show.specs.Printable.{HasName, HasNames, HasWidth, HasWidths}
 use Rattle.rz_show.specs.Shown.{field_print, row_prints, rows_prints, text_print}
-use Rattle.rz_show.specs.Single.{hides_in, single_of}
+use Rattle.rz_show.specs.Hidden.{hides_in}
+use Rattle.rz_show_lines.specs.Single.{single_of}
 use Rattle.rz_show.specs.Statement.{close_lines}
-use Rattle.rz_show.specs.Written.{a_blank, a_sign, a_text, a_word, as_line, Written}
+use Rattle.rz_show_lines.specs.Written.{a_blank, a_sign, a_text, a_word, as_line, Written}
 use Rattle.rz_show.specs.Height.{heights}
-
--- a line that a buffer holds
-abbrev pub IsShort : List Written → Type 0
-IsShort line = length (as_line line) ≤ 512
+use Rattle.rz_show_lines.specs.Texts.{pending_lines}
 
 -- a line is given, and these are left
 abbrev pub GivesLine : (line : List ℕ) → (before after : List (List Written)) → Type 0
@@ -58,21 +55,6 @@ names_behind name attr = if nat_le (length name) 64 then [] else name_lines name
 abbrev pub end_if : Bool → (attr : ℕ) → List Written
 end_if true attr = head_end attr
 end_if false attr = []
-
--- Texts.
-
--- a text, or what is left of it, with what stands behind it
-abbrev pub text_lines : (depth : ℕ) → (behind : List Written) → (hex : Bool) → List ℕ → List (List Written)
-text_lines depth behind hex bytes = piece_lines depth behind hex (text_pieces hex bytes).first (text_pieces hex bytes).others
-
-abbrev pub pending_lines : (depth : ℕ) → (behind : List Written) → Option Text → List (List Written)
-pending_lines depth behind None = []
-pending_lines depth behind (Some text) = text_lines depth behind text.hex text.bytes.now
-
--- what stands behind a piece of a text: nothing where others follow
-abbrev pub behind_piece : Option Text → List Written → List Written
-behind_piece None behind = behind
-behind_piece (Some text) behind = []
 
 -- Lists of items.
 

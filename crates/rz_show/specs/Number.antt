@@ -1,5 +1,5 @@
 -- Numbers of rows as they are shown. (As MPW DeRez shows them.)
-use Rattle.std.specs.Prelude.{ℕ, ◌+◌, ◌-◌, ◌/◌, ◌%◌, ◌^◌, nat_lt, ◌==◌, ◌||◌, ℤ, pos, negsuc, nat_abs, Bool, true, false, if◌then◌else◌, codes, List, [], ◌∷◌, Option, Some, None}
+use Rattle.std.specs.Prelude.{ℕ, ◌+◌, ◌/◌, ◌%◌, ◌==◌, ◌||◌, ℤ, pos, nat_abs, Bool, true, false, if◌then◌else◌, codes, List, [], ◌∷◌, Option, Some, None}
 use Rattle.rz_core.specs.Numbers.{be}
 use Rattle.rz_core.specs.declared.resource.Word.{Word}
 use Rattle.rz_expr.specs.Value.{reduced}
@@ -12,13 +12,9 @@ use Rattle.rz_types.specs.Field.{PlainNumber}
 use Rattle.rz_types.specs.Shape.{is_empty}
 use Rattle.rz_types.specs.Stored.{stored_number}
 use Rattle.rz_types.specs.Value.{symbol_value}
-use Rattle.rz_show.specs.Print.{by_name, in_binary, in_decimal, in_hex, in_literal, in_octal, in_text, Single}
+use Rattle.rz_show_lines.specs.Print.{by_name, in_binary, in_decimal, in_hex, in_literal, in_octal, in_text, signed_number, Single}
 
 -- By value.
-
--- two's complement
-abbrev pub signed_number : (width number : ℕ) → ℤ
-signed_number width number = if nat_lt number (2 ^ (width - 1)) then pos number else negsuc (2 ^ width - number - 1)
 
 abbrev pub by_decimal : (unsigned : Bool) → (width number : ℕ) → Single
 by_decimal true width number = in_decimal (pos number)

@@ -1,14 +1,13 @@
 -- What holds of fields, rows and items whose lines are cut back into the tokens that are meant.
-use Rattle.std.specs.Prelude.{◌≡◌, ℕ, ◌≤◌, ◌≤ℤ◌, ℤ, pos, Bool, true, false, codes, List, ◌∷◌, length, Option}
+use Rattle.std.specs.Prelude.{◌≡◌, ℕ, ◌≤◌, ◌≤ℤ◌, ℤ, pos, Bool, true, false, codes, List, Option}
 use Rattle.std.specs.List.{AllByRecursion}
-use Rattle.rz_lex.specs.Printed.{is_word, AreBytes}
+use Rattle.rz_lex.specs.Printed.{AreBytes}
 use Rattle.rz_types_fields.specs.declared.tree.Tree.{Tree}
 use Rattle.rz_types_fields.specs.Laid.{first_value, line_in, other_values, rows_in, text_in}
 use Rattle.rz_types_fields.specs.Row.{By}
 use Rattle.rz_types_fields.specs.Spells.{is_case}
 use Rattle.rz_types.specs.Field.{case_and, field_and, no_cases, no_fields, takes_value, Align, Array, Fill, Label, Number, PlainBody, PlainCases, PlainField, Points, Switch, Text}
-use Rattle.rz_show.specs.Print.{block, named_block, no_prints, pieces, print, single, single_written, Print, Prints}
-use Rattle.rz_show.specs.Written.{IsPut}
+use Rattle.rz_show_lines.specs.Written.{IsName}
 
 -- `true` and `false` are no live macros: they are reserved
 pub record SparesTruth (hidden : List ℕ → Bool) : Type 0 where
@@ -16,10 +15,6 @@ pub record SparesTruth (hidden : List ℕ → Bool) : Type 0 where
   pub of_false : hidden (codes "false") ≡ false
 
 -- Fields.
-
--- a name that is a word
-abbrev pub IsName : List ℕ → Type 0
-IsName name = (is_word name ≡ true) × (length name ≤ 255)
 
 -- a number has 1 to 32 bits
 abbrev pub IsWidth : ℤ → Type 0
@@ -88,17 +83,3 @@ abbrev mutual
   pub IsCaseOfBytes : PlainCases → Option Tree → Type 0
   IsCaseOfBytes no_cases value = Unit {0}
   IsCaseOfBytes (case_and name row others) value = By (is_case name value) (AreOfBytes row (line_in value)) (IsCaseOfBytes others value)
-
--- Items.
-
-abbrev mutual
-  -- what is written of the item may be written, and no word of it is a live macro
-  pub IsGood : (hidden : List ℕ → Bool) → Print → Type 0
-  IsGood hidden (single one) = AllByRecursion (IsPut hidden) (single_written one)
-  IsGood hidden (pieces hex first others) = AllByRecursion AreBytes (first ∷ others)
-  IsGood hidden (block items) = AreGood hidden items
-  IsGood hidden (named_block name items) = IsName name × (hidden name ≡ false) × AreGood hidden items
-
-  pub AreGood : (hidden : List ℕ → Bool) → Prints → Type 0
-  AreGood hidden no_prints = Unit {0}
-  AreGood hidden (print item others) = IsGood hidden item × AreGood hidden others

@@ -4,7 +4,7 @@ use Rattle.rz_core.specs.declared.resource.Resource.{Resource}
 use Rattle.rz_types_fields.specs.declared.tree.Tree.{Tree}
 use Rattle.rz_types.specs.Field.{PlainBody}
 use Rattle.rz_show.specs.Statement.{data_items, row_items, statement_lines}
-use Rattle.rz_show.specs.Written.{lines_text, Written}
+use Rattle.rz_show_lines.specs.Written.{lines_text, Written}
 
 -- a resource, by its bytes in a `data` statement, or by a row of its type's fields in a `resource` statement
 pub data Showing : Type 0 where

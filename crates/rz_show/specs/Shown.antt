@@ -5,9 +5,9 @@ use Rattle.rz_types_fields.specs.declared.tree.Tree.{Tree}
 use Rattle.rz_types_fields.specs.Laid.{first_value, line_in, number_in, other_values, rows_in, text_in}
 use Rattle.rz_types_fields.specs.Spells.{group_in, is_case}
 use Rattle.rz_types.specs.Field.{case_and, field_and, no_cases, no_fields, takes_value, Align, Array, Fill, Label, Number, PlainBody, PlainCases, PlainField, Points, Switch, Text}
-use Rattle.rz_show.specs.Number.{number_shown, signed_number}
-use Rattle.rz_show.specs.Pieces.{text_pieces}
-use Rattle.rz_show.specs.Print.{block, in_group, named_block, no_prints, pieces, print, single, Print, Prints}
+use Rattle.rz_show.specs.Number.{number_shown}
+use Rattle.rz_show_lines.specs.Print.{block, in_group, named_block, no_prints, pieces, print, signed_number, single, Print, Prints}
+use Rattle.rz_show_lines.specs.Pieces.{text_pieces}
 
 -- Texts.
 

@@ -5,9 +5,9 @@ use Rattle.rz_lex.specs.declared.sign.Sign.TheVariants as signs
 use Rattle.rz_types_fields.specs.declared.tree.Tree.{Tree}
 use Rattle.rz_types.specs.Field.{PlainBody}
 use Rattle.rz_show.specs.Head.{head_lines}
-use Rattle.rz_show.specs.Print.{list_lines, no_prints, print, Prints}
+use Rattle.rz_show_lines.specs.Print.{list_lines, no_prints, print, Prints}
 use Rattle.rz_show.specs.Shown.{row_prints, text_print}
-use Rattle.rz_show.specs.Written.{a_sign, Written}
+use Rattle.rz_show_lines.specs.Written.{a_sign, Written}
 
 -- the end of a statement, and an empty line
 abbrev pub close_lines : List (List Written)

@@ -2,16 +2,15 @@
 
 ghost use Rattle.std.specs.Prelude.{◌≡◌, ℕ, Bool, List, option_map};
 ghost use Rattle.rz_show.specs.Lines.{entry_print, IsEntry, IsSoundField};
-ghost use Rattle.rz_show.specs.Printable.{HasNames, HaveNames, HaveWidths};
+ghost use Rattle.rz_show.specs.Printable.{HaveNames, HaveWidths};
 ghost use Rattle.rz_show.specs.Shown.{case_print, field_print};
-ghost use Rattle.rz_show.specs.Single.{hides_in};
+ghost use Rattle.rz_show.specs.Hidden.{hides_in};
 ghost use Rattle.rz_types.specs.Field.{plain_cases, plain_field};
 
 use crate::Hidden;
 use crate::number::number_shown;
 use crate::open_list::OpenList;
-use crate::single::Single;
-use crate::text::Text;
+use rz_show_lines::{Single, Text};
 use rz_types::values::{choice_in, group_in, line_in, number_in, rows_in, text_in};
 use rz_types::{Case, Field};
 use rz_types_fields::Tree;

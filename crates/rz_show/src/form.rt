@@ -3,17 +3,16 @@
 
 ghost use Rattle.std.specs.Prelude.{◌≡◌, [], ◌∷◌, ◌++◌, option_map};
 ghost use Rattle.rz_lex.specs.declared.sign.Sign.TheVariants.{CloseBrace, Semicolon};
-ghost use Rattle.rz_show.specs.Cut.{cut};
+ghost use Rattle.rz_show_lines.specs.Cut.{cut};
 ghost use Rattle.rz_show.specs.Head.{head_front};
 ghost use Rattle.rz_show.specs.Lines.{comma_if, end_if, named, opening};
-ghost use Rattle.rz_show.specs.Print.{margin, piece_written, single_written};
-ghost use Rattle.rz_show.specs.Single.{single_of};
-ghost use Rattle.rz_show.specs.Written.{a_sign, as_line, line_text};
+ghost use Rattle.rz_show_lines.specs.Print.{margin, piece_written, single_written};
+ghost use Rattle.rz_show_lines.specs.Single.{single_of};
+ghost use Rattle.rz_show_lines.specs.Written.{a_sign, as_line, line_text};
 
-use crate::line::Line;
-use crate::single::Single;
-use crate::text::PIECE;
+use crate::head::{head_end, head_front};
 use rz_core::Facts;
+use rz_show_lines::{Line, PIECE, Single};
 
 /// A line behind its margin.
 fn at(depth: u8, line: &mut Line)
@@ -86,7 +85,7 @@ fn front(word: &[u8], facts: &Facts, line: &mut Line)
     ensures { line.new ≡ cut (line_text (head_front word.now facts.now.kind.code facts.now.id)) }
 {
     line.clear();
-    line.head_front(word, facts.kind.code, facts.id);
+    head_front(word, facts.kind.code, facts.id, line);
 }
 
 /// The line that begins a statement with this word. A name of more than 64 bytes stands on lines of its own behind it.
@@ -94,7 +93,7 @@ pub fn head_line(word: &[u8], facts: &Facts, line: &mut Line)
     ensures { line.new ≡ cut (as_line (head_front word.now facts.now.kind.code facts.now.id ++ named facts.now.name facts.now.attr)) }
 {
     front(word, facts, line);
-    line.head_name(facts.name.as_slice(), facts.attr.byte());
+    head_name(facts.name.as_slice(), facts.attr.byte(), line);
     line.push(b'\n');
 }
 
@@ -104,34 +103,32 @@ pub fn name_line(piece: &[u8], hex: bool, last: bool, attr: u8, line: &mut Line)
 {
     at(1, line);
     line.piece(piece, hex);
-    line.end_if(last, attr);
+    end_if(last, attr, line);
     line.push(b'\n');
 }
 
-impl Line {
-    /// Writes a name of at most 64 bytes, where there is one, and the end of the head, or the comma before a longer name.
-    fn head_name(&mut self, name: &[u8], attr: u8)
-        ensures { self.new ≡ cut (self.old ++ line_text (named name.now attr)) }
-    {
-        if name.is_empty() {
-            self.head_end(attr);
-        } else if name.len() <= PIECE {
-            self.append(b", ");
-            self.piece(name, false);
-            self.head_end(attr);
-        } else {
-            self.push(b',');
-        }
+/// Writes a name of at most 64 bytes, where there is one, and the end of the head, or the comma before a longer name.
+fn head_name(name: &[u8], attr: u8, line: &mut Line)
+    ensures { line.new ≡ cut (line.old ++ line_text (named name.now attr)) }
+{
+    if name.is_empty() {
+        head_end(attr, line);
+    } else if name.len() <= PIECE {
+        line.append(b", ");
+        line.piece(name, false);
+        head_end(attr, line);
+    } else {
+        line.push(b',');
     }
+}
 
-    /// Writes the end of a head, where it stands there.
-    fn end_if(&mut self, last: bool, attr: u8)
-        ensures { self.new ≡ cut (self.old ++ line_text (end_if last attr)) }
-    {
-        if last {
-            self.head_end(attr);
-        } else {
-            self.append(b"");
-        }
+/// Writes the end of a head, where it stands there.
+fn end_if(last: bool, attr: u8, line: &mut Line)
+    ensures { line.new ≡ cut (line.old ++ line_text (end_if last attr)) }
+{
+    if last {
+        head_end(attr, line);
+    } else {
+        line.append(b"");
     }
 }

@@ -1,20 +1,19 @@
 //! The lines of items that are still to come; changes with `specs/Lines`.
 
 ghost use Rattle.std.specs.Prelude.{◌≡◌, ℕ, ◌+◌, ◌<◌, ◌≤◌, Bool, List, [], ◌∷◌, ◌++◌, length, None, option_map, MatchOption};
-ghost use Rattle.rz_show.specs.Lines.{behind_lines, entry_print, items_left, left, level, opening, outside, text_lines, AreItemsReady, GivesLine, HasRoom, IsEntry, IsOpen};
-ghost use Rattle.rz_show.specs.Cut.{cut};
-ghost use Rattle.rz_show.specs.Print.{comma, margin, print_lines};
-ghost use Rattle.rz_show.specs.Single.{hides_in};
-ghost use Rattle.rz_show.specs.Written.{as_line};
+ghost use Rattle.rz_show.specs.Lines.{behind_lines, entry_print, items_left, left, level, opening, outside, AreItemsReady, GivesLine, HasRoom, IsEntry, IsOpen};
+ghost use Rattle.rz_show_lines.specs.Print.{comma, margin, print_lines, text_lines};
+ghost use Rattle.rz_show_lines.specs.Cut.{cut};
+ghost use Rattle.rz_show.specs.Hidden.{hides_in};
+ghost use Rattle.rz_show_lines.specs.Written.{as_line};
 ghost use Rattle.rz_show.specs.Height.{height};
 
 use crate::Hidden;
 use crate::entry::{Entry, entry_of};
 use crate::form::{close_line, open_line, piece_line, single_line};
-use crate::line::Line;
 use crate::open_list::OpenList;
-use crate::text::Text;
 use arrayvec::ArrayVec;
+use rz_show_lines::{Line, Text};
 
 /// The most lists that stand in each other: the fields of a type have no more levels.
 const MOST_LISTS: usize = 61;

@@ -2,15 +2,18 @@
 
 ghost use Rattle.std.specs.Prelude.{◌≡◌, ◌<◌, ◌≤◌, ◌/◌, nat_abs, length, option_map};
 ghost use Rattle.std.specs.List.{AllByRecursion};
-ghost use Rattle.rz_show.specs.Number.{by_decimal, by_literal, by_radix, by_truth, by_value, is_literal_width, is_stored, number_shown, signed_number, symbol_for};
-ghost use Rattle.rz_show.specs.Printable.{IsName, IsWidth};
-ghost use Rattle.rz_show.specs.Single.{hides_in, single_of};
+ghost use Rattle.rz_show.specs.Number.{by_decimal, by_literal, by_radix, by_truth, by_value, is_literal_width, is_stored, number_shown, symbol_for};
+ghost use Rattle.rz_show_lines.specs.Print.{signed_number};
+ghost use Rattle.rz_show_lines.specs.Written.{IsName};
+ghost use Rattle.rz_show.specs.Printable.{IsWidth};
+ghost use Rattle.rz_show.specs.Hidden.{hides_in};
+ghost use Rattle.rz_show_lines.specs.Single.{single_of};
 ghost use Rattle.rz_types.specs.Field.{plain_number};
 ghost use Rattle.rz_types.specs.Value.{symbol_value};
 
 use crate::Hidden;
-use crate::single::Single;
 use rz_core::Word;
+use rz_show_lines::{Single, signed_number};
 use rz_types::{NumField, NumForm, Radix, Symbol, stored_number};
 
 /// How a number of a field is shown: by the first of its symbols that gives it, unless that is a live macro, and else by
@@ -134,19 +137,6 @@ fn by_decimal(unsigned: bool, width: u32, number: u32) -> Single<'static>
     } else {
         Single::Decimal(signed_number(width, number))
     }
-}
-
-/// The number that so many bits are in two's complement.
-pub fn signed_number(width: u32, number: u32) -> i64
-    requires { (0 < width) × (width ≤ 32) }
-    ensures { result ≡ signed_number width number }
-{
-    let number = u64::from(number);
-    if number < 2_u64.pow(width - 1) {
-        return number as i64;
-    }
-    let below = 2_u64.pow(width).saturating_sub(number).saturating_sub(1);
-    -1 - below as i64
 }
 
 /// A literal of all bytes of a number of 8, 16 or 32 bits, and any other number in hexadecimal.

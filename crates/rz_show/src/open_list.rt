@@ -2,7 +2,7 @@
 
 ghost use Rattle.std.specs.Prelude.{◌≡◌, ℕ, Bool, true, List, [], MatchOption};
 ghost use Rattle.rz_show.specs.Lines.{comma_if, is_settled, left, IsFirst, IsOpen, IsSound, IsWithout};
-ghost use Rattle.rz_show.specs.Print.{comma, no_prints, Prints};
+ghost use Rattle.rz_show_lines.specs.Print.{comma, no_prints, Prints};
 ghost use Rattle.rz_show.specs.Shown.{row_prints, rows_prints};
 ghost use Rattle.rz_types.specs.Field.{plain_body};
 ghost use Rattle.rz_types_fields.specs.declared.tree.Tree.{Tree};

@@ -5,7 +5,7 @@ ghost use Rattle.std.specs.Prelude.{◌≡◌, true, IfOk};
 ghost use Rattle.std.specs.List.{concat};
 ghost use Rattle.rz_show.specs.Hidden.{hides};
 ghost use Rattle.rz_show.specs.Statement.{data_lines, row_lines};
-ghost use Rattle.rz_show.specs.Written.{lines_text};
+ghost use Rattle.rz_show_lines.specs.Written.{lines_text};
 ghost use Rattle.rz_types.specs.Field.{plain_body};
 ghost use Rattle.rz_types.specs.Rules.{keeps_rules};
 ghost use Rattle.rz_types.specs.Shape.{is_well_shaped};

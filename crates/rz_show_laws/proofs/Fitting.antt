@@ -22,12 +22,13 @@ use Rattle.rz_types.specs.Shape.{are_cases_shaped, are_shaped, is_none_or, is_ow
 use Rattle.rz_types.specs.Piece.{integer}
 use Rattle.rz_types.specs.Walk.{and_names, around_names, names_of, Own}
 use Rattle.rz_show_laws.proofs.Items.{ArePrintedItems, IsPrintedItem, IsSingleItem}
-use Rattle.rz_show.specs.Number.{number_shown, signed_number}
-use Rattle.rz_show.specs.Print.{in_group, named_block, no_prints, Print, Prints}
+use Rattle.rz_show.specs.Number.{number_shown}
+use Rattle.rz_show_lines.specs.Print.{in_group, named_block, no_prints, signed_number, Print, Prints}
 use Rattle.rz_show_laws.specs.Short.{AreShortTexts, IsShortCase, IsShortText}
-use Rattle.rz_show.specs.Pieces.{piece_size, text_pieces}
+use Rattle.rz_show_lines.specs.Pieces.{piece_size, text_pieces}
 use Rattle.rz_show.specs.Shown.{case_print, field_print, print_if, row_prints, rows_prints, text_print}
-use Rattle.rz_show_laws.proofs.Texts.{all_pieces, pieces_join, pieces_read}
+use Rattle.rz_show_lines_laws.proofs.Texts.{all_pieces, pieces_join}
+use Rattle.rz_show_laws.proofs.Texts.{pieces_read}
 use Rattle.rz_show.proofs.Trees.{choice_chosen, choice_differs, choice_is, fronted, group_is, line_is, number_is, rows_are, same_name, text_is}
 use Rattle.rz_show.proofs.Widths.{fields_shaped}
 use Rattle.rz_show_laws.proofs.Values.{formed, group_items, number_item}

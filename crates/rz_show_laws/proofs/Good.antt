@@ -1,11 +1,10 @@
 -- What is shown of a row may be written.
-use Rattle.std.proofs.Common.{◌≡◌, inl, inr, ℕ, zero, suc, ◌+◌, ◌-◌, ◌*◌, ◌/◌, ◌^◌, ◌<◌, ◌≤◌, ℤ, pos, negsuc, Bool, true, false, ◌&&◌, List, [], ◌∷◌, map, Option, Some, None, refl, sym, ap, subst, ◌∙◌, arith}
+use Rattle.std.proofs.Common.{◌≡◌, inl, inr, ℕ, zero, suc, ◌+◌, ◌-◌, ◌*◌, ◌/◌, ◌^◌, ◌<◌, ◌≤◌, Bool, true, false, ◌&&◌, List, [], ◌∷◌, map, Option, Some, None, refl, sym, ap, subst, ◌∙◌, arith}
 use Rattle.std.specs.Prelude.{◌==◌, nat_abs, nat_lt}
 use Rattle.std.specs.List.{list_any, AllByRecursion}
 use Rattle.std.specs.Option.{is_none}
 use Rattle.std.proofs.lemmas.Bool.{eqb-true}
 use Rattle.std.proofs.lemmas.Bool.Decides.{nat_tests}
-use Rattle.std.proofs.lemmas.Int.{ints}
 use Rattle.std.proofs.lemmas.Nat.{pow-add}
 use Rattle.std.proofs.Math.Nat.{pow-suc}
 use Rattle.std.proofs.Math.Pow.{pow_mono}
@@ -29,13 +28,14 @@ use Rattle.rz_types.specs.Rules.{bad_width, case_names}
 use Rattle.rz_types.specs.Shape.{are_cases_shaped, are_shaped, is_none_or, is_own_name, is_shaped, is_well_shaped}
 use Rattle.rz_types.specs.Value.{symbol_value}
 use Rattle.rz_types.specs.Walk.{and_names, around_names, names_of, Own}
-use Rattle.rz_show.specs.Number.{by_decimal, by_form, by_hex, by_literal, by_radix, by_truth, by_value, is_literal_width, is_stored, named_or, number_shown, signed_number, symbol_for, truth}
-use Rattle.rz_show.specs.Print.{group_rest, group_written, no_prints, signed_written, single_written, Print, Prints}
-use Rattle.rz_show.specs.Printable.{AreGood, AreOfBytes, HasName, HasNames, HaveNames, IsCaseOfBytes, IsGood, IsName, IsOfBytes, IsWidth, SparesTruth}
+use Rattle.rz_show.specs.Number.{by_decimal, by_form, by_hex, by_literal, by_radix, by_truth, by_value, is_literal_width, is_stored, named_or, number_shown, symbol_for, truth}
+use Rattle.rz_show_lines.specs.Print.{group_rest, group_written, no_prints, signed_number, signed_written, single_written, Print, Prints}
+use Rattle.rz_show_lines_laws.specs.Good.{AreGood, IsGood}
+use Rattle.rz_show.specs.Printable.{AreOfBytes, HasName, HasNames, HaveNames, IsCaseOfBytes, IsOfBytes, IsWidth, SparesTruth}
+use Rattle.rz_show_lines.specs.Written.{a_literal, IsName, IsPut, IsWritten}
 use Rattle.rz_show.specs.Shown.{case_print, case_uses, field_print, field_uses, print_if, row_prints, row_uses, rows_prints, text_print}
-use Rattle.rz_show.specs.Written.{a_literal, IsPut, IsWritten}
 use Rattle.rz_show.proofs.Names.{shaped_names}
-use Rattle.rz_show_laws.proofs.Texts.{pieces_small}
+use Rattle.rz_show_lines_laws.proofs.Texts.{four_bytes, pieces_small}
 use Rattle.rz_show.proofs.Trees.{choice_chosen, choice_differs, fronted, group_is, line_is, number_is, rows_are, taken, Takes}
 use Rattle.rz_show.proofs.Widths.{fields_shaped, number_width, width_most, width_some}
 
@@ -60,10 +60,6 @@ one_byte n = (omega arith, tt)
 two_bytes : (n : ℕ) → AreBytes (be 2 n)
 unfolding be
 two_bytes n = (omega arith, (omega arith, tt))
-
-four_bytes : (n : ℕ) → AreBytes (be 4 n)
-unfolding be
-four_bytes n = (omega arith, (omega arith, (omega arith, (omega arith, tt))))
 
 literal_good : (width n : ℕ) → is_literal_width width ≡ true → IsWritten (a_literal (be (width / 8) n))
 literal_good width n is = by_test (IsWritten (a_literal (be (width / 8) n))) (width == 8)

@@ -1,5 +1,5 @@
 -- The lines that begin a statement are cut into the tokens of its head.
-use Rattle.std.proofs.Common.{◌≡◌, ℕ, ◌/◌, ◌%◌, ◌<◌, ◌≤◌, ℤ, pos, negsuc, Bool, true, false, List, [], ◌∷◌, ◌++◌, map, length, refl, sym, ap, subst, ◌∙◌, arith, append_assoc}
+use Rattle.std.proofs.Common.{◌≡◌, ℕ, ◌/◌, ◌%◌, ◌<◌, ◌≤◌, ℤ, pos, negsuc, true, false, List, [], ◌∷◌, ◌++◌, map, length, refl, sym, ap, subst, ◌∙◌, arith, append_assoc}
 use Rattle.std.specs.Prelude.{◌==◌, ◌||◌, nat_le, FitsSigned}
 use Rattle.std.specs.Int.{w16}
 use Rattle.std.specs.List.{flat_map, AllByRecursion}
@@ -10,7 +10,7 @@ use Rattle.rz_core.proofs.Lists.{all_append}
 use Rattle.rz_core.proofs.Tests.{by_test}
 use Rattle.rz_core.specs.Numbers.{be, length-be_4}
 use Rattle.rz_core.specs.declared.resource.Resource.{Resource}
-use Rattle.rz_lex.specs.Printed.{is_word, word_of, AreBytes}
+use Rattle.rz_lex.specs.Printed.{is_word, word_of}
 use Rattle.rz_lex.specs.declared.sign.Sign.TheVariants as signs
 use Rattle.rz_lex.specs.declared.token.Shape.{Shape}
 use Rattle.rz_lex.specs.declared.token.Shape.TheVariants as shapes
@@ -19,19 +19,15 @@ use Rattle.rz_words.specs.Attribute.{bit_of, setting_word}
 use Rattle.rz_words.specs.declared.attribute.Attribute as words
 use Rattle.rz_words.specs.declared.attribute.Attribute.TheVariants.{Changed, Locked, Preload, Protected, Purgeable, SystemHeap}
 use Rattle.rz_show.specs.Head.{attr_written, behind_comma, head_end, head_front, head_lines, word_written}
-use Rattle.rz_show.specs.Pieces.{text_pieces}
-use Rattle.rz_show.specs.Print.{signed_written}
-use Rattle.rz_show.specs.Written.{a_blank, a_sign, a_text, line_shapes, lines_shapes, IsPut, Written}
+use Rattle.rz_show_lines.specs.Pieces.{text_pieces}
+use Rattle.rz_show_lines.specs.Print.{signed_written}
+use Rattle.rz_show_lines.specs.Written.{a_blank, a_sign, a_text, line_shapes, lines_shapes, IsPut, Written}
 use Rattle.rz_show_laws.specs.Showable.{IsStored}
 use Rattle.rz_show_laws.specs.Statement.{attribute_part, attributes_of}
-use Rattle.rz_show_laws.proofs.CutLines.{pieces_lines, signed_apart, AreLines, IsBehind, IsLine}
+use Rattle.rz_show_lines_laws.proofs.CutLines.{none_live, pieces_lines, signed_apart, AreLines, IsBehind, IsLine}
 use Rattle.rz_show_laws.proofs.Shapes.{attribute_tokens, behind_commas, id_shapes, name_pieces, shape_alone, text_shapes}
-use Rattle.rz_show_laws.proofs.Texts.{all_pieces, pieces_join, pieces_small}
-use Rattle.rz_show_laws.proofs.Tokens.{line_both, piece_tokens}
-
--- Words of a head are reserved, so that nothing is said of live macros.
-abbrev pub none_live : List ℕ → Bool
-none_live word = false
+use Rattle.rz_show_lines_laws.proofs.Texts.{all_pieces, four_bytes, pieces_join, pieces_small}
+use Rattle.rz_show_lines_laws.proofs.Tokens.{line_both, piece_tokens}
 
 -- what may stand behind a number
 abbrev EndsLine : List Written → Type 0
@@ -105,10 +101,6 @@ id_tokens (negsuc n) rest = refl
 id_put : (id : ℤ) → FitsSigned w16 id → AllByRecursion (IsPut none_live) (signed_written id)
 id_put (pos n) fits = ((omega (arith, fits), tt), tt)
 id_put (negsuc n) fits = ((refl, tt), ((omega (arith, fits), tt), tt))
-
-four_bytes : (code : ℕ) → AreBytes (be 4 code)
-unfolding be
-four_bytes code = (omega arith, (omega arith, (omega arith, (omega arith, tt))))
 
 abbrev pub front_shapes : (said : List ℕ) → (code : ℕ) → (id : ℤ) → List Shape → List Shape
 front_shapes said code id more = word_of said ∷ shapes.Literal (be 4 code) ∷ shapes.Sign signs.OpenParen ∷ (id_shapes id ++ more)

@@ -1,5 +1,5 @@
 -- What printed items mean: their tokens, and the items of a `resource` statement that they are, wherever they stand. (MPW Rez.)
-use Rattle.std.specs.Prelude.{◌≡◌, ℕ, suc, ℤ, pos, negsuc, true, List, [], ◌∷◌, ◌++◌, map}
+use Rattle.std.specs.Prelude.{◌≡◌, ℕ, suc, ℤ, pos, negsuc, true, List, [], ◌∷◌, map}
 use Rattle.rz_core.specs.declared.fault.Mark.{Mark}
 use Rattle.rz_expr.specs.Grammar.{bytes_number}
 use Rattle.rz_expr.specs.Term.{Constant, Named, OfOne, Term}
@@ -10,29 +10,8 @@ use Rattle.rz_types_fields.specs.Text.{Plain}
 use Rattle.rz_stmt_items.specs.Item as item
 use Rattle.rz_stmt_items.specs.Item.{items_of, PlainItem}
 use Rattle.rz_stmt_items.specs.Items.{AreItems}
-use Rattle.rz_lex.specs.Printed.{word_of}
-use Rattle.rz_lex.specs.declared.sign.Sign.TheVariants as signs
-use Rattle.rz_lex.specs.declared.token.Shape.{Shape}
-use Rattle.rz_lex.specs.declared.token.Shape.TheVariants as shapes
 use Rattle.rz_lex.specs.declared.token.Token.{Token}
-use Rattle.rz_show.specs.Print.{block, by_name, comma, in_binary, in_decimal, in_group, in_hex, in_literal, in_octal, in_text, named_block, no_prints, pieces, print, single, single_written, Print, Prints, Single}
-use Rattle.rz_show.specs.Written.{line_shapes}
-
--- The tokens, without depths and lines.
-
-abbrev pub braced : List Shape → List Shape
-braced inside = shapes.Sign signs.OpenBrace ∷ (inside ++ shapes.Sign signs.CloseBrace ∷ [])
-
-abbrev mutual
-  pub print_shapes : Print → List Shape
-  print_shapes (single one) = line_shapes (single_written one)
-  print_shapes (pieces hex first others) = map (λ piece. shapes.Text piece) (first ∷ others)
-  print_shapes (block items) = braced (list_shapes items)
-  print_shapes (named_block name items) = word_of name ∷ braced (list_shapes items)
-
-  pub list_shapes : Prints → List Shape
-  list_shapes no_prints = []
-  list_shapes (print first others) = print_shapes first ++ (line_shapes (comma others) ++ list_shapes others)
+use Rattle.rz_show_lines.specs.Print.{block, by_name, in_binary, in_decimal, in_group, in_hex, in_literal, in_octal, in_text, named_block, no_prints, pieces, print, single, Print, Prints, Single}
 
 -- The items, whatever their marks are.
 

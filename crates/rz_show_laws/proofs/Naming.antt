@@ -21,7 +21,7 @@ use Rattle.rz_types.specs.Shape.{are_cases_shaped, are_shaped, is_none_or, is_nu
 use Rattle.rz_types.specs.Value.{symbol_value}
 use Rattle.rz_show_laws.proofs.Items.{AreNamingPrints, IsNaming, IsNamingPrint, IsNamingSingle}
 use Rattle.rz_show.specs.Number.{by_form, by_literal, by_radix, by_truth, is_literal_width, is_stored, named_or, symbol_for, truth}
-use Rattle.rz_show.specs.Print.{no_prints, Print, Prints, Single}
+use Rattle.rz_show_lines.specs.Print.{no_prints, Print, Prints, Single}
 use Rattle.rz_show.specs.Shown.{case_print, field_print, print_if, row_prints, rows_prints}
 
 -- Numbers.

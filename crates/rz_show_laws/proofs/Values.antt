@@ -35,8 +35,8 @@ use Rattle.rz_types.specs.Piece.{integer}
 use Rattle.rz_types.specs.Stored.{stored_number}
 use Rattle.rz_types.specs.Value.{symbol_number_of, symbol_value, with_fault}
 use Rattle.rz_show_laws.proofs.Items.{signed_term, AreTermItems, IsSingleItem, IsTermItem}
-use Rattle.rz_show.specs.Number.{by_decimal, by_form, by_hex, by_literal, by_radix, by_truth, by_value, is_literal_width, is_stored, named_or, number_shown, signed_number, symbol_for, truth}
-use Rattle.rz_show.specs.Print.{by_name, in_binary, in_decimal, in_group, in_hex, in_literal, in_octal, in_text, Single}
+use Rattle.rz_show.specs.Number.{by_decimal, by_form, by_hex, by_literal, by_radix, by_truth, by_value, is_literal_width, is_stored, named_or, number_shown, symbol_for, truth}
+use Rattle.rz_show_lines.specs.Print.{by_name, in_binary, in_decimal, in_group, in_hex, in_literal, in_octal, in_text, signed_number, Single}
 use Rattle.rz_show.specs.Printable.{IsWidth}
 use Rattle.rz_show_laws.proofs.Reduced.{half, in_bits_constant, in_bits_negative, in_bits_reduced, minus_wraps, small_stays, stored_constant, stored_negative, wrap_small, InBits}
 use Rattle.rz_show.proofs.Widths.{number_width}

@@ -13,17 +13,18 @@ use Rattle.rz_stmt_items.specs.Item.{PlainItem}
 use Rattle.rz_types.specs.Field.{PlainBody}
 use Rattle.rz_types_fields.specs.declared.tree.Tree.{Tree}
 use Rattle.rz_show.specs.Height.{heights}
-use Rattle.rz_show.specs.Pieces.{text_pieces}
-use Rattle.rz_show.specs.Print.{Prints}
+use Rattle.rz_show_lines.specs.Pieces.{text_pieces}
+use Rattle.rz_show_lines.specs.Print.{Prints}
 use Rattle.rz_show.specs.Statement.{data_items}
 use Rattle.rz_show_laws.specs.Showable.{IsStored}
 use Rattle.rz_show_laws.specs.Statement.{IsWholeData, IsWholeRow}
 use Rattle.rz_show_laws.proofs.Framed.{framed}
-use Rattle.rz_show_laws.proofs.Items.{list_shapes, AreNamingPrints, ArePrintedItems}
+use Rattle.rz_show_lines_laws.proofs.Tokens.{list_shapes}
+use Rattle.rz_show_laws.proofs.Items.{AreNamingPrints, ArePrintedItems}
 use Rattle.rz_show_laws.proofs.Listed.{list_read}
 use Rattle.rz_show_laws.proofs.Shapes.{statement_shapes, text_shapes}
-use Rattle.rz_show_laws.proofs.Split.{shapes_in}
-use Rattle.rz_show_laws.proofs.Texts.{all_pieces, pieces_join}
+use Rattle.rz_show_lines_laws.proofs.Split.{shapes_in}
+use Rattle.rz_show_lines_laws.proofs.Texts.{all_pieces, pieces_join}
 
 -- by its bytes
 pub whole_data : (r : Resource) (name : List (List ℕ)) → flat_map (λ piece. piece) name ≡ r.name → IsStored r

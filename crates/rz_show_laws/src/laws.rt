@@ -1,12 +1,10 @@
 //! Laws: the text that is shown is read again as what was shown. They speak of the definitions in `specs`.
 
-ghost use Rattle.std.specs.Prelude.{◌≡◌, ◌++◌, true, false, ℕ, List, Bool, map};
-ghost use Rattle.rz_lex.specs.declared.token.Shape.{Shape};
-ghost use Rattle.rz_show_laws.specs.Page.{AreCutBack, ArePrinted, IsPage, IsPrinted};
-ghost use Rattle.rz_show.specs.Print.{list_lines, Prints};
-ghost use Rattle.rz_show.specs.Printable.{AreGood, AreOfBytes, SparesTruth};
+ghost use Rattle.std.specs.Prelude.{◌≡◌, true, false, ℕ, List, Bool};
+ghost use Rattle.rz_show_lines.specs.Print.{Prints};
+ghost use Rattle.rz_show_lines_laws.specs.Good.{AreGood};
+ghost use Rattle.rz_show.specs.Printable.{AreOfBytes, SparesTruth};
 ghost use Rattle.rz_show.specs.Shown.{row_prints, row_uses};
-ghost use Rattle.rz_show.specs.Written.{are_apart, line_shapes, line_text, lines_text, IsWritten, Written};
 ghost use Rattle.rz_types_fields.specs.declared.tree.Tree.{Tree};
 ghost use Rattle.rz_types_fields.specs.Row.{IsRow};
 ghost use Rattle.rz_types.specs.Field.{PlainBody};
@@ -20,7 +18,8 @@ ghost use Rattle.rz_show_laws.specs.Showable.{CanBeShown};
 ghost use Rattle.rz_show_laws.specs.Statement.{IsPrintedAs};
 ghost use Rattle.rz_types_fields.specs.Spells.{Spells};
 
-use rz_lex::{cut_back, lines_of_page};
+use rz_lex::lines_of_page;
+use rz_show_lines_laws::{printed_line, printed_lines, printed_page};
 use rz_types::rules_hold_within;
 
 /// A law, with nothing to run: the items that are shown of a row, in front of others, may be written, and no word of
@@ -33,29 +32,6 @@ pub fn printed_rows()
 {
     rules_hold_within();
 }
-
-/// A law, with nothing to run: a line of written tokens, of which no two words or numbers stand side by side, is cut into
-/// the tokens that are meant, wherever it stands.
-pub fn printed_line()
-    ensures { (line : List Written) → AllByRecursion IsWritten line → are_apart line ≡ true
-        → IsPrinted (line_text line) (line_shapes line) }
-{
-    cut_back();
-}
-
-/// A law, with nothing to run: the lines of such items are cut into the tokens that are meant, wherever they stand, and
-/// no live macro expands one of them.
-pub fn printed_lines()
-    ensures { (hidden : List ℕ → Bool) (depth : ℕ) (items : Prints) → AreGood hidden items → AreCutBack hidden (list_lines depth items) }
-{
-    printed_line();
-}
-
-/// A law, with nothing to run: lines that are cut into the tokens that are meant, in front of a page, are a page with it.
-pub fn printed_page()
-    ensures { (lines : List (List Written)) (text : List ℕ) (more : List (List Shape)) → ArePrinted lines → IsPage text more
-        → IsPage (lines_text lines ++ text) (map line_shapes lines ++ more) }
-{}
 
 /// A law, with nothing to run: the text of resources, each shown by its bytes or by a row of its type's fields, is lines
 /// that are cut into tokens, wherever it stands. Their words are those of statements, of attributes and of truth, and

@@ -5,10 +5,11 @@ use Rattle.std.specs.List.{flat_map, list_any, AllByRecursion}
 use Rattle.std.specs.Option.{ok_or}
 use Rattle.std.specs.Str.{bytes_eq, str_to_ascii_lowercase}
 use Rattle.std.proofs.lemmas.Bool.{not-true, or_parts, false≢true}
-use Rattle.std.proofs.lemmas.List.{append-nil}
+use Rattle.std.proofs.lemmas.List.{append-nil, map-append}
 use Rattle.std.proofs.lemmas.List.Concat.{flat_map-cons}
 use Rattle.std.proofs.lemmas.Slice.Eq.{bytes_eq-Decides}
-use Rattle.rz_show_laws.proofs.Split.{shapes_in}
+use Rattle.rz_show_lines_laws.proofs.Pages.{shapes_of_lines, tokens_of}
+use Rattle.rz_show_lines_laws.proofs.Split.{shapes_in}
 use Rattle.rz_core.specs.Resources.{put, same_key, KeysDiffer}
 use Rattle.rz_core.specs.Stop.{◌>>=◌}
 use Rattle.rz_core.specs.declared.facts.Facts.{Facts}
@@ -21,8 +22,7 @@ use Rattle.rz_stmt_data.specs.Texts.{call_in}
 use Rattle.rz_types_fields.specs.declared.tree.Tree.{Tree}
 use Rattle.rz_fork.specs.Contents.{FitsFork}
 use Rattle.rz_stmt_items.specs.Item.{PlainItem}
-use Rattle.rz_lex.specs.Printed.{token_of, word_of}
-use Rattle.rz_lex.specs.declared.raw_line.RawLine.{RawLine}
+use Rattle.rz_lex.specs.Printed.{word_of}
 use Rattle.rz_lex.specs.declared.token.Shape.{Shape}
 use Rattle.rz_lex.specs.declared.token.Shape.TheVariants as shapes
 use Rattle.rz_lex.specs.declared.token.Token.{Token}
@@ -33,12 +33,11 @@ use Rattle.rz_folder_paths.specs.Names.{file_of}
 use Rattle.rz_pre.specs.Program.{levels_below, IncludedGoes, State}
 use Rattle.rz_show.specs.Printable.{AreOfBytes, SparesTruth}
 use Rattle.rz_show.specs.Head.{head_front, head_lines}
-use Rattle.rz_show.specs.Print.{list_lines}
-use Rattle.rz_show_laws.specs.Page.{AreCut}
+use Rattle.rz_show_lines.specs.Print.{list_lines}
 use Rattle.rz_show_laws.specs.Short.{AreShortTexts}
 use Rattle.rz_show.specs.Showing.{by_bytes, by_row, showing_text, showings_text, Showing}
 use Rattle.rz_show.specs.Statement.{close_lines, data_items, row_items, statement_lines}
-use Rattle.rz_show.specs.Written.{lines_text, Written}
+use Rattle.rz_show_lines.specs.Written.{lines_text, Written}
 use Rattle.rz_show_laws.specs.Showable.{CanBeShown, IsStored}
 use Rattle.rz_show_laws.specs.Statement.{is_shown, shown_compile, shown_raw, shown_words, AreWhole, IsPrintedAs, IsWholeData, IsWholeOf, IsWholeRow}
 use Rattle.rz_pre_source.specs.Source.{mark, IsTextOf, IsUnmarked}
@@ -65,29 +64,11 @@ use Rattle.rz_types.specs.Field.{PlainBody}
 use Rattle.rz_types_table.specs.Table.{Declaration}
 use Rattle.rz_tools_work.specs.ToolWords.{number_in, numbered, tool_in}
 use Rattle.rz_tools_work.proofs.Named.{names_no_tool}
-use Rattle.rz_tools.proofs.PutOut.{lines_go, tokens_of, AreBare}
+use Rattle.rz_tools.proofs.PutOut.{lines_go, AreBare}
 use Rattle.rz_tools.proofs.Fileless.{compile_same, names_call_none, shown_call_none, CallsNone}
 use Rattle.rz_tools.proofs.Stepping.{rez_behind}
 use Rattle.rz_core.proofs.Tests.{both, by_test}
 use Rattle.rz_tools.proofs.Values.{facts_again, resource_again}
-
--- The shapes of the lines, one behind the other.
-
-line_shapes : (line : RawLine) (shapes : List Shape) → shapes_in (map (token_of line.mark) shapes) ≡ shapes
-line_shapes line [] = refl
-line_shapes line (shape ∷ shapes) = ap (λ (x : List Shape). shape ∷ x) (line_shapes line shapes)
-
-shapes_both : (front back : List Token) → shapes_in (front ++ back) ≡ shapes_in front ++ shapes_in back
-shapes_both [] back = refl
-shapes_both (t ∷ front) back = ap (λ (x : List Shape). t.shape ∷ x) (shapes_both front back)
-
-pub shapes_of_lines : (lines : List RawLine) (shapes : List (List Shape)) → AreCut lines shapes → shapes_in (tokens_of lines shapes) ≡ flat_map (λ line. line) shapes
-shapes_of_lines [] [] cut = refl
-shapes_of_lines [] (shapes ∷ more) cut = absurd cut
-shapes_of_lines (line ∷ lines) [] cut = absurd cut
-shapes_of_lines (line ∷ lines) (shapes ∷ more) cut =
-    shapes_both (map (token_of line.mark) shapes) (tokens_of lines more) ∙ (λ i. line_shapes line shapes i ++ shapes_of_lines lines more cut.1 i)
-    ∙ sym (flat_map-cons (λ line. line) shapes more)
 
 -- Words that are shown are no macros, and name no tool.
 
@@ -320,7 +301,7 @@ module _ (laws : Laws) (known : Known) where
   has_statements (r ∷ rs) (showing ∷ showings) tokens by whole words fit =
       let front_tokens : List Token = whole.0 in
       let parts = all_apart known.is_macro (shapes_in whole.0) (shapes_in whole.1)
-      (subst (AllByRecursion (Passes known.is_macro)) (ap shapes_in whole.2 ∙ shapes_both whole.0 whole.1) words) in
+      (subst (AllByRecursion (Passes known.is_macro)) (ap shapes_in whole.2 ∙ map-append (λ (token : Token). token.shape) whole.0 whole.1) words) in
       let behind = has_statements rs showings whole.1 by.1 whole.4 parts.1 (record { stored = fit.stored.1; fits = fit.fits.1; short = fit.short.1 }) in
       record {
         statements = whole.0 ∷ behind.statements;

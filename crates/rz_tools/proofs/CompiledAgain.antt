@@ -46,7 +46,7 @@ module _ (text : List ℕ) (list : List Resource) (asked : RezAsked) (files : Fi
   declares = subst (λ (name : Option (List ℕ)). TypesOf name files (Ok [])) (sym bare) refl
 
   begins : base_of asked.append asked.target.name files ≡ Ok new_base
-  begins = ap (λ (append : Bool). if append then base_in None (or_empty (finite.get files asked.target.name)) else Ok new_base) new
+  begins = ap (λ (append : Bool). if append then base_in false None (or_empty (finite.get files asked.target.name)) else Ok new_base) new
 
   compiles : asked.files ≡ name ∷ [] → Compiles moment asked files (said_beside (name ∷ []) [] output)
   unfolding after work

@@ -1,5 +1,5 @@
 -- Words have an answer.
-use Rattle.std.proofs.Common.{◌≡◌, ◌⊎◌, inl, inr, ℕ, List, [], ◌∷◌, Option, Some, None, Ok, Err, refl}
+use Rattle.std.proofs.Common.{◌≡◌, ◌⊎◌, inl, inr, ℕ, Bool, true, length, List, [], ◌∷◌, Option, Some, None, Ok, Err, refl}
 use Rattle.std.specs.FinMap as finite
 use Rattle.std.specs.declared.result.Result.{Result}
 use Rattle.rz_tools_answer.specs.Answer.{misused, or_refused, shown, written, Answer, Write}
@@ -8,12 +8,14 @@ use Rattle.rz_bridge.specs.declared.file.MacFile.{MacFile}
 use Rattle.rz_core.proofs.EveryCut.{is_nothing}
 use Rattle.rz_core.proofs.Has.{has_is, has_then, Has}
 use Rattle.rz_core.specs.Answers.{Then}
+use Rattle.rz_core.specs.Stop.{◌>>=◌}
 use Rattle.rz_core.specs.declared.fault.Fault.{Fault}
 use Rattle.rz_core.specs.declared.moment.Moment.{Moment}
 use Rattle.rz_core.specs.declared.resource.Resource.{Resource}
-use Rattle.rz_bridge_files.specs.Contents.{file_in, form_or}
+use Rattle.rz_bridge_files.specs.Contents.{file_in, fork_in, form_or}
 use Rattle.rz_bridge_files.specs.Names.{Named}
 use Rattle.rz_bridge_files.specs.Written.{written_as}
+use Rattle.rz_fork.specs.Contents.{Fork}
 use Rattle.rz_folder.specs.Folder.{Files}
 use Rattle.rz_bridge_form.specs.DataFile.{IsDataFile}
 use Rattle.rz_bridge_form.specs.declared.form.Form.{Form}
@@ -24,9 +26,16 @@ use Rattle.rz_pre.specs.declared.condition.Tool.{Tool}
 use Rattle.rz_pre.specs.declared.program.Def.{Def}
 use Rattle.rz_tools.proofs.EveryMeaning.{has_beside, has_unsaid}
 use Rattle.rz_tools.proofs.EveryText.{has_file_text}
-use Rattle.rz_tools_output.specs.Base.{attributes_asked, base_of, or_empty, Base}
+use Rattle.rz_tools_output.specs.Base.{attributes_asked, base_held, base_of, limited, or_empty, Base}
 use Rattle.rz_tools_output.specs.Bridge.{bridge_asked, bridged, BridgeAsked, one, two, AreWrites, Bridges, HasBeside, IsRead, IsWrittenAs}
 use Rattle.rz_tools_output.specs.Det.{breaks_of, det_asked, told}
+use Rattle.rz_catalog.specs.Apply.{Applied}
+use Rattle.rz_catalog.specs.Catalogue.{IsCatalogue}
+use Rattle.rz_catalog_entries.specs.declared.entry.Entry.{Entry}
+use Rattle.rz_catalog_source.specs.Source.{HasEntries}
+use Rattle.rz_catalog_text.specs.Text.{entries_text}
+use Rattle.rz_tools.specs.Restring.{restring_asked, target_named, with_file, HasCatalogueFile, HasRestrung, IsChangedBy, IsRestrungUnder, RestringAsked, Restrings}
+use Rattle.rz_tools.specs.Strings.{strings_asked, HasCatalogue, HasFileCatalogue, HasStrings, Lists, StringsAsked}
 use Rattle.rz_tools.specs.DeRez.{derez_asked, DeRezAsked, HasFileText, HasText, Shows}
 use Rattle.rz_tools.specs.Types.{known_by, types_around, AreTyped, TypesAre, TypesAsked}
 use Rattle.rz_tools_output.specs.Output.{file_of, form_asked, list_fork, IsFileOf, IsOutput, Target}
@@ -144,7 +153,43 @@ module _ (name : (form : Form) (path : List ℕ) (file : MacFile) → Has (Named
         (λ made is. has_beside made (HasFileText (known_by moment made) asked (finite.get files asked.file))
         (has_file_text texts (known_by moment made) asked (finite.get files asked.file)))
 
-    module _ (data_file : (header : List ℕ) → (name : List ℕ) × IsDataFile header name) where
+    module _ (data_file : (header : List ℕ) → (name : List ℕ) × IsDataFile header name)
+        (catalogues : (types : List Declaration) (moment : Moment) (list : List Resource) → (entries : List Entry) × IsCatalogue types moment list entries)
+        (sources : (file : ℕ) (source : List ℕ) → Has (HasEntries file source))
+        (applications : (types : List Declaration) (moment : Moment) (over : Bool) (list : List Resource) (entries : List Entry) → Has (Applied types moment over list entries)) where
+      has_catalogue : (moment : Moment) (types : List Declaration) (fork : Result Fork Fault) → Has (HasCatalogue moment types fork)
+      has_catalogue moment types (Ok fork) = let made = catalogues types moment fork.list in (Ok (entries_text made.0), (made.0, made.1, refl))
+      has_catalogue moment types (Err fault) = (Err fault, refl)
+
+      has_file_catalogue : (moment : Moment) (types : List Declaration) (asked : StringsAsked) (entry : Option (List ℕ)) → Has (HasFileCatalogue moment types asked entry)
+      has_file_catalogue moment types asked None = has_is (Err (missing_file None asked.file))
+      has_file_catalogue moment types asked (Some bytes) = has_catalogue moment types (fork_in None asked.from bytes >>= limited true)
+
+      has_source : (file : ℕ) (name : List ℕ) (entry : Option (List ℕ)) → Has (HasCatalogueFile file name entry)
+      has_source file name None = has_is (Err (missing_file None name))
+      has_source file name (Some source) = sources file source
+
+      has_restrung : (moment : Moment) (types : List Declaration) (file : ℕ) (asked : RestringAsked) (files : Files) → Has (IsRestrungUnder moment types file asked files)
+      has_restrung moment types file asked files =
+          let held = base_held asked.from asked.file (finite.get files asked.file) in
+          has_then (λ base. held ≡ base) (λ base. Then (HasCatalogueFile file asked.catalogue (finite.get files asked.catalogue)) (IsChangedBy moment types asked base)) (held, refl)
+          (λ base is. has_then (HasCatalogueFile file asked.catalogue (finite.get files asked.catalogue)) (IsChangedBy moment types asked base)
+          (has_source file asked.catalogue (finite.get files asked.catalogue))
+          (λ entries are. has_then (Applied types moment asked.over base.fork.list entries) (IsOutput (target_named asked.output) moment base)
+          (applications types moment asked.over base.fork.list entries) (λ list so. has_output (target_named asked.output) moment base list)))
+
+      has_lists : (moment : Moment) (asked : StringsAsked) (files : Files) → Has (Lists moment asked files)
+      has_lists moment asked files =
+          has_then (TypesAre moment asked.types files) (HasStrings moment asked files) (has_types moment asked.types files)
+          (λ made is. has_beside made (HasFileCatalogue moment made.work.types asked (finite.get files asked.file))
+          (has_file_catalogue moment made.work.types asked (finite.get files asked.file)))
+
+      has_restrings : (moment : Moment) (asked : RestringAsked) (files : Files) → Has (Restrings moment asked files)
+      has_restrings moment asked files =
+          has_then (TypesAre moment asked.types files) (HasRestrung moment asked files) (has_types moment asked.types files)
+          (λ made is. has_beside (with_file made asked.catalogue) (IsRestrungUnder moment made.work.types (length made.files) asked files)
+          (has_restrung moment made.work.types (length made.files) asked files))
+
       has_answer : (name : CommandName) (items : List Item) (files : Files) (moment : Moment) → ArePlaces (syntax_of name).places (places_of items)
           → (answer : Answer) × AnswersItems name items files moment answer
       has_answer names.Rez items files moment places =
@@ -158,6 +203,13 @@ module _ (name : (form : Form) (path : List ℕ) (file : MacFile) → Has (Named
           let made = has_bridged data_file (bridge_asked items) files in
           (bridged made.0, (made.0, made.1, refl))
       has_answer names.Det items files moment places = let asked = det_asked items in (told (breaks_of asked (finite.get files asked.file)), refl)
+      has_answer names.Strings items files moment places =
+          let made = has_lists moment (strings_asked items) files in
+          (or_refused shown made.0, (made.0, made.1, refl))
+      has_answer names.Restring items files moment places =
+          let asked = restring_asked items in
+          let made = has_restrings moment asked files in
+          (or_refused (written asked.output) made.0, (made.0, made.1, refl))
       has_answer names.Sample items files moment places = has_sample has_rez has_shows (places_of items) moment places
       has_answer names.Help items files moment places = (shown (record { bytes = help_text; said = [] }), refl)
       has_answer names.Version items files moment places = (shown (record { bytes = version_text; said = [] }), refl)

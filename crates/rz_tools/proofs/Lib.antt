@@ -9,6 +9,9 @@ pub mod Resources
 pub mod Fileless
 pub mod PutOut
 pub mod Values
+pub mod Listing
+pub mod Restringing
+pub mod ListedAll
 pub mod Again
 pub mod Planned
 pub mod Typing
@@ -25,3 +28,5 @@ pub mod EveryText
 pub mod EveryAnswer
 pub mod Complete
 pub mod Replied
+pub mod PutBack
+pub mod OthersStay

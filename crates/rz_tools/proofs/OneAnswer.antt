@@ -1,5 +1,5 @@
 -- Words have one answer at most.
-use Rattle.std.proofs.Common.{◌≡◌, inl, inr, ℕ, List, [], ◌∷◌, map, Option, Some, None, Ok, Err, sym, ap, subst, ◌∙◌}
+use Rattle.std.proofs.Common.{◌≡◌, inl, inr, ℕ, Bool, true, length, List, [], ◌∷◌, map, Option, Some, None, Ok, Err, sym, ap, subst, ◌∙◌}
 use Rattle.std.specs.FinMap as finite
 use Rattle.std.specs.declared.result.Result.{Result}
 use Rattle.rz_core.specs.declared.facts.Facts.{Facts}
@@ -20,6 +20,13 @@ use Rattle.rz_tools_args.specs.Command.{places_of, Asked, IsCommand, IsMisplaced
 use Rattle.rz_tools_args.specs.declared.name.CommandName.{CommandName}
 use Rattle.rz_tools_args.specs.declared.name.CommandName.TheVariants as names
 use Rattle.rz_tools_answer.specs.Answer.{misused, or_refused, shown, written, Answer, Write}
+use Rattle.rz_catalog.specs.Apply.{Applied}
+use Rattle.rz_catalog.specs.Catalogue.{IsCatalogue}
+use Rattle.rz_catalog_entries.specs.declared.entry.Entry.{Entry}
+use Rattle.rz_catalog_source.specs.Source.{HasEntries}
+use Rattle.rz_catalog_text.specs.Text.{entries_text}
+use Rattle.rz_tools.specs.Restring.{restring_asked, target_named, with_file, HasCatalogueFile, HasRestrung, IsChangedBy, IsRestrungUnder, RestringAsked, Restrings}
+use Rattle.rz_tools.specs.Strings.{strings_asked, HasCatalogue, HasFileCatalogue, HasStrings, Lists as ListsTexts, StringsAsked}
 use Rattle.rz_tools.specs.Program.{Answers, AnswersItems, AnswersTo, command, misplaced}
 use Rattle.rz_bridge.specs.declared.file.MacFile.{MacFile}
 use Rattle.rz_bridge_files.specs.Contents.{file_in, fork_in, form_or}
@@ -33,7 +40,7 @@ use Rattle.rz_tools_text.specs.Chosen.{chosen}
 use Rattle.rz_tools.specs.DeRez.{derez_asked, DeRezAsked, HasFileText, HasForkText, HasText, Shows}
 use Rattle.rz_tools.specs.Types.{known_by, types_around, AreTyped, TypesAre, TypesAsked}
 use Rattle.rz_tools_text.specs.Text.{ShowsEach}
-use Rattle.rz_tools_output.specs.Base.{attributes_asked, base_of, or_empty, Base}
+use Rattle.rz_tools_output.specs.Base.{attributes_asked, base_held, base_of, limited, or_empty, Base}
 use Rattle.rz_tools_output.specs.Bridge.{bridge_asked, bridged, BridgeAsked, one as one_write, two as two_writes, AreWrites, Bridges, HasBeside, IsRead, IsWrittenAs}
 use Rattle.rz_tools_output.specs.Output.{file_of, form_asked, list_fork, IsFileOf, IsOutput, Target}
 use Rattle.rz_tools.specs.Rez.{around_of, rez_asked, Compiles, HasOutput, IsMadeBehind, IsMadeOf, IsMadeUnder, RezAsked}
@@ -48,6 +55,7 @@ use Rattle.rz_tools_work.specs.Work.{begun, declared, with_list, Work}
 use Rattle.rz_tools.specs.Step.{done_by, list_behind, IsBehind, Means, Steps, WarnedFault, WithWarnings}
 use Rattle.rz_stmt.specs.Grammar.{mark_of, Compiles as compiled_statement, Data, Declares, Empty, Lists, Parses, Statement}
 use Rattle.rz_core.specs.Answers.{Then}
+use Rattle.rz_core.specs.Stop.{◌>>=◌}
 use Rattle.rz_tools_work.specs.ToolWords.{numbered}
 use Rattle.rz_stmt_items.specs.Item.{PlainItem}
 use Rattle.rz_layout.specs.Compiled.{IsCompiled}
@@ -194,6 +202,42 @@ once_bridges named beside asked files =
     (once_is (written_as asked.to file))
     (λ bytes a b is also. is.2 ∙ ap ok (once_writes beside asked file bytes is.0 also.0 is.1 also.1) ∙ sym also.2)))
 
+-- The catalogue of a fork, and a fork with the texts of a catalogue.
+
+abbrev pub OneCatalogue : Type 0
+OneCatalogue = (types : List Declaration) (moment : Moment) (list : List Resource) (entries others : List Entry)
+    → IsCatalogue types moment list entries → IsCatalogue types moment list others → entries ≡ others
+
+abbrev pub OneSource : Type 0
+OneSource = (file : ℕ) (source : List ℕ) (one other : Result (List Entry) Fault) → HasEntries file source one → HasEntries file source other → one ≡ other
+
+abbrev pub OneApplication : Type 0
+OneApplication = (types : List Declaration) (moment : Moment) (over : Bool) (list : List Resource) (entries : List Entry) (answer other : Result (List Resource) Fault)
+    → Applied types moment over list entries answer → Applied types moment over list entries other → answer ≡ other
+
+once_catalogue : OneCatalogue → (moment : Moment) (types : List Declaration) (fork : Result Fork Fault) → Once (HasCatalogue moment types fork)
+once_catalogue catalogues moment types (Ok fork) a b is also =
+    is.2 ∙ ap (λ (entries : List Entry). ok (entries_text entries)) (catalogues types moment fork.list is.0 also.0 is.1 also.1) ∙ sym also.2
+once_catalogue catalogues moment types (Err fault) a b is also = is ∙ sym also
+
+once_file_catalogue : OneCatalogue → (moment : Moment) (types : List Declaration) (asked : StringsAsked) (entry : Option (List ℕ)) → Once (HasFileCatalogue moment types asked entry)
+once_file_catalogue catalogues moment types asked None = once_is (Err (missing_file None asked.file))
+once_file_catalogue catalogues moment types asked (Some bytes) = once_catalogue catalogues moment types (fork_in None asked.from bytes >>= limited true)
+
+once_source : OneSource → (file : ℕ) (name : List ℕ) (entry : Option (List ℕ)) → Once (HasCatalogueFile file name entry)
+once_source sources file name None = once_is (Err (missing_file None name))
+once_source sources file name (Some source) = sources file source
+
+once_restrung : OneSource → OneApplication → OneNamed → (moment : Moment) (types : List Declaration) (file : ℕ) (asked : RestringAsked) (files : Files)
+    → Once (IsRestrungUnder moment types file asked files)
+once_restrung sources applications named moment types file asked files =
+    let held = base_held asked.from asked.file (finite.get files asked.file) in
+    once_then (λ base. held ≡ base) (λ base. Then (HasCatalogueFile file asked.catalogue (finite.get files asked.catalogue)) (IsChangedBy moment types asked base)) (once_given held)
+    (λ base. once_then (HasCatalogueFile file asked.catalogue (finite.get files asked.catalogue)) (IsChangedBy moment types asked base)
+    (once_source sources file asked.catalogue (finite.get files asked.catalogue))
+    (λ entries. once_then (Applied types moment asked.over base.fork.list entries) (IsOutput (target_named asked.output) moment base)
+    (applications types moment asked.over base.fork.list entries) (once_output named (target_named asked.output) moment base)))
+
 module _ (cutting : OneCutting) (statement_law : OneStatement) (matching : OneMatch) (spelling : OneSpelling) (texts : OneText) where
   once_behind : (around : Around) (mark : Mark) (work : Work) (statement : Statement) → Once (IsBehind around mark work statement)
   once_behind around mark work Empty = once_is (Ok work)
@@ -220,7 +264,8 @@ module _ (cutting : OneCutting) (statement_law : OneStatement) (matching : OneMa
       once_in program (Means around start is.0) (one_meaning around start is.0) a b is.2
       (subst (λ (ss : List (List Token)). InProgram program (Means around start ss) b) (sym (cutting program.tokens is.0 also.0 is.1 also.1)) also.2)
 
-  module _ (program : OneProgram) (named : OneNamed) (data_file : OneDataFile) (types : OneTypes) where
+  module _ (program : OneProgram) (named : OneNamed) (data_file : OneDataFile) (types : OneTypes)
+      (catalogues : OneCatalogue) (sources : OneSource) (applications : OneApplication) where
     once_program : (around : Around) (names paths : List (List ℕ)) (defs : List Def) → Once (IsProgramOf around names paths defs)
     once_program around names paths defs =
         once_unsaid (ProgramGoes around.files around.setting.tool names paths defs) (program around.files around.setting.tool names paths defs)
@@ -254,6 +299,18 @@ module _ (cutting : OneCutting) (statement_law : OneStatement) (matching : OneMa
         (λ made. once_beside made (HasFileText (known_by moment made) asked (finite.get files asked.file))
         (once_file_text texts (known_by moment made) asked (finite.get files asked.file)))
 
+    once_lists : (moment : Moment) (asked : StringsAsked) (files : Files) → Once (ListsTexts moment asked files)
+    once_lists moment asked files =
+        once_then (TypesAre moment asked.types files) (HasStrings moment asked files) (once_types moment asked.types files)
+        (λ made. once_beside made (HasFileCatalogue moment made.work.types asked (finite.get files asked.file))
+        (once_file_catalogue catalogues moment made.work.types asked (finite.get files asked.file)))
+
+    once_restrings : (moment : Moment) (asked : RestringAsked) (files : Files) → Once (Restrings moment asked files)
+    once_restrings moment asked files =
+        once_then (TypesAre moment asked.types files) (HasRestrung moment asked files) (once_types moment asked.types files)
+        (λ made. once_beside (with_file made asked.catalogue) (IsRestrungUnder moment made.work.types (length made.files) asked files)
+        (once_restrung sources applications named moment made.work.types (length made.files) asked files))
+
     one_to : (name : CommandName) (items : List Item) (files : Files) (moment : Moment) (a b : Answer)
         → AnswersItems name items files moment a → AnswersItems name items files moment b → a ≡ b
     one_to names.Rez items files moment a b is also =
@@ -264,6 +321,11 @@ module _ (cutting : OneCutting) (statement_law : OneStatement) (matching : OneMa
     one_to names.Bridge items files moment a b is also =
         is.2 ∙ ap bridged (once_bridges named data_file (bridge_asked items) files is.0 also.0 is.1 also.1) ∙ sym also.2
     one_to names.Det items files moment a b is also = is ∙ sym also
+    one_to names.Strings items files moment a b is also =
+        is.2 ∙ ap (or_refused shown) (once_lists moment (strings_asked items) files is.0 also.0 is.1 also.1) ∙ sym also.2
+    one_to names.Restring items files moment a b is also =
+        let asked = restring_asked items in
+        is.2 ∙ ap (or_refused (written asked.output)) (once_restrings moment asked files is.0 also.0 is.1 also.1) ∙ sym also.2
     one_to names.Sample items files moment a b is also = one_sample once_rez once_shows (places_of items) moment a b is also
     one_to names.Help items files moment a b is also = is ∙ sym also
     one_to names.Version items files moment a b is also = is ∙ sym also

@@ -4,16 +4,18 @@ use Rattle.std.specs.Prelude.{IfOk, IfSome}
 use Rattle.std.specs.FinMap as finite
 use Rattle.std.specs.declared.option.Option.{Option}
 use Rattle.std.specs.declared.result.Result.{Result}
+use Rattle.rz_bridge_form.specs.declared.form.Form.{Form}
 use Rattle.rz_core.specs.declared.moment.Moment.{Moment}
 use Rattle.rz_folder.specs.Folder.{Files}
 use Rattle.rz_tools_args.specs.Command.{Asked, IsCommand, IsMisplaced, Item}
-use Rattle.rz_tools_args.specs.declared.name.CommandName.TheVariants as names
-use Rattle.rz_tools.specs.DeRez.{derez_asked, AnswersDeRez, DeRezAsked, IsDeRez}
+use Rattle.rz_tools.specs.DeRez.{AnswersDeRez, DeRezAsked}
 use Rattle.rz_tools.specs.Again.{HoldsFile}
 use Rattle.rz_tools.specs.Program.{command, misplaced, Answers, AnswersItems, AnswersTo}
 use Rattle.rz_tools.specs.Reply.{outcome_of, EachAnswer}
+use Rattle.rz_tools.specs.Restring.{AnswersRestring, RestringAsked}
 use Rattle.rz_tools.specs.Rez.{AnswersRez, RezAsked}
 use Rattle.rz_tools.specs.Sample.{AnswersSample}
+use Rattle.rz_tools.specs.Strings.{AnswersStrings, StringsAsked}
 use Rattle.rz_tools_output.specs.Bridge.{AnswersBridge, BridgeAsked}
 use Rattle.rz_tools_output.specs.Det.{AnswersDet, DetAsked}
 use Rattle.rz_tools_args.specs.declared.name.CommandName.{CommandName}
@@ -72,13 +74,14 @@ as_misused words moment position is plan before says =
 -- A fork's file is as short as one, where the words have one meaning.
 
 pub held_asked : {E : Type 0} (commands : (words : List (List ℕ)) (asked others : Asked) → IsCommand words asked → IsCommand words others → asked ≡ others)
-    (words : List (List ℕ)) (one : Asked) → IsCommand words one → (asked : DeRezAsked) → IsDeRez words asked → (before : Option Files) (result : Result Reply E)
-    → (one.name ≡ names.DeRez → IfSome before (λ files. IfSome (finite.get files (derez_asked one.items).file) (λ bytes. IfOk result (λ reply. outcome_of reply ≡ Done → HoldsFile (derez_asked one.items).from bytes))))
-    → IfSome before (λ files. IfSome (finite.get files asked.file) (λ bytes. IfOk result (λ reply. outcome_of reply ≡ Done → HoldsFile asked.from bytes)))
-held_asked commands words one is asked (items, also, same) before result held =
-    let e : one ≡ record { name = names.DeRez; items = items } = commands words one (record { name = names.DeRez; items = items }) is also in
-    subst (λ (a : DeRezAsked). IfSome before (λ files. IfSome (finite.get files a.file) (λ bytes. IfOk result (λ reply. outcome_of reply ≡ Done → HoldsFile a.from bytes))))
-    (ap (λ (x : Asked). derez_asked x.items) e ∙ sym same) (held (ap (λ (x : Asked). x.name) e))
+    (words : List (List ℕ)) (one : Asked) → IsCommand words one → (name : CommandName) (items : List Item) → IsCommand words (record { name = name; items = items })
+    → (file : List Item → List ℕ) (from : List Item → Option Form) (before : Option Files) (result : Result Reply E)
+    → (one.name ≡ name → IfSome before (λ files. IfSome (finite.get files (file one.items)) (λ bytes. IfOk result (λ reply. outcome_of reply ≡ Done → HoldsFile (from one.items) bytes))))
+    → IfSome before (λ files. IfSome (finite.get files (file items)) (λ bytes. IfOk result (λ reply. outcome_of reply ≡ Done → HoldsFile (from items) bytes)))
+held_asked commands words one is name items also file from before result held =
+    let e : one ≡ record { name = name; items = items } = commands words one (record { name = name; items = items }) is also in
+    subst (λ (x : Asked). IfSome before (λ files. IfSome (finite.get files (file x.items)) (λ bytes. IfOk result (λ reply. outcome_of reply ≡ Done → HoldsFile (from x.items) bytes))))
+    e (held (ap (λ (x : Asked). x.name) e))
 
 -- The answer to a command of some items, by its name.
 
@@ -106,6 +109,14 @@ module _ {E : Type 0} (moment : Moment) (before : Option Files) (result : Result
   pub as_det : (asked other : DetAsked) → asked ≡ other → IfSome before (λ files. IfOk result (λ plan. AnswersDet asked files (answer_of plan)))
       → IfSome before (λ files. IfOk result (λ plan. AnswersDet other files (answer_of plan)))
   as_det asked other same answers = subst (λ (a : DetAsked). IfSome before (λ files. IfOk result (λ plan. AnswersDet a files (answer_of plan)))) same answers
+
+  pub as_strings : (asked other : StringsAsked) → asked ≡ other → IfSome before (λ files. IfOk result (λ plan. AnswersStrings asked files moment (answer_of plan)))
+      → IfSome before (λ files. IfOk result (λ plan. AnswersStrings other files moment (answer_of plan)))
+  as_strings asked other same answers = subst (λ (a : StringsAsked). IfSome before (λ files. IfOk result (λ plan. AnswersStrings a files moment (answer_of plan)))) same answers
+
+  pub as_restring : (asked other : RestringAsked) → asked ≡ other → IfSome before (λ files. IfOk result (λ plan. AnswersRestring asked files moment (answer_of plan)))
+      → IfSome before (λ files. IfOk result (λ plan. AnswersRestring other files moment (answer_of plan)))
+  as_restring asked other same answers = subst (λ (a : RestringAsked). IfSome before (λ files. IfOk result (λ plan. AnswersRestring a files moment (answer_of plan)))) same answers
 
   pub as_sample : (words others : List (List ℕ)) → others ≡ words → IfOk result (λ plan. AnswersSample words moment (answer_of plan))
       → IfSome before (λ files. IfOk result (λ plan. AnswersSample others moment (answer_of plan)))

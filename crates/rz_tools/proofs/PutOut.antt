@@ -20,7 +20,8 @@ use Rattle.rz_pre.specs.Live.{body_of, Live}
 use Rattle.rz_pre.specs.Program.{Includes, LinesGo, State}
 use Rattle.rz_pre.specs.declared.act.Act.TheVariants.{Put}
 use Rattle.rz_pre.specs.declared.condition.Tool.{Tool}
-use Rattle.rz_show_laws.specs.Page.{AreCut}
+use Rattle.rz_show_lines_laws.proofs.Pages.{tokens_of}
+use Rattle.rz_show_lines_laws.specs.Page.{AreCut}
 use Rattle.rz_pre_source.specs.Directive.{behind_hash, unblanked}
 use Rattle.rz_core.proofs.Tests.{by_test}
 
@@ -65,11 +66,6 @@ expands live mark (shape ∷ shapes) bare = (
 )
 
 -- Lines.
-
-abbrev pub tokens_of : List RawLine → List (List Shape) → List Token
-tokens_of [] shapes = []
-tokens_of (line ∷ lines) [] = []
-tokens_of (line ∷ lines) (shapes ∷ more) = map (token_of line.mark) shapes ++ tokens_of lines more
 
 abbrev pub with_tokens : State → List Token → State
 with_tokens s tokens = record { live = s.live; tokens = s.tokens ++ tokens; files = s.files }

@@ -73,6 +73,16 @@ module _ {E : Type 0} (plan : Result Plan E) (result : Result Reply E) (is : res
   pub plan_not_done : (P : Type 0) → IfOk plan (λ plan. IsRefused plan.outcome) → IfOk result (λ reply. outcome_of reply ≡ Done → P)
   plan_not_done P = plan_so (λ plan. IsRefused plan.outcome) (λ reply. outcome_of reply ≡ Done → P) (λ plan refused done. absurd (subst IsRefused done refused))
 
+  pub plan_held : (before : Option Files) (entry : Files → Option (List ℕ)) (P : List ℕ → Type 0)
+      → IfSome before (λ files. IfSome (entry files) (λ bytes. IfOk plan (λ plan. plan.outcome ≡ Done → P bytes)))
+      → IfSome before (λ files. IfSome (entry files) (λ bytes. IfOk result (λ reply. outcome_of reply ≡ Done → P bytes)))
+  plan_held None entry P held = tt
+  plan_held (Some files) entry P held = by (entry files) held
+    where
+      by : (e : Option (List ℕ)) → IfSome e (λ bytes. IfOk plan (λ plan. plan.outcome ≡ Done → P bytes)) → IfSome e (λ bytes. IfOk result (λ reply. outcome_of reply ≡ Done → P bytes))
+      by None held = tt
+      by (Some bytes) held = plan_so (λ plan. plan.outcome ≡ Done → P bytes) (λ reply. outcome_of reply ≡ Done → P bytes) (λ plan holds. holds) held
+
   pub plan_answered : (P : Files → Answer → Type 0) (before : Option Files) → IfSome before (λ files. IfOk plan (λ plan. P files (answer_of plan)))
       → IfSome before (λ files. IfOk result (λ reply. EachAnswer reply (P files)))
   plan_answered P None answers = tt
@@ -85,6 +95,11 @@ module _ {E : Type 0} (plan : Result Plan E) (result : Result Reply E) (is : res
       by : (p : Result Plan E) → ◌≡◌ {A = Result Reply E} (seen (λ plan. replies.Plan plan) p) (Err end) → p ≡ Err end
       by (Ok plan) so = cc so
       by (Err other) so = cc so
+
+-- a refusal isn't Done
+pub refused_not_done : {E : Type 0} (P : Type 0) (plan : Result Plan E) → IfOk plan (λ plan. IsRefused plan.outcome) → IfOk plan (λ plan. plan.outcome ≡ Done → P)
+refused_not_done P (Ok plan) refused = λ done. absurd (subst IsRefused done refused)
+refused_not_done P (Err end) refused = tt
 
 -- whatever the files hold
 pub always_held : (before : Option Files) (entry : Files → Option (List ℕ)) (P : List ℕ → Type 0) → ((bytes : List ℕ) → P bytes) → IfSome before (λ files. IfSome (entry files) P)

@@ -180,27 +180,33 @@ pub no_fork : (P : List ℕ → Type 0) (fault : Fault) (output : Result (List �
 no_fork P fault (Ok bytes) is = cc is
 no_fork P fault (Err stop) is = tt
 
-module _ (result : Result Made (Halt Failing)) where
-  -- what holds of the bytes that were to be given holds of those that are
-  pub output_is : (P : List ℕ → Type 0) (output : Result (List ℕ) (Stop Fault)) → IfOk result (λ made. output ≡ Ok made.bytes) → IfOk output P → IfOk result (λ made. P made.bytes)
-  output_is P output is holds = by result is
-    where
-      by : (r : Result Made (Halt Failing)) → IfOk r (λ made. output ≡ Ok made.bytes) → IfOk r (λ made. P made.bytes)
-      by (Ok made) so = subst (λ (o : Result (List ℕ) (Stop Fault)). IfOk o P) so holds
-      by (Err stop) so = tt
+-- what holds of the bytes that were to be given holds of those that are
+pub output_is : {E : Type 0} (result : Result Made (Halt Failing)) (P : List ℕ → Type 0) (output : Result (List ℕ) E) → IfOk result (λ made. output ≡ Ok made.bytes) → IfOk output P → IfOk result (λ made. P made.bytes)
+output_is (Ok made) P output is holds = subst (λ (o : Result (List ℕ) _). IfOk o P) is holds
+output_is (Err stop) P output is holds = tt
 
-  module _ (form : Option Form) (name : List ℕ) where
-    abbrev IsHeld : Option (List ℕ) → Type 0
-    IsHeld entry = IfSome entry (λ bytes. IfOk result (λ _. HoldsFile form bytes))
+module _ {X E : Type 0} (result : Result X E) (form : Option Form) (name : List ℕ) where
+  abbrev pub IsHeld : Option (List ℕ) → Type 0
+  IsHeld entry = IfSome entry (λ bytes. IfOk result (λ _. HoldsFile form bytes))
 
-    pub bytes_held : (before : Option Files) (bytes : List ℕ) → Reads name before (reads.Bytes bytes) → IfOk result (λ _. HoldsFile form bytes)
-        → IfSome before (λ files. IsHeld (map.get files name))
-    bytes_held None bytes told holds = tt
-    bytes_held (Some files) bytes told holds = subst IsHeld (sym told.1) holds
+  pub bytes_held : (before : Option Files) (bytes : List ℕ) → Reads name before (reads.Bytes bytes) → IfOk result (λ _. HoldsFile form bytes)
+      → IfSome before (λ files. IsHeld (map.get files name))
+  bytes_held None bytes told holds = tt
+  bytes_held (Some files) bytes told holds = subst IsHeld (sym told.1) holds
 
-    pub none_held : (before : Option Files) → Reads name before reads.Missing → IfSome before (λ files. IsHeld (map.get files name))
-    none_held None told = tt
-    none_held (Some files) told = subst IsHeld (sym told.1) tt
+  pub none_held : (before : Option Files) → Reads name before reads.Missing → IfSome before (λ files. IsHeld (map.get files name))
+  none_held None told = tt
+  none_held (Some files) told = subst IsHeld (sym told.1) tt
+
+-- where bytes were given, a file was held
+pub made_held : (result : Result Made (Halt Failing)) (output : Result (List ℕ) (Halt Fault)) (form : Option Form) (name : List ℕ) → IfOk result (λ made. output ≡ Ok made.bytes)
+    → (before : Option Files) → IfSome before (λ files. IsHeld output form name (map.get files name)) → IfSome before (λ files. IsHeld result form name (map.get files name))
+made_held result output form name is None held = tt
+made_held result output form name is (Some files) held = by (map.get files name) held
+  where
+    by : (entry : Option (List ℕ)) → IsHeld output form name entry → IsHeld result form name entry
+    by None held = tt
+    by (Some bytes) held = output_is result (λ _. HoldsFile form bytes) output is held
 
 -- the same of the name that was asked for
 pub held_there : (form : Option Form) (name file : List ℕ) → name ≡ file → (before : Option Files) → IfSome before (λ files. IfSome (map.get files name) (HoldsFile form))

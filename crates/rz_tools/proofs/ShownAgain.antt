@@ -49,7 +49,7 @@ WordsAreSpared =
     (around : Around) (start : Work) (names paths : List (List ℕ)) (defs : List Def) (compiled : Compiled) → AreFree defs
     → AreCompiled around start names paths defs (Ok compiled) → SparesWords compiled.is_macro
 
-of_asked : (commands : OneCommand) (words : List (List ℕ)) (asked : Asked) → IsCommand words asked → (files : Files) (moment : Moment) (wanted : Answer)
+pub of_asked : (commands : OneCommand) (words : List (List ℕ)) (asked : Asked) → IsCommand words asked → (files : Files) (moment : Moment) (wanted : Answer)
     → Answers words files moment wanted → AnswersTo asked files moment wanted
 of_asked commands words asked is files moment wanted (command others also to) = subst (λ (x : Asked). AnswersTo x files moment wanted) (commands words others asked also is) to
 of_asked commands words asked is files moment wanted (misplaced position also says) = absurd (also.none asked is)
@@ -64,13 +64,13 @@ derez_answered commands words asked (items, is, same) files moment wanted answer
 -- The answer's text.
 
 -- a refusal isn't Done
-not_refused : (fault : Fault) → Refused fault ≡ Done → ⊥
+pub not_refused : (fault : Fault) → Refused fault ≡ Done → ⊥
 not_refused fault is = cc is
 
-made_or_not : (making : Making) (failing : Failing) → ◌≡◌ {A = Result Making Failing} (Ok making) (Err failing) → ⊥
+pub made_or_not : (making : Making) (failing : Failing) → ◌≡◌ {A = Result Making Failing} (Ok making) (Err failing) → ⊥
 made_or_not making failing is = cc is
 
-same_text : (text others : List ℕ) → ◌≡◌ {A = Result (List ℕ) Fault} (Ok text) (Ok others) → text ≡ others
+pub same_text : (text others : List ℕ) → ◌≡◌ {A = Result (List ℕ) Fault} (Ok text) (Ok others) → text ≡ others
 same_text text others is = cc is
 
 -- the file that holds a fork
@@ -105,7 +105,7 @@ text_of_answer moment asked files bytes fork wanted (Ok making, inl (compiled, t
       (text_in_file (known_by moment compiled) asked (finite.get files asked.file) bytes fork text held admits has),
 )
 
-at_some : (P : List ℕ → Type 0) (o : Option (List ℕ)) (x : List ℕ) → o ≡ Some x → IfSome o P → P x
+pub at_some : (P : List ℕ → Type 0) (o : Option (List ℕ)) (x : List ℕ) → o ≡ Some x → IfSome o P → P x
 at_some P o x is holds = subst (λ (o : Option (List ℕ)). IfSome o P) is holds
 
 -- a run that is done

@@ -15,12 +15,11 @@ use Rattle.rz_folder_paths.specs.Names.{missing_file}
 use Rattle.rz_tools_answer.specs.Answer.{Answer, Answered, Making, shown}
 use Rattle.rz_tools_answer.specs.declared.made.Failing.{Failing}
 use Rattle.rz_tools_args.specs.Command.{places_of, IsCommand, Item}
-use Rattle.rz_tools_args.specs.Items.{defs_of, forms_of, has, kinds_of, last, names_of}
+use Rattle.rz_tools_args.specs.Items.{forms_of, kinds_of, last}
 use Rattle.rz_tools_args.specs.declared.flag.Flag.TheVariants as flags
-use Rattle.rz_tools_args.specs.declared.flag.Switch.TheVariants as switches
 use Rattle.rz_tools_args.specs.declared.name.CommandName.TheVariants as names
 use Rattle.rz_tools.specs.Sources.{Compiled, SaidBeside}
-use Rattle.rz_tools.specs.Types.{known_by, TypesAre, TypesAsked}
+use Rattle.rz_tools.specs.Types.{known_by, types_items, TypesAre, TypesAsked}
 use Rattle.rz_tools_text.specs.Chosen.{chosen}
 use Rattle.rz_tools_text.specs.Shown.{Known}
 use Rattle.rz_tools_text.specs.Text.{ShowsEach}
@@ -43,13 +42,7 @@ derez_asked items = record {
   from = last (forms_of flags.From items);
   only = kinds_of flags.Only items;
   skip = kinds_of flags.Skip items;
-  types = record {
-    files = drop 1 (places_of items);
-    paths = names_of flags.Path items;
-    defs = defs_of items;
-    tmpl = last (names_of flags.Templates items);
-    redeclare = has switches.Redeclare items;
-  };
+  types = types_items (drop 1 (places_of items)) items;
 }
 
 -- the words are `derez`, and ask for this

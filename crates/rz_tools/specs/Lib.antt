@@ -5,6 +5,9 @@ pub mod Held
 pub mod Rez
 pub mod DeRez
 pub mod Reply
+pub mod Strings
+pub mod Restring
+pub mod Catalogues
 pub mod SampleSource
 pub mod Sample
 pub mod Again

@@ -10,8 +10,10 @@ use Rattle.rz_tools_output.specs.Bridge.{bridge_asked, AnswersBridge}
 use Rattle.rz_tools_output.specs.Det.{det_asked, AnswersDet}
 use Rattle.rz_tools.specs.DeRez.{derez_asked, AnswersDeRez}
 use Rattle.rz_tools_answer.specs.Help.{help_text, version_text}
+use Rattle.rz_tools.specs.Restring.{restring_asked, AnswersRestring}
 use Rattle.rz_tools.specs.Rez.{rez_asked, AnswersRez}
 use Rattle.rz_tools.specs.Sample.{AnswersSample}
+use Rattle.rz_tools.specs.Strings.{strings_asked, AnswersStrings}
 
 -- the answer to a command of these items, where each name holds this, at this moment; each command is one case
 abbrev pub AnswersItems : CommandName → List Item → Files → Moment → Answer → Type 0
@@ -19,6 +21,8 @@ AnswersItems names.Rez items files moment answer = AnswersRez (rez_asked items) 
 AnswersItems names.DeRez items files moment answer = AnswersDeRez (derez_asked items) files moment answer
 AnswersItems names.Bridge items files moment answer = AnswersBridge (bridge_asked items) files answer
 AnswersItems names.Det items files moment answer = AnswersDet (det_asked items) files answer
+AnswersItems names.Strings items files moment answer = AnswersStrings (strings_asked items) files moment answer
+AnswersItems names.Restring items files moment answer = AnswersRestring (restring_asked items) files moment answer
 AnswersItems names.Sample items files moment answer = AnswersSample (places_of items) moment answer
 AnswersItems names.Help items files moment answer = answer ≡ shown (record { bytes = help_text; said = [] })
 AnswersItems names.Version items files moment answer = answer ≡ shown (record { bytes = version_text; said = [] })

@@ -8,6 +8,10 @@ use Rattle.rz_pre.specs.Program.{State}
 use Rattle.rz_pre.specs.declared.condition.Tool.TheVariants as tools
 use Rattle.rz_pre.specs.declared.program.Def.{Def}
 use Rattle.rz_tools_answer.specs.declared.made.Failing.{Failing}
+use Rattle.rz_tools_args.specs.Command.{Item}
+use Rattle.rz_tools_args.specs.Items.{defs_of, has, last, names_of}
+use Rattle.rz_tools_args.specs.declared.flag.Flag.TheVariants as flags
+use Rattle.rz_tools_args.specs.declared.flag.Switch.TheVariants as switches
 use Rattle.rz_tools_text.specs.Shown.{Known}
 use Rattle.rz_tools_values.specs.Around.{Around}
 use Rattle.rz_tools_values.specs.declared.setting.Setting.{Setting}
@@ -23,6 +27,16 @@ pub record TypesAsked : Type 0 where
   pub defs : List Def
   pub tmpl : Option (List ℕ)
   pub redeclare : Bool
+
+-- what items ask for, where these are the type files
+abbrev pub types_items : List (List ℕ) → List Item → TypesAsked
+types_items files items = record {
+  files = files;
+  paths = names_of flags.Path items;
+  defs = defs_of items;
+  tmpl = last (names_of flags.Templates items);
+  redeclare = has switches.Redeclare items;
+}
 
 -- what holds for all statements: what the words ask for, and the moment; no statement reads a file
 abbrev pub types_setting : Moment → TypesAsked → Setting

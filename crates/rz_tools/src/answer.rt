@@ -1,6 +1,6 @@
 //! The answer to arguments, with nothing of it carried out. A new command is an arm here and a case of `specs/Program`.
 
-ghost use Rattle.std.specs.Prelude.{◌≡◌, ◌⊎◌, ℕ, List, map, IfOk, IfSome, IsOkAnd, Err};
+ghost use Rattle.std.specs.Prelude.{◌≡◌, ◌⊎◌, ℕ, map, IfOk, IfSome, IsOkAnd, Err};
 ghost use Rattle.std.specs.String.{string_bytes};
 ghost use Rattle.std.specs.FinMap as finite;
 ghost use Rattle.rz_core.specs.declared.stop.Halt.TheVariants.{NoMemory as no_memory, ReadFault};
@@ -10,17 +10,20 @@ ghost use Rattle.rz_tools.specs.Again.{HoldsFile};
 ghost use Rattle.rz_tools.specs.DeRez.{derez_asked, DeRezAsked, IsDeRez};
 ghost use Rattle.rz_tools.specs.Program.{Answers, AnswersTo};
 ghost use Rattle.rz_tools.specs.Reply.{outcome_of, EachAnswer, IsSound};
+ghost use Rattle.rz_tools.specs.Strings.{strings_asked, IsStrings, StringsAsked};
 ghost use Rattle.rz_tools_answer.specs.Plan.{IsNoUsage};
 ghost use Rattle.rz_tools_args.specs.Command.{places_of, ArePlaces, IsMisplaced};
 ghost use Rattle.rz_tools_args.specs.Held.{asked, items_of};
 ghost use Rattle.rz_tools_args.specs.Items.{defs_of};
 ghost use Rattle.rz_tools_args.specs.Syntax.{syntax_of};
-ghost use Rattle.rz_tools_args.specs.declared.name.CommandName.TheVariants.{DeRez};
+ghost use Rattle.rz_tools_args.specs.declared.name.CommandName.TheVariants.{DeRez, Strings};
 
 use crate::derez::{DeRezWords, answer_derez};
 use crate::reply::{Reply, planned};
+use crate::restring::{RestringWords, plan_restring};
 use crate::rez::{RezWords, plan_rez};
 use crate::sample::plan_sample;
+use crate::strings::{StringsWords, plan_strings};
 use rz_core::{Halt, Moment, Stop};
 use rz_folder::Folder;
 use rz_tools_answer::{Outcome, Plan, help_text, version_text};
@@ -43,6 +46,8 @@ pub fn answer<F: Folder>(
     ensures every_usage { (position : ℕ) → IsMisplaced (map string_bytes words.now) position
         → (result ≡ Err no_memory) ⊎ IsOkAnd result (λ reply. outcome_of reply ≡ Outcome.Usage (record { position = position })) }
     ensures held { (asked : DeRezAsked) → IsDeRez (map string_bytes words.now) asked
+        → IfSome (F.files folder.old) (λ files. IfSome (finite.get files asked.file) (λ bytes. IfOk result (λ reply. outcome_of reply ≡ Outcome.Done → HoldsFile asked.from bytes))) }
+    ensures listed { (asked : StringsAsked) → IsStrings (map string_bytes words.now) asked
         → IfSome (F.files folder.old) (λ files. IfSome (finite.get files asked.file) (λ bytes. IfOk result (λ reply. outcome_of reply ≡ Outcome.Done → HoldsFile asked.from bytes))) }
     ensures reads { OnlyReads F.files F.read_faults F.write_faults folder.old folder.new (result ≡ Err ReadFault) }
 {
@@ -69,6 +74,8 @@ fn answer_command<F: Folder>(
     ensures no_usage { IfOk result (λ reply. IsNoUsage (outcome_of reply)) }
     ensures held { command.entry.name ≡ DeRez → IfSome (F.files folder.old) (λ files. IfSome (finite.get files (derez_asked (items_of command.entry)).file) (λ bytes.
         IfOk result (λ reply. outcome_of reply ≡ Outcome.Done → HoldsFile (derez_asked (items_of command.entry)).from bytes))) }
+    ensures listed { command.entry.name ≡ Strings → IfSome (F.files folder.old) (λ files. IfSome (finite.get files (strings_asked (items_of command.entry)).file) (λ bytes.
+        IfOk result (λ reply. outcome_of reply ≡ Outcome.Done → HoldsFile (strings_asked (items_of command.entry)).from bytes))) }
     ensures reads { OnlyReads F.files F.read_faults F.write_faults folder.old folder.new (result ≡ Err ReadFault) }
 {
     match command.name {
@@ -87,6 +94,14 @@ fn answer_command<F: Folder>(
         CommandName::Det => {
             let words = DetWords::of(alloc, &command)?;
             planned(plan_det(alloc, folder, &words))
+        }
+        CommandName::Strings => {
+            let words = StringsWords::of(alloc, command)?;
+            planned(plan_strings(alloc, folder, &words, moment))
+        }
+        CommandName::Restring => {
+            let words = RestringWords::of(alloc, command)?;
+            planned(plan_restring(alloc, folder, &words, moment))
         }
         CommandName::Sample => planned(plan_sample(alloc, command.number(), moment)),
         CommandName::Help => Ok(Reply::Plan(Plan::text(alloc, help_text(alloc)?.as_slice())?)),

@@ -1,6 +1,6 @@
 //! `derez`: the type files, the fork of the file, and the text of its resources. What it answers is in `specs/DeRez`.
 
-ghost use Rattle.std.specs.Prelude.{◌≡◌, ◌≢◌, [], ◌<◌, ◌^◌, drop, Ok, Err, ℕ, List, length, None, IfErr, IfOk, IfSome, OnOk};
+ghost use Rattle.std.specs.Prelude.{◌≡◌, ◌≢◌, [], ◌<◌, ◌^◌, Ok, Err, ℕ, List, length, None, IfErr, IfOk, IfSome, OnOk};
 ghost use Rattle.std.specs.FinMap as map;
 ghost use Rattle.std.specs.String.{string_bytes};
 ghost use Rattle.rz_core.specs.Stop.{seen, Meets, OnFault, OnRefusal, Yields};
@@ -35,7 +35,7 @@ use rz_core::{Bytes, Fault, FileNames, Halt, Moment, NoMemory, Resource, Resourc
 use rz_folder::{Folder, Read};
 use rz_folder_paths::missing_file;
 use rz_tools_answer::{Failing, Faults, Made, Outcome, Plan, say_beside};
-use rz_tools_args::{Command, Flag, Kinds, Switch};
+use rz_tools_args::{Command, Flag, Kinds};
 use rz_tools_text::{ForkText, Known};
 use rz_tools_work::Work;
 use std::alloc::Global;
@@ -68,29 +68,9 @@ impl<'a> DeRezWords<'a> {
             from: command.form(Flag::From),
             only: command.kinds(alloc, Flag::Only)?,
             skip: command.kinds(alloc, Flag::Skip)?,
-            types: TypesWords {
-                files: names_behind(alloc, &files)?,
-                paths: command.names(alloc, Flag::Path)?,
-                tmpl: command.name(Flag::Templates),
-                redeclare: command.has(Switch::Redeclare),
-                defs: command.into_defs(alloc)?,
-            },
+            types: TypesWords::behind(alloc, &files, 1, command)?,
         })
     }
-}
-
-/// The names behind the first.
-fn names_behind(alloc: Global, names: &FileNames) -> Result<FileNames, NoMemory>
-    requires { 0 < length names.now }
-    ensures { IfOk result (λ behind. behind ≡ drop 1 names.now) }
-{
-    let mut behind = FileNames::new(alloc);
-    let mut k = 1;
-    while k < names.len() {
-        behind.push(names.at(k))?;
-        k += 1;
-    }
-    Ok(behind)
 }
 
 /// The answer to the words of `derez`: under what the type files declare, the text of the resources of the fork whose

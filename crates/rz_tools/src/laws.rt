@@ -8,6 +8,11 @@ ghost use Rattle.rz_fork.specs.Contents.{Fork};
 ghost use Rattle.rz_core.specs.declared.resource.OsType.{OsType};
 ghost use Rattle.rz_bridge_files.specs.Contents.{IsFile};
 ghost use Rattle.rz_tools.specs.Again.{AreShort, CompilesAlone, MeansAgain, SparesWords};
+ghost use Rattle.rz_catalog.specs.Catalogue.{IsCatalogue};
+ghost use Rattle.rz_catalog_entries.specs.declared.entry.Entry.{Entry};
+ghost use Rattle.rz_catalog_text.specs.Text.{entries_text};
+ghost use Rattle.rz_tools.specs.Catalogues.{IsPutBack};
+ghost use Rattle.rz_types_table.specs.Table.{Declaration};
 ghost use Rattle.rz_tools_answer.specs.Answer.{Answer};
 ghost use Rattle.rz_tools_text.specs.Chosen.{chosen};
 ghost use Rattle.rz_tools_text.specs.Shown.{Known};
@@ -21,6 +26,12 @@ ghost use Rattle.rz_tools.specs.Program.{Answers};
 
 use rz_bridge_files::{every_file_is_named, one_named_file};
 use rz_bridge_form::{every_header_has_a_data_file, one_data_file};
+use rz_catalog::{
+    catalogues_are_stored, every_application, every_catalogue, one_application, one_catalogue,
+    own_catalogue,
+};
+use rz_catalog_source::{every_source_has_entries, one_list_of_a_source};
+use rz_catalog_text_laws::written_catalogues_are_read;
 use rz_expr::{attribute_words_are_spelled, keywords_are_spelled};
 use rz_fork::admitted_forks_fit;
 use rz_layout::one_spelling;
@@ -50,6 +61,9 @@ pub fn one_answer()
     one_named_file();
     one_data_file();
     one_types();
+    one_catalogue();
+    one_list_of_a_source();
+    one_application();
     one_command();
 }
 
@@ -70,6 +84,9 @@ pub fn every_answer()
     every_list_is_shown();
     every_file_is_named();
     every_header_has_a_data_file();
+    every_catalogue();
+    every_source_has_entries();
+    every_application();
 }
 
 /// A law, with nothing to run: no reserved word is a macro behind sources, if the definitions before them are of none: so
@@ -96,6 +113,19 @@ pub fn shown_forks_are_read_again()
     plain_rows_are_spelled();
     spelled_texts();
     shown_text();
+}
+
+/// A law, with nothing to run: the text of a fork's catalogue, as the file of a catalogue at whatever position, is entries that
+/// give the fork's resources again where they are put into them; or, where protected resources may not be changed, the
+/// refusal (219) of the first entry for one.
+pub fn catalogues_are_put_back()
+    ensures { (types : List Declaration) (moment : Moment) (bytes : List ℕ) → IsFile bytes → (fork : Fork) → admitted bytes ≡ Ok fork
+        → (entries : List Entry) → IsCatalogue types moment fork.list entries → IsPutBack types moment fork.list (entries_text entries) }
+{
+    admitted_forks_fit();
+    catalogues_are_stored();
+    written_catalogues_are_read();
+    own_catalogue();
 }
 
 /// A law, with nothing to run: as the one source of `rez` the text that is shown of a fork where no types are declared,

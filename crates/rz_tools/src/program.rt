@@ -1,8 +1,11 @@
 //! The top call: an answer is made, and then carried out. What a run promises is the contract of `run`.
 
-ghost use Rattle.std.specs.Prelude.{◌≡◌, ◌⊎◌, ℕ, List, map, IfSome};
+ghost use Rattle.std.specs.Prelude.{◌≡◌, ◌⊎◌, ℕ, map, IfSome};
 ghost use Rattle.std.specs.String.{string_bytes};
 ghost use Rattle.rz_tools.specs.Again.{ShowsAgain};
+ghost use Rattle.rz_tools.specs.Catalogues.{LeavesOthers, ListsBack};
+ghost use Rattle.rz_tools.specs.Restring.{IsRestring, RestringAsked};
+ghost use Rattle.rz_tools.specs.Strings.{IsStrings, StringsAsked};
 ghost use Rattle.rz_tools_answer.specs.Answer.{Answer};
 ghost use Rattle.rz_tools.specs.Program.{Answers, IsOnlyAnswer};
 ghost use Rattle.rz_tools_answer.specs.Carried.{CarriesOut, EndsWith, IsAnswered, IsUnhindered};
@@ -13,8 +16,10 @@ ghost use Rattle.rz_tools_args.specs.Command.{IsMisplaced};
 
 use crate::answer::answer;
 use crate::laws::{
-    every_answer, one_answer, reserved_words_are_spared, shown_forks_are_read_again,
+    catalogues_are_put_back, every_answer, one_answer, reserved_words_are_spared,
+    shown_forks_are_read_again,
 };
+use rz_catalog::others_stay;
 use rz_core::{Halt, Moment};
 use rz_folder::{Folder, Sink};
 use rz_tools_answer::{NO_MEMORY, Outcome, READ_FAULT, put_line};
@@ -31,8 +36,9 @@ use std::alloc::Global;
 /// before, and `out` has got a front of its text; after WriteFault the writes before the one that failed are done, and but
 /// for that one's file and a front of `out` all else is as before.
 /// After `derez` of a fork, where the resources that are shown have at most 16,777,212 bytes each, the text on `out`
-/// means these resources again to `rez`. What `err` does changes no outcome. NoMemory may come in place of any other
-/// answer.
+/// means these resources again to `rez`. After `strings` the catalogue on `out` gives the resources of its fork again, where
+/// it is put back under the same types; and after `restring` each resource has the catalogue's texts in place of its own, and
+/// all else stays. What `err` does changes no outcome. NoMemory may come in place of any other answer.
 pub fn run<F: Folder, O: Sink, E: Sink>(
     alloc: Global,
     words: &[String],
@@ -75,6 +81,14 @@ pub fn run<F: Folder, O: Sink, E: Sink>(
     // What is shown of a fork means the resources again that are shown, when rez reads it behind the same declarations.
     ensures again { result ≡ Outcome.Done → (asked : DeRezAsked) → IsDeRez (map string_bytes words.now) asked
         → IfSome (F.files folder.old) (λ files. IfSome (O.written out.old) (λ before. ShowsAgain moment asked files before (O.written out.new))) }
+
+    // The catalogue that is listed of a fork gives the fork's resources again, put back under the same types.
+    ensures back { result ≡ Outcome.Done → (asked : StringsAsked) → IsStrings (map string_bytes words.now) asked
+        → IfSome (F.files folder.old) (λ files. IfSome (O.written out.old) (λ before. ListsBack moment asked files before (O.written out.new))) }
+
+    // What is written of a fork and a catalogue has the catalogue's texts in their places, and all else of the fork stays.
+    ensures others { result ≡ Outcome.Done → (asked : RestringAsked) → IsRestring (map string_bytes words.now) asked
+        → IfSome (F.files folder.old) (λ files. LeavesOthers moment asked files (F.files folder.new)) }
 {
     one_answer();
     every_answer();
@@ -82,6 +96,8 @@ pub fn run<F: Folder, O: Sink, E: Sink>(
     shown_forks_are_read_again();
     reserved_words_are_spared();
     definitions_are_free();
+    catalogues_are_put_back();
+    others_stay();
     match answer(alloc, words, folder, moment) {
         Ok(reply) => reply.carry_out(alloc, folder, out, err),
         Err(Halt::ReadFault) => {

@@ -1,7 +1,7 @@
 //! `sample`: a source of its own is compiled, its fork shown, and the text compiled again. What it answers is in
 //! `specs/Sample`.
 
-ghost use Rattle.std.specs.Prelude.{◌≡◌, ◌∷◌, ◌++◌, ◌<◌, ◌^◌, [], codes, length, IfOk, OnOk, Err};
+ghost use Rattle.std.specs.Prelude.{◌≡◌, ◌∷◌, ◌++◌, ◌<◌, [], codes, IfOk, OnOk, Err};
 ghost use Rattle.std.specs.FinMap as finite;
 ghost use Rattle.rz_core.specs.Decimal.{decimal_of};
 ghost use Rattle.rz_core.specs.Stop.{seen, OnRefusal, Yields};

@@ -1,6 +1,6 @@
 //! Type files: the types that they declare, under which resources are shown. What they mean is in `specs/Types`.
 
-ghost use Rattle.std.specs.Prelude.{◌≡◌, [], length, Err, IfOk, IfSome};
+ghost use Rattle.std.specs.Prelude.{◌≡◌, ◌≤◌, drop, length, Err, IfOk, IfSome};
 ghost use Rattle.rz_core.specs.Stop.{seen, OnRefusal, Yields};
 ghost use Rattle.rz_core.specs.declared.stop.Halt.TheVariants.{ReadFault};
 ghost use Rattle.rz_folder.specs.OnlyReads.{OnlyReads};
@@ -10,15 +10,17 @@ ghost use Rattle.rz_pre.specs.Lexed.{HaveLexedTexts};
 ghost use Rattle.rz_pre.specs.Program.{State};
 ghost use Rattle.rz_pre.specs.Reading.{IsProgram};
 ghost use Rattle.rz_tools.specs.Held.{compiled_of, types_asked};
-ghost use Rattle.rz_tools.specs.Types.{AreTyped, TypesAre};
+ghost use Rattle.rz_tools.specs.Types.{types_items, AreTyped, TypesAre};
+ghost use Rattle.rz_tools_args.specs.Held.{items_of};
 ghost use Rattle.rz_tools_answer.specs.Made.{IsSayable};
 ghost use Rattle.rz_tools_answer.specs.Warning.{AreWarnings};
 
 use crate::sources::{Compiled, compile_program, read_program, unsaid};
-use rz_core::{FileNames, Halt, Moment, Resources};
+use rz_core::{FileNames, Halt, Moment, NoMemory, Resources};
 use rz_folder::Folder;
 use rz_pre::{Defs, Program, Tool};
 use rz_tools_answer::Failing;
+use rz_tools_args::{Command, Flag, Switch};
 use rz_tools_tmpl::read_templates;
 use rz_tools_values::Setting;
 use rz_tools_work::Work;
@@ -37,6 +39,41 @@ pub struct TypesWords<'a> {
     pub tmpl: Option<&'a str>,
     /// Types may be declared again without a warning.
     pub redeclare: bool,
+}
+
+impl<'a> TypesWords<'a> {
+    /// What these items ask for, where the files behind so many are the type files.
+    pub fn behind(
+        alloc: Global,
+        files: &FileNames,
+        count: u64,
+        command: Command<'a>,
+    ) -> Result<TypesWords<'a>, NoMemory>
+        requires { count ≤ length files.now }
+        ensures { IfOk result (λ words. types_asked words ≡ types_items (drop count files.now) (items_of command.entry)) }
+    {
+        Ok(TypesWords {
+            files: names_behind(alloc, files, count)?,
+            paths: command.names(alloc, Flag::Path)?,
+            tmpl: command.name(Flag::Templates),
+            redeclare: command.has(Switch::Redeclare),
+            defs: command.into_defs(alloc)?,
+        })
+    }
+}
+
+/// The names behind so many.
+fn names_behind(alloc: Global, names: &FileNames, count: u64) -> Result<FileNames, NoMemory>
+    requires { count ≤ length names.now }
+    ensures { IfOk result (λ behind. behind ≡ drop count names.now) }
+{
+    let mut behind = FileNames::new(alloc);
+    let mut k = count;
+    while k < names.len() {
+        behind.push(names.at(k))?;
+        k += 1;
+    }
+    Ok(behind)
 }
 
 /// What the type files mean. They are read first, and then the file of templates.

@@ -38,17 +38,19 @@ fn explanation() -> &'static [u8]
 rez compiles the sources into one resource fork. derez writes the resources of a fork as
 text to standard output; the files after the fork declare types. bridge writes a file in
 another form. det prints a line for each rule that a fork breaks, and last how many there
-are. sample compiles a source of its own with COUNT resources, 1 to 5000, shows them as
-text and compiles the text again; it prints COUNT and how many bytes the fork, the text
-and the second fork have. The arguments of each command stand in any order:
-  -o NAME         the file that rez or bridge writes; of rez Rez.Out if none is named
+are. strings prints the texts of a fork's resources as a catalogue, and restring puts the
+texts of a catalogue in their place, both under types as derez has them. sample compiles a
+source of its own with COUNT resources, 1 to 5000, shows them as text and compiles the text
+again; it prints COUNT and how many bytes the fork, the text and the second fork have. The
+arguments of each command stand in any order:
+  -o NAME         the file to write; of rez and restring Rez.Out if none is named
   -a              rez starts from the file that has this name, and adds to it
   -ov             protected resources may be replaced, changed and deleted
   -ro             rez makes the fork read only
   -form FORM      the form in which rez writes; else that of -a's file, else raw
   -t TYPE, -c CREATOR
                   the type and creator of the file that rez writes, if it isn't raw
-  -from FORM      the form of the file that derez, bridge or det reads; else it is found
+  -from FORM      the form of the fork's file, or of bridge's; else it is found
   -to FORM        the form in which bridge writes
   -i PATH         a folder in which included sources are looked for
   -s PATH         a folder in which files of include and read statements are looked for

@@ -39,7 +39,7 @@ pub record Syntax : Type 0 where
 
 -- the commands, in the order in which help tells them
 abbrev pub commands : List CommandName
-commands = names.Rez ∷ names.DeRez ∷ names.Bridge ∷ names.Det ∷ names.Sample ∷ names.Help ∷ names.Version ∷ []
+commands = names.Rez ∷ names.DeRez ∷ names.Bridge ∷ names.Det ∷ names.Strings ∷ names.Restring ∷ names.Sample ∷ names.Help ∷ names.Version ∷ []
 
 abbrev pub syntax_of : CommandName → Syntax
 syntax_of names.Rez = record {
@@ -79,6 +79,26 @@ syntax_of names.Det = record {
   places = places.Exactly 1;
   needs = [];
   usage = codes "det FORK [-from FORM]\n";
+}
+syntax_of names.Strings = record {
+  name = codes "strings";
+  flags = (codes "-from", flags.From) ∷ (codes "-i", flags.Path) ∷ (codes "-d", flags.Define) ∷ (codes "-u", flags.Undefine)
+      ∷ (codes "-tmpl", flags.Templates) ∷ [];
+  switches = (codes "-rd", switches.Redeclare) ∷ [];
+  places = places.AtLeast 1;
+  needs = [];
+  usage = codes "strings FORK [FILE]... [-from FORM] [-i PATH]... [-d NAME[=TEXT]]... [-u NAME]...\n"
+      ++ codes "                 [-rd] [-tmpl FILE]\n";
+}
+syntax_of names.Restring = record {
+  name = codes "restring";
+  flags = (codes "-o", flags.Output) ∷ (codes "-from", flags.From) ∷ (codes "-i", flags.Path) ∷ (codes "-d", flags.Define)
+      ∷ (codes "-u", flags.Undefine) ∷ (codes "-tmpl", flags.Templates) ∷ [];
+  switches = (codes "-ov", switches.Over) ∷ (codes "-rd", switches.Redeclare) ∷ [];
+  places = places.AtLeast 2;
+  needs = [];
+  usage = codes "restring FORK CATALOGUE [FILE]... [-o NAME] [-ov] [-from FORM] [-i PATH]...\n"
+      ++ codes "                  [-d NAME[=TEXT]]... [-u NAME]... [-rd] [-tmpl FILE]\n";
 }
 syntax_of names.Sample = record {
   name = codes "sample";

@@ -11,6 +11,10 @@ pub enum CommandName {
     Bridge,
     /// `det`.
     Det,
+    /// `strings`.
+    Strings,
+    /// `restring`.
+    Restring,
     /// `sample`.
     Sample,
     /// `--help`.

@@ -70,11 +70,13 @@ pub struct Syntax {
 }
 
 /// The commands, in the order in which help tells them.
-pub const COMMANDS: [CommandName; 7] = [
+pub const COMMANDS: [CommandName; 9] = [
     CommandName::Rez,
     CommandName::DeRez,
     CommandName::Bridge,
     CommandName::Det,
+    CommandName::Strings,
+    CommandName::Restring,
     CommandName::Sample,
     CommandName::Help,
     CommandName::Version,
@@ -149,6 +151,39 @@ pub fn syntax_of(command: CommandName) -> Syntax
             places: Places::Exactly(1),
             needs: &[],
             usage: "det FORK [-from FORM]\n",
+        },
+        CommandName::Strings => Syntax {
+            name: "strings",
+            flags: &[
+                ("-from", Flag::From),
+                ("-i", Flag::Path),
+                ("-d", Flag::Define),
+                ("-u", Flag::Undefine),
+                ("-tmpl", Flag::Templates),
+            ],
+            switches: &[("-rd", Switch::Redeclare)],
+            places: Places::AtLeast(1),
+            needs: &[],
+            usage: "strings FORK [FILE]... [-from FORM] [-i PATH]... [-d NAME[=TEXT]]... [-u NAME]...
+                 [-rd] [-tmpl FILE]
+",
+        },
+        CommandName::Restring => Syntax {
+            name: "restring",
+            flags: &[
+                ("-o", Flag::Output),
+                ("-from", Flag::From),
+                ("-i", Flag::Path),
+                ("-d", Flag::Define),
+                ("-u", Flag::Undefine),
+                ("-tmpl", Flag::Templates),
+            ],
+            switches: &[("-ov", Switch::Over), ("-rd", Switch::Redeclare)],
+            places: Places::AtLeast(2),
+            needs: &[],
+            usage: "restring FORK CATALOGUE [FILE]... [-o NAME] [-ov] [-from FORM] [-i PATH]...
+                  [-d NAME[=TEXT]]... [-u NAME]... [-rd] [-tmpl FILE]
+",
         },
         CommandName::Sample => Syntax {
             name: "sample",

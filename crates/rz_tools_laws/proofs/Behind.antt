@@ -85,7 +85,7 @@ module _ (ended : EndsParsed) (on : GoOn) (around : Around) (first : Work) (type
 -- The answer of rez.
 
 begins_new : (asked : RezAsked) (files : Files) → asked.append ≡ false → base_of asked.append asked.target.name files ≡ Ok new_base
-begins_new asked files new = ap (λ (append : Bool). if append then base_in None (or_empty (finite.get files asked.target.name)) else Ok new_base) new
+begins_new asked files new = ap (λ (append : Bool). if append then base_in false None (or_empty (finite.get files asked.target.name)) else Ok new_base) new
 
 pub answers_made : (words : List (List ℕ)) (asked : RezAsked) (files : Files) (moment : Moment) (types : List Declaration) (made : Compiled) (output : Result (List ℕ) Fault)
     → IsRez words asked → asked.append ≡ false → TypesOf asked.tmpl files (Ok types) → AreCompiled (around_of moment asked files) (begun types []) asked.files asked.paths asked.defs (Ok made)

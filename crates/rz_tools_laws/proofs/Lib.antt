@@ -6,3 +6,4 @@ pub mod Raw
 pub mod ReadBack
 pub mod Shown
 pub mod Templates
+pub mod PutBack

@@ -39,7 +39,7 @@ raw_written : (form : Form) (file : MacFile) (bytes : List ℕ) → form ≡ Raw
 raw_written form file bytes is so =
     same_ok {F = Fault} bytes file.res_fork (subst (λ (form : Form). ◌≡◌ {A = Result (List ℕ) Fault} (Ok bytes) (written_as form file)) is so)
 
-output_image : (asked : Target) (moment : Moment) (base : Base) (list : List Resource) (bytes : List ℕ) → form_asked asked base ≡ Raw → IsOutput asked moment base list (Ok bytes)
+pub output_image : (asked : Target) (moment : Moment) (base : Base) (list : List Resource) (bytes : List ℕ) → form_asked asked base ≡ Raw → IsOutput asked moment base list (Ok bytes)
     → bytes ≡ image list (attributes_asked asked.read_only base) base.fork.reserved
 output_image asked moment base list bytes is (inl (fork, made, inl (file, named, so))) =
     raw_written (form_asked asked base) file bytes is so

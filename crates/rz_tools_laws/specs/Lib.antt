@@ -1,3 +1,4 @@
 pub mod Behind
 pub mod Bridge
 pub mod Templates
+pub mod Texts

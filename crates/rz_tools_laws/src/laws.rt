@@ -1,7 +1,7 @@
 //! Laws of the whole: what sources declare is a template, how `derez` shows under it, that what it shows is compiled behind
 //! the same type files, that raw files are found raw, and that `bridge` is asked for all that it needs.
 
-ghost use Rattle.std.specs.Prelude.{◌≡◌, ◌↔◌, ◌∷◌, ◌++◌, ℕ, [], List, Ok, None, Some};
+ghost use Rattle.std.specs.Prelude.{◌≡◌, ◌↔◌, ◌∷◌, ◌++◌, ℕ, [], List, length, true, false, Ok, None, Some};
 ghost use Rattle.std.specs.FinMap as finite;
 ghost use Rattle.std.specs.List.{AllByRecursion};
 ghost use Rattle.rz_core.specs.declared.moment.Moment.{Moment};
@@ -42,9 +42,15 @@ ghost use Rattle.rz_tools_args.specs.declared.name.CommandName.TheVariants.{Brid
 ghost use Rattle.rz_tools_laws.specs.Bridge.{SayAll};
 ghost use Rattle.rz_tools_laws.specs.Templates.{TellsDeclared};
 ghost use Rattle.rz_tools_tmpl.specs.Templates.{AreTemplates, TypesOf};
-ghost use Rattle.rz_tools_output.specs.Base.{Base};
+ghost use Rattle.rz_tools_output.specs.Base.{attributes_asked, base_in, Base};
 ghost use Rattle.rz_tools_output.specs.Bridge.{bridge_asked, BridgeAsked, IsBridge};
 ghost use Rattle.rz_tools_output.specs.Output.{form_asked, IsOutput, Target};
+ghost use Rattle.rz_catalog_entries.specs.declared.entry.Entry.{Entry};
+ghost use Rattle.rz_catalog_source.specs.Source.{HasEntries};
+ghost use Rattle.rz_fork.specs.Image.{image};
+ghost use Rattle.rz_tools.specs.Restring.{target_named, IsRestring, RestringAsked};
+ghost use Rattle.rz_tools.specs.Strings.{IsStrings, StringsAsked};
+ghost use Rattle.rz_tools_laws.specs.Texts.{IsAnswerAgain, IsOfSame};
 ghost use Rattle.rz_tools_values.specs.Around.{Around};
 ghost use Rattle.rz_tools_work.specs.Work.{begun, Work};
 
@@ -53,7 +59,7 @@ use rz_expr::{attribute_words_are_spelled, keywords_are_spelled};
 use rz_pre_laws::{live_names_are_free, programs_are_lexed};
 use rz_stmt_laws::statements_go_on;
 use rz_stmt_type::declarations_are_shaped;
-use rz_tools::shown_forks_are_read_again;
+use rz_tools::{catalogues_are_put_back, shown_forks_are_read_again};
 use rz_tools_args::{definitions_are_free, definitions_are_lexed, one_command};
 use rz_tools_text::one_shown_text;
 use rz_tools_tmpl::types_are_templates;
@@ -172,3 +178,24 @@ pub fn bridges_are_asked_for_all()
     ensures exact { (words : List (List ℕ)) (asked : BridgeAsked)
         → IsBridge words asked ↔ ((items : List Item) × IsCommand words (record { name = Bridge; items = items }) × SayAll items asked) }
 {}
+
+/// A law, with nothing to run: what `strings` answers for a fork is, as the catalogue of `restring` for the same fork under the
+/// same type files, and at the same moment, answered by the file of the same resources: if the type files mean the same where
+/// that catalogue stands, and the fork isn't read only (220). Or, where protected resources may not be changed, it is the
+/// refusal (219) of the first entry for one; or the fault of what such a file may hold. A raw file whose fork is the image of its
+/// resources comes out byte for byte.
+pub fn own_strings_change_nothing()
+    ensures answer { (words others : List (List ℕ)) (listed : StringsAsked) (asked : RestringAsked) (files after : Files) (moment : Moment) (bytes : List ℕ) (base : Base) (answer : Answer)
+        → IsStrings words listed → Answers words files moment answer → answer.outcome ≡ Done
+        → finite.get files listed.file ≡ Some bytes → HoldsFile listed.from bytes → TypesStay moment listed.types files after
+        → IsRestring others asked → IsOfSame listed asked → finite.get after asked.file ≡ Some bytes → finite.get after asked.catalogue ≡ Some answer.out
+        → base_in true asked.from bytes ≡ Ok base
+        → (compiled : Compiled) × TypesAre moment asked.types after (Ok compiled)
+        × (entries : List Entry) × HasEntries (length compiled.files) answer.out (Ok entries) × IsAnswerAgain others asked after moment compiled base entries }
+    ensures image { (name : List ℕ) (moment : Moment) (base : Base) (bytes output : List ℕ) → base.form ≡ Raw
+        → bytes ≡ image base.fork.list (attributes_asked false base) base.fork.reserved
+        → IsOutput (target_named name) moment base base.fork.list (Ok output) → output ≡ bytes }
+{
+    catalogues_are_put_back();
+    one_command();
+}

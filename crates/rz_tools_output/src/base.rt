@@ -1,23 +1,31 @@
 //! What `rez` begins with: a new file, or the one that it appends to. What is taken of it is in `specs/Base`.
 
-ghost use Rattle.std.specs.Prelude.{◌≡◌, ◌<◌, ◌≤◌, ◌^◌, [], ℕ, length, None, IfOk, IfSome};
+ghost use Rattle.std.specs.Prelude.{◌≡◌, ◌<◌, ◌≤◌, ◌^◌, [], ℕ, true, length, None, IfOk, IfSome};
+ghost use Rattle.std.specs.FinMap as finite;
+ghost use Rattle.std.specs.List.{AllByRecursion};
 ghost use Rattle.rz_core.specs.Message.{IsNameable};
+ghost use Rattle.rz_core.specs.declared.fault.Kept.TheVariants.{Number};
 ghost use Rattle.rz_core.specs.Resources.{KeysDiffer};
 ghost use Rattle.rz_core.specs.Stop.{seen, Gives, IsReadFault, OnFault, OnRefusal, Yields};
 ghost use Rattle.rz_folder.specs.OnlyReads.{OnlyReads};
 ghost use Rattle.rz_bridge_files.specs.Contents.{form_or};
 ghost use Rattle.rz_set.specs.ResSet.{AreNamed};
-ghost use Rattle.rz_tools_output.specs.Base.{base_in, base_of, begun_of, new_base, read_only};
+ghost use Rattle.rz_tools_output.specs.Base.{base_held, base_in, base_of, begun_of, limited, new_base, read_only};
 
 use rz_bridge::{Finder, MacFile};
 use rz_bridge_files::{admit_fork, file_in};
 use rz_bridge_form::{Form, form_of};
 use rz_core::{Bytes, Fault, Halt, Kept, OsType, Resources, Stop};
 use rz_folder::{Folder, Read};
+use rz_folder_paths::missing_file;
+use rz_fork::ForkView;
 use std::alloc::Global;
 
 /// The attribute bit of a map that may be read only.
 pub const READ_ONLY: u16 = 0x80;
+
+/// The most bytes of a resource that may be told as values.
+const MOST_BYTES: usize = 16_777_212;
 
 /// The type of applications, `APPL`.
 const APPLICATION: OsType = OsType { code: 0x4150_504C };
@@ -67,8 +75,8 @@ pub fn read_base<F: Folder>(
         return Ok(new_file(alloc));
     }
     match folder.read(alloc, name) {
-        Read::Bytes(bytes) => begin_in(alloc, bytes),
-        Read::Missing => begin_in(alloc, Bytes::new(alloc)),
+        Read::Bytes(bytes) => begin_in(alloc, false, None, bytes),
+        Read::Missing => begin_in(alloc, false, None, Bytes::new(alloc)),
         Read::Failed => Err(Halt::ReadFault),
         Read::NoMemory => Err(Halt::NoMemory),
     }
@@ -106,17 +114,48 @@ fn new_file(alloc: Global) -> Beginning
     }
 }
 
-/// What bytes hold to begin with, of a call that reads files.
-fn begin_in(alloc: Global, bytes: Bytes) -> Result<Beginning, Halt<Fault>>
-    requires { length bytes < 2 ^ 32 }
-    ensures base { Yields (seen begun_of result) (λ answer. base_in None bytes ≡ answer) }
+/// What the file of this name holds to begin with, in the form that is asked for or else that its bytes have. Refused with 101
+/// if there is no such file, then with the first broken rule of the form, then of the fork, then 301 for the first resource of
+/// more than 16,777,212 bytes (kept: its length), then 220 (kept: the attributes); none has a mark.
+pub fn read_held<F: Folder>(
+    alloc: Global,
+    folder: &mut F,
+    form: Option<Form>,
+    name: &str,
+) -> Result<Beginning, Halt<Fault>>
+    ensures base { IfSome (F.files folder.old) (λ files. Yields (seen begun_of result) (λ answer. base_held form name.now (finite.get files name.now) ≡ answer)) }
     ensures keys { IfOk result (λ begun. KeysDiffer [] begun.list) }
     ensures named { IfOk result (λ begun. AreNamed begun.list) }
+    ensures short { IfOk result (λ begun. AllByRecursion (λ r. length r.bytes ≤ 16777212) begun.list) }
+    ensures room { IfOk result (λ begun. length begun.base.reserved ≤ 240) }
+    ensures nameable { (files : ℕ) → OnRefusal result (IsNameable files) }
+    ensures reads { OnlyReads F.files F.read_faults F.write_faults folder.old folder.new (IsReadFault result) }
+{
+    match folder.read(alloc, name) {
+        Read::Bytes(bytes) => begin_in(alloc, true, form, bytes),
+        Read::Missing => Err(Halt::Refused(missing_file(alloc, None, name.as_bytes())?)),
+        Read::Failed => Err(Halt::ReadFault),
+        Read::NoMemory => Err(Halt::NoMemory),
+    }
+}
+
+/// What bytes hold to begin with, of a call that reads files.
+fn begin_in(
+    alloc: Global,
+    short: bool,
+    form: Option<Form>,
+    bytes: Bytes,
+) -> Result<Beginning, Halt<Fault>>
+    requires { length bytes < 2 ^ 32 }
+    ensures base { Yields (seen begun_of result) (λ answer. base_in short form bytes ≡ answer) }
+    ensures keys { IfOk result (λ begun. KeysDiffer [] begun.list) }
+    ensures named { IfOk result (λ begun. AreNamed begun.list) }
+    ensures short { short ≡ true → IfOk result (λ begun. AllByRecursion (λ r. length r.bytes ≤ 16777212) begun.list) }
     ensures room { IfOk result (λ begun. length begun.base.reserved ≤ 240) }
     ensures nameable { (files : ℕ) → OnRefusal result (IsNameable files) }
     ensures unread { IsReadFault result → ⊥ }
 {
-    match base_in(alloc, None, bytes) {
+    match base_in(alloc, short, form, bytes) {
         Ok(begun) => Ok(begun),
         Err(stop) => Err(Halt::from(stop)),
     }
@@ -124,11 +163,17 @@ fn begin_in(alloc: Global, bytes: Bytes) -> Result<Beginning, Halt<Fault>>
 
 /// What bytes hold to begin with, in the form that is asked for or else that they have. The resources are copied out of their
 /// fork, whose own bytes are then given back.
-fn base_in(alloc: Global, form: Option<Form>, bytes: Bytes) -> Result<Beginning, Stop<Fault>>
+fn base_in(
+    alloc: Global,
+    short: bool,
+    form: Option<Form>,
+    bytes: Bytes,
+) -> Result<Beginning, Stop<Fault>>
     requires { length bytes < 2 ^ 32 }
-    ensures base { Gives (base_in form bytes) (seen begun_of result) }
+    ensures base { Gives (base_in short form bytes) (seen begun_of result) }
     ensures keys { IfOk result (λ begun. KeysDiffer [] begun.list) }
     ensures named { IfOk result (λ begun. AreNamed begun.list) }
+    ensures short { short ≡ true → IfOk result (λ begun. AllByRecursion (λ r. length r.bytes ≤ 16777212) begun.list) }
     ensures room { IfOk result (λ begun. length begun.base.reserved ≤ 240) }
     ensures nameable { (files : ℕ) → OnFault result (IsNameable files) }
 {
@@ -138,6 +183,9 @@ fn base_in(alloc: Global, form: Option<Form>, bytes: Bytes) -> Result<Beginning,
         Ok(fork) => fork,
         Err(fault) => return Err(Stop::Refused(fault)),
     };
+    if short {
+        all_short(&fork)?;
+    }
     let attributes = fork.attributes();
     if attributes & READ_ONLY != 0 {
         return Err(Stop::Refused(read_only(attributes)));
@@ -156,6 +204,33 @@ fn base_in(alloc: Global, form: Option<Form>, bytes: Bytes) -> Result<Beginning,
         },
         list,
     })
+}
+
+/// Refuses with 301 the first resource of a fork that has more than 16,777,212 bytes (kept: its length), without a mark.
+pub fn all_short(fork: &ForkView<'_>) -> Result<(), Stop<Fault>>
+    ensures fork { Gives (limited true fork.now) (seen (λ _. fork.now) result) }
+    ensures short { IfOk result (λ _. AllByRecursion (λ r. length r.bytes ≤ 16777212) fork.now.list) }
+    ensures nameable { (files : ℕ) → OnFault result (IsNameable files) }
+{
+    let mut walk = fork.walk();
+    while let Some(one) = walk.next() {
+        if one.bytes.len() > MOST_BYTES {
+            return Err(Stop::Refused(too_long(one.bytes.len() as i64)));
+        }
+    }
+    Ok(())
+}
+
+/// 301, with a length.
+fn too_long(length: i64) -> Fault
+    ensures fault { result ≡ record { number = 301; mark = None; kept = Number length } }
+    ensures nameable { (files : ℕ) → IsNameable files result }
+{
+    Fault {
+        number: 301,
+        mark: None,
+        kept: Kept::Number(length),
+    }
 }
 
 /// The form that is asked for, or else that bytes have.

@@ -17,7 +17,7 @@ mod halted;
 mod output;
 mod target;
 
-pub use base::{Base, Beginning, read_base};
+pub use base::{Base, Beginning, all_short, read_base, read_held};
 pub use bridge::{BridgeWords, plan_bridge};
 pub use det::{DetWords, plan_det};
 pub use output::write_output;

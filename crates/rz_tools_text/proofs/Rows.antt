@@ -21,7 +21,7 @@ use Rattle.rz_show.specs.Shown.{row_uses}
 use Rattle.rz_show.specs.declared.hidden.Hidden.{Hidden}
 use Rattle.rz_show.specs.Showing.{by_bytes, by_row, showing_text, Showing}
 use Rattle.rz_show.specs.Statement.{data_lines, row_lines}
-use Rattle.rz_show.specs.Written.{as_line, line_text, lines_text, Written}
+use Rattle.rz_show_lines.specs.Written.{as_line, line_text, lines_text, Written}
 use Rattle.rz_tools_text.specs.Held.{macros_held}
 use Rattle.rz_tools_text.proofs.Lists.{text_put}
 use Rattle.rz_types_table.specs.Table.{declared_for}

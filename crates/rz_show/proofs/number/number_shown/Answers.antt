@@ -6,7 +6,7 @@ use Rattle.rz_core.specs.declared.resource.Word.{Word}
 use Rattle.rz_types_fields.specs.declared.field.Symbol.{Symbol}
 use Rattle.rz_types.specs.Value.{symbol_value}
 use Rattle.rz_show.specs.Number.{is_stored, symbol_for}
-use Rattle.rz_show.specs.Printable.{IsName}
+use Rattle.rz_show_lines.specs.Written.{IsName}
 use Rattle.rz_show.proofs.number.number_shown.Goals as goal
 
 abbrev AreNamed : List Symbol → Type 0

@@ -2,7 +2,7 @@ use Rattle.std.proofs.Common.{◌≡◌, ℕ, Bool, List, drop}
 use Rattle.rz_types_fields.specs.declared.tree.Tree.{Tree}
 use Rattle.rz_types.specs.Field.{plain_body}
 use Rattle.rz_show.specs.Lines.{IsSound}
-use Rattle.rz_show.specs.Print.{Prints}
+use Rattle.rz_show_lines.specs.Print.{Prints}
 use Rattle.rz_show.specs.Shown.{row_prints}
 use Rattle.rz_show.proofs.open_list.passed.Given as goal
 

@@ -1,8 +1,15 @@
-use Rattle.std.proofs.Common.{inr, map, ap, ◌∙◌}
+use Rattle.std.proofs.Common.{◌≡◌, inr, map, ap, sym, subst, ◌∙◌}
+use Rattle.std.specs.FinMap as finite
+use Rattle.std.specs.Prelude.{IfOk, IfSome}
 use Rattle.std.specs.String.{string_bytes}
 use Rattle.rz_tools_answer.specs.Answer.{Answer}
-use Rattle.rz_tools_answer.specs.declared.outcome.Outcome.TheVariants.{Usage}
+use Rattle.rz_tools_answer.specs.declared.outcome.Outcome.TheVariants.{Done, Usage}
 use Rattle.rz_tools_args.specs.Held.{asked}
+use Rattle.rz_tools_args.specs.declared.name.CommandName.TheVariants as names
+use Rattle.rz_tools.specs.Again.{HoldsFile}
+use Rattle.rz_tools.specs.DeRez.{derez_asked, DeRezAsked}
+use Rattle.rz_tools.specs.Reply.{outcome_of}
+use Rattle.rz_tools.specs.Strings.{strings_asked, StringsAsked}
 use Rattle.rz_tools.proofs.Planned.{as_command, as_misused, held_asked}
 use Rattle.rz_tools.proofs.answer.answer.Goals as goal
 
@@ -20,8 +27,17 @@ returns-in-Ok-clause-answered g c =
 
 pub returns-in-Ok-clause-held : goal.returns-in-Ok-clause-held
 returns-in-Ok-clause-held g c shown is =
-    held_asked c.one_command.ensures.command (map string_bytes c.args.words.now) (asked c.in-Ok.command) c.in-Ok.ensures.command shown is
-    (g.F.Folder.files c.args.folder.now) c.answer_command.result c.answer_command.ensures.held
+    subst (λ (a : DeRezAsked). IfSome (g.F.Folder.files c.args.folder.now) (λ files. IfSome (finite.get files a.file) (λ bytes. IfOk c.answer_command.result (λ reply. outcome_of reply ≡ Done → HoldsFile a.from bytes))))
+    (sym is.2)
+    (held_asked c.one_command.ensures.command (map string_bytes c.args.words.now) (asked c.in-Ok.command) c.in-Ok.ensures.command names.DeRez is.0 is.1 (λ items. (derez_asked items).file) (λ items. (derez_asked items).from)
+    (g.F.Folder.files c.args.folder.now) c.answer_command.result c.answer_command.ensures.held)
+
+pub returns-in-Ok-clause-listed : goal.returns-in-Ok-clause-listed
+returns-in-Ok-clause-listed g c listed is =
+    subst (λ (a : StringsAsked). IfSome (g.F.Folder.files c.args.folder.now) (λ files. IfSome (finite.get files a.file) (λ bytes. IfOk c.answer_command.result (λ reply. outcome_of reply ≡ Done → HoldsFile a.from bytes))))
+    (sym is.2)
+    (held_asked c.one_command.ensures.command (map string_bytes c.args.words.now) (asked c.in-Ok.command) c.in-Ok.ensures.command names.Strings is.0 is.1 (λ items. (strings_asked items).file) (λ items. (strings_asked items).from)
+    (g.F.Folder.files c.args.folder.now) c.answer_command.result c.answer_command.ensures.listed)
 
 pub returns-in_ok-misused-in-Err-Refused-clause-answered : goal.returns-in_ok-misused-in-Err-Refused-clause-answered
 returns-in_ok-misused-in-Err-Refused-clause-answered g c =

@@ -1,19 +1,26 @@
-use Rattle.std.proofs.Common.{ℕ, List, [], rules, sym, ap, subst, ◌∙◌}
+use Rattle.std.proofs.Common.{◌≡◌, ℕ, List, [], rules, sym, ap, subst, ◌∙◌}
+use Rattle.std.specs.FinMap as finite
+use Rattle.std.specs.Prelude.{IfOk, IfSome}
 use Rattle.rz_core.specs.declared.stop.Halt.TheVariants.{ReadFault}
 use Rattle.rz_pre.specs.Lexed.{HaveLexedTexts}
 use Rattle.rz_tools_answer.proofs.Warnings.{no_lines}
 use Rattle.rz_tools_answer.specs.Answer.{shown}
 use Rattle.rz_tools_answer.specs.WellFormed.{IsWellFormed}
+use Rattle.rz_tools_answer.specs.declared.outcome.Outcome.TheVariants.{Done}
+use Rattle.rz_tools.specs.Again.{HoldsFile}
+use Rattle.rz_tools.specs.Reply.{outcome_of}
 use Rattle.rz_tools_args.specs.Command.{places_of}
 use Rattle.rz_tools_args.specs.Held.{items_of}
 use Rattle.rz_tools_args.specs.declared.name.CommandName.TheVariants as names
 use Rattle.rz_tools.specs.DeRez.{derez_asked, DeRezAsked}
-use Rattle.rz_tools.specs.Held.{derez, rez}
+use Rattle.rz_tools.specs.Held.{derez, restring, rez, strings}
+use Rattle.rz_tools.specs.Restring.{restring_asked, RestringAsked}
+use Rattle.rz_tools.specs.Strings.{strings_asked, StringsAsked}
 use Rattle.rz_tools.specs.Rez.{rez_asked, RezAsked}
 use Rattle.rz_tools_output.specs.Bridge.{bridge, bridge_asked}
 use Rattle.rz_tools_output.specs.Det.{det, det_asked}
-use Rattle.rz_tools.proofs.Planned.{as_bridge, as_derez, as_det, as_held, as_named, as_planned, as_rez, as_sample, plan_named}
-use Rattle.rz_tools.proofs.Replied.{plan_end, plan_no_usage, plan_sound, reads_as}
+use Rattle.rz_tools.proofs.Planned.{as_bridge, as_derez, as_det, as_held, as_named, as_planned, as_restring, as_rez, as_sample, as_strings, plan_named}
+use Rattle.rz_tools.proofs.Replied.{plan_end, plan_held, plan_no_usage, plan_sound, reads_as}
 use Rattle.rz_tools.proofs.answer.answer_command.Goals as goal
 
 pub plan_rez-requires : goal.plan_rez-requires
@@ -21,6 +28,12 @@ plan_rez-requires g c = subst HaveLexedTexts (sym (ap (λ (a : RezAsked). a.defs
 
 pub answer_derez-requires : goal.answer_derez-requires
 answer_derez-requires g c = subst HaveLexedTexts (sym (ap (λ (a : DeRezAsked). a.types.defs) c.in_ok-words-in-DeRez.ensures)) c.requires.lexed
+
+pub plan_strings-requires : goal.plan_strings-requires
+plan_strings-requires g c = subst HaveLexedTexts (sym (ap (λ (a : StringsAsked). a.types.defs) c.in_ok-words-in-Strings.ensures)) c.requires.lexed
+
+pub plan_restring-requires : goal.plan_restring-requires
+plan_restring-requires g c = subst HaveLexedTexts (sym (ap (λ (a : RestringAsked). a.types.defs) c.in_ok-words-in-Restring.ensures)) c.requires.lexed
 
 -- Plans.
 
@@ -78,6 +91,42 @@ returns-in_ok-words-in-Det-clause-reads g c =
     reads_as g.F.Folder.files g.F.Folder.read_faults g.F.Folder.write_faults c.args.folder.now c.plan_det.new.folder
     (plan_end c.plan_det.result c.planned-in-Det.result c.planned-in-Det.ensures ReadFault) c.plan_det.ensures.reads
 
+pub returns-in_ok-words-in-Strings-clause-answered : goal.returns-in_ok-words-in-Strings-clause-answered
+returns-in_ok-words-in-Strings-clause-answered g c =
+    plan_named c.args.command.name names.Strings (items_of c.args.command) c.args.moment c.in-Strings.is (g.F.Folder.files c.args.folder.now)
+    c.plan_strings.result c.planned-in-Strings.result c.planned-in-Strings.ensures
+    (as_strings c.args.moment (g.F.Folder.files c.args.folder.now) c.plan_strings.result (strings c.in_ok-words-in-Strings.words) (strings_asked (items_of c.args.command)) c.in_ok-words-in-Strings.ensures
+    c.plan_strings.ensures.answered)
+
+pub returns-in_ok-words-in-Strings-clause-sound : goal.returns-in_ok-words-in-Strings-clause-sound
+returns-in_ok-words-in-Strings-clause-sound g c = plan_sound c.plan_strings.result c.planned-in-Strings.result c.planned-in-Strings.ensures c.plan_strings.ensures.well_formed c.plan_strings.ensures.writable
+
+pub returns-in_ok-words-in-Strings-clause-no_usage : goal.returns-in_ok-words-in-Strings-clause-no_usage
+returns-in_ok-words-in-Strings-clause-no_usage g c = plan_no_usage c.plan_strings.result c.planned-in-Strings.result c.planned-in-Strings.ensures c.plan_strings.ensures.no_usage
+
+pub returns-in_ok-words-in-Strings-clause-reads : goal.returns-in_ok-words-in-Strings-clause-reads
+returns-in_ok-words-in-Strings-clause-reads g c =
+    reads_as g.F.Folder.files g.F.Folder.read_faults g.F.Folder.write_faults c.args.folder.now c.plan_strings.new.folder
+    (plan_end c.plan_strings.result c.planned-in-Strings.result c.planned-in-Strings.ensures ReadFault) c.plan_strings.ensures.reads
+
+pub returns-in_ok-words-in-Restring-clause-answered : goal.returns-in_ok-words-in-Restring-clause-answered
+returns-in_ok-words-in-Restring-clause-answered g c =
+    plan_named c.args.command.name names.Restring (items_of c.args.command) c.args.moment c.in-Restring.is (g.F.Folder.files c.args.folder.now)
+    c.plan_restring.result c.planned-in-Restring.result c.planned-in-Restring.ensures
+    (as_restring c.args.moment (g.F.Folder.files c.args.folder.now) c.plan_restring.result (restring c.in_ok-words-in-Restring.words) (restring_asked (items_of c.args.command)) c.in_ok-words-in-Restring.ensures
+    c.plan_restring.ensures.answered)
+
+pub returns-in_ok-words-in-Restring-clause-sound : goal.returns-in_ok-words-in-Restring-clause-sound
+returns-in_ok-words-in-Restring-clause-sound g c = plan_sound c.plan_restring.result c.planned-in-Restring.result c.planned-in-Restring.ensures c.plan_restring.ensures.well_formed c.plan_restring.ensures.writable
+
+pub returns-in_ok-words-in-Restring-clause-no_usage : goal.returns-in_ok-words-in-Restring-clause-no_usage
+returns-in_ok-words-in-Restring-clause-no_usage g c = plan_no_usage c.plan_restring.result c.planned-in-Restring.result c.planned-in-Restring.ensures c.plan_restring.ensures.no_usage
+
+pub returns-in_ok-words-in-Restring-clause-reads : goal.returns-in_ok-words-in-Restring-clause-reads
+returns-in_ok-words-in-Restring-clause-reads g c =
+    reads_as g.F.Folder.files g.F.Folder.read_faults g.F.Folder.write_faults c.args.folder.now c.plan_restring.new.folder
+    (plan_end c.plan_restring.result c.planned-in-Restring.result c.planned-in-Restring.ensures ReadFault) c.plan_restring.ensures.reads
+
 pub returns-in-Sample-clause-answered : goal.returns-in-Sample-clause-answered
 returns-in-Sample-clause-answered g c =
     plan_named c.args.command.name names.Sample (items_of c.args.command) c.args.moment c.in-Sample.is (g.F.Folder.files c.args.folder.now)
@@ -102,6 +151,14 @@ pub returns-in_ok-words-in-DeRez-clause-held : goal.returns-in_ok-words-in-DeRez
 returns-in_ok-words-in-DeRez-clause-held g c is =
     as_held (g.F.Folder.files c.args.folder.now) c.answer_derez.result (derez c.in_ok-words-in-DeRez.words) (derez_asked (items_of c.args.command)) c.in_ok-words-in-DeRez.ensures
     c.answer_derez.ensures.held
+
+pub returns-in_ok-words-in-Strings-clause-listed : goal.returns-in_ok-words-in-Strings-clause-listed
+returns-in_ok-words-in-Strings-clause-listed g c is =
+    let before = g.F.Folder.files c.args.folder.now in
+    let own = strings c.in_ok-words-in-Strings.words in
+    subst (λ (a : StringsAsked). IfSome before (λ files. IfSome (finite.get files a.file) (λ bytes. IfOk c.planned-in-Strings.result (λ reply. outcome_of reply ≡ Done → HoldsFile a.from bytes))))
+    c.in_ok-words-in-Strings.ensures
+    (plan_held c.plan_strings.result c.planned-in-Strings.result c.planned-in-Strings.ensures before (λ files. finite.get files own.file) (HoldsFile own.from) c.plan_strings.ensures.held)
 
 -- Texts that are there.
 

@@ -8,6 +8,8 @@ use Rattle.rz_tools_answer.specs.declared.outcome.Outcome.TheVariants.{Done, Rea
 use Rattle.rz_tools.specs.Again.{HoldsFile}
 use Rattle.rz_tools.specs.Program.{Answers}
 use Rattle.rz_tools.proofs.Complete.{complete, hindered, whole}
+use Rattle.rz_tools.proofs.OthersStay.{leaves_others}
+use Rattle.rz_tools.proofs.PutBack.{lists_back}
 use Rattle.rz_tools.proofs.Replied.{answers_so, outcome_so, well_formed}
 use Rattle.rz_tools.proofs.Running.{carried_from, every, every_answer, nothing_put, or_else, stays_usage, usage_of}
 use Rattle.rz_tools.proofs.ShownAgain.{shows_again}
@@ -75,6 +77,24 @@ returns-in-Ok-clause-again g c is asked as_asked =
     (answers_so (λ files. Answers (map string_bytes c.args.words.now) files c.args.moment) c.in-Ok.reply made.0 made.1 (g.F.Folder.files c.args.folder.now) c.in-Ok.ensures.answered)
     (subst (λ (o : Outcome). IfSome (g.F.Folder.files c.args.folder.now) (λ files. IfSome (finite.get files asked.file) (λ bytes. o ≡ Done → HoldsFile asked.from bytes)))
     (sym (outcome_so c.in-Ok.reply made.0 made.1)) (c.in-Ok.ensures.held asked as_asked))
+
+pub returns-in-Ok-clause-back : goal.returns-in-Ok-clause-back
+returns-in-Ok-clause-back g c is asked as_asked =
+    let made = c.carry_out.ensures.carried in
+    lists_back c.catalogues_are_put_back.ensures c.one_command.ensures.command (map string_bytes c.args.words.now) c.args.moment _ _ made.0 c.carry_out.result is
+    (carried_from made.0 _ c.carry_out.result _ _ _ _ _ _ _ _ _ _ c.in-Ok.ensures.reads.unchanged c.in-Ok.ensures.reads.counted c.in-Ok.ensures.reads.other_count made.2)
+    asked as_asked
+    (answers_so (λ files. Answers (map string_bytes c.args.words.now) files c.args.moment) c.in-Ok.reply made.0 made.1 (g.F.Folder.files c.args.folder.now) c.in-Ok.ensures.answered)
+    (subst (λ (o : Outcome). IfSome (g.F.Folder.files c.args.folder.now) (λ files. IfSome (finite.get files asked.file) (λ bytes. o ≡ Done → HoldsFile asked.from bytes)))
+    (sym (outcome_so c.in-Ok.reply made.0 made.1)) (c.in-Ok.ensures.listed asked as_asked))
+
+pub returns-in-Ok-clause-others : goal.returns-in-Ok-clause-others
+returns-in-Ok-clause-others g c is asked as_asked =
+    let made = c.carry_out.ensures.carried in
+    leaves_others c.others_stay.ensures c.one_command.ensures.command (map string_bytes c.args.words.now) c.args.moment _ _ made.0 c.carry_out.result is
+    (carried_from made.0 _ c.carry_out.result _ _ _ _ _ _ _ _ _ _ c.in-Ok.ensures.reads.unchanged c.in-Ok.ensures.reads.counted c.in-Ok.ensures.reads.other_count made.2)
+    asked as_asked
+    (answers_so (λ files. Answers (map string_bytes c.args.words.now) files c.args.moment) c.in-Ok.reply made.0 made.1 (g.F.Folder.files c.args.folder.now) c.in-Ok.ensures.answered)
 
 -- A read failed.
 

@@ -1,8 +1,8 @@
 use Rattle.std.proofs.Common.{◌≡◌, ◌++◌, ◌∷◌, List, length, None, option_map, ap, sym, ◌∙◌}
 use Rattle.rz_show.specs.declared.entry.Entry.{Entry}
 use Rattle.rz_show.specs.Lines.{behind_lines, entry_print, items_left, left, level, open_lines, opening, outside}
-use Rattle.rz_show.specs.Print.{comma, margin, print_lines}
-use Rattle.rz_show.specs.Written.{Written}
+use Rattle.rz_show_lines.specs.Print.{comma, margin, print_lines}
+use Rattle.rz_show_lines.specs.Written.{Written}
 use Rattle.rz_show.proofs.Nested.{block_front}
 use Rattle.rz_show.proofs.items.Items.begin.Goals as goal
 

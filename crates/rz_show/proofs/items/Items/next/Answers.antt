@@ -1,10 +1,10 @@
 use Rattle.std.proofs.Common.{ℕ, Bool, List, ◌++◌, length, Option, option_map, ap, sym, ◌∙◌}
 use Rattle.rz_types.specs.Field.{plain_field}
-use Rattle.rz_show.specs.declared.text.Text.{Text}
+use Rattle.rz_show_lines.specs.declared.text.Text.{Text}
 use Rattle.rz_show.specs.Lines.{behind_lines, left, level, open_lines, outside}
-use Rattle.rz_show.specs.Print.{comma, print_lines, Print}
+use Rattle.rz_show_lines.specs.Print.{comma, print_lines, Print}
 use Rattle.rz_show.specs.Shown.{field_print}
-use Rattle.rz_show.specs.Single.{hides_in}
+use Rattle.rz_show.specs.Hidden.{hides_in}
 use Rattle.rz_show.proofs.Nested.{item_front}
 use Rattle.rz_show.proofs.items.Items.next.Goals as goal
 

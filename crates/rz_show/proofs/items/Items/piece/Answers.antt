@@ -1,6 +1,7 @@
 use Rattle.std.proofs.Common.{◌≡◌, length, ap, sym, ◌∙◌}
-use Rattle.rz_show.specs.Lines.{behind_piece, comma_if, left, level, outside}
-use Rattle.rz_show.specs.Print.{comma}
+use Rattle.rz_show_lines.specs.Texts.{behind_piece}
+use Rattle.rz_show.specs.Lines.{comma_if, left, level, outside}
+use Rattle.rz_show_lines.specs.Print.{comma}
 use Rattle.rz_show.proofs.Nested.{last_behind, none_behind, none_or_some, piece_given}
 use Rattle.rz_show.proofs.items.Items.piece.Goals as goal
 use Rattle.rz_show.proofs.items.Items.piece.Goals.{then-is_none, else-is_none}

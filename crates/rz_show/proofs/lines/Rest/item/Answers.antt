@@ -1,7 +1,7 @@
 use Rattle.std.proofs.Common.{[], ◌∷◌, ◌++◌, List, ap}
 use Rattle.rz_lex.specs.declared.sign.Sign.TheVariants.{CloseBrace, Semicolon}
 use Rattle.rz_show.specs.Statement.{close_lines}
-use Rattle.rz_show.specs.Written.{a_sign, Written}
+use Rattle.rz_show_lines.specs.Written.{a_sign, Written}
 use Rattle.rz_show.proofs.lines.Rest.item.Goals as goal
 
 pub returns-in-None-clause-line : goal.returns-in-None-clause-line

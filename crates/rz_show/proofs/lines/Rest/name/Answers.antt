@@ -1,11 +1,11 @@
 use Rattle.std.proofs.Common.{◌++◌, ◌∷◌, List, ap, sym, ◌∙◌}
 use Rattle.std.specs.Option.{is_none}
-use Rattle.rz_show.specs.Cut.{cut}
+use Rattle.rz_show_lines.specs.Cut.{cut}
 use Rattle.rz_show.specs.declared.lines.Part.{Part}
 use Rattle.rz_show.specs.Head.{head_end}
 use Rattle.rz_show.specs.Lines.{end_if, part_left}
-use Rattle.rz_show.specs.Print.{margin, piece_written}
-use Rattle.rz_show.specs.Written.{as_line, Written}
+use Rattle.rz_show_lines.specs.Print.{margin, piece_written}
+use Rattle.rz_show_lines.specs.Written.{as_line, Written}
 use Rattle.rz_show.proofs.Heads.{name_front, same_part}
 use Rattle.rz_show.proofs.Nested.{none_or_some}
 use Rattle.rz_show.proofs.lines.Rest.name.Goals as goal

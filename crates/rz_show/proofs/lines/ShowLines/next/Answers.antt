@@ -1,8 +1,9 @@
 use Rattle.std.proofs.Common.{ℕ, List, ◌∷◌, map, ap, sym, subst, ◌∙◌}
 use Rattle.std.specs.List.{AllByRecursion}
-use Rattle.rz_show.specs.Lines.{lines_left, IsShort}
-use Rattle.rz_show.specs.Written.{as_line}
-use Rattle.rz_show.proofs.Writes.{cut_short}
+use Rattle.rz_show.specs.Lines.{lines_left}
+use Rattle.rz_show_lines.specs.Cut.{IsShort}
+use Rattle.rz_show_lines.specs.Written.{as_line}
+use Rattle.rz_show_lines.proofs.Writes.{cut_short}
 use Rattle.rz_show.proofs.lines.ShowLines.next.Goals as goal
 
 pub returns : goal.returns

@@ -1,9 +1,10 @@
 use Rattle.std.proofs.Common.{map, refl, sym, ap, subst, ◌∙◌}
 use Rattle.std.specs.List.{AllByRecursion}
 use Rattle.rz_core.specs.declared.facts.Facts.{Facts}
-use Rattle.rz_show.specs.Lines.{hidden_in, IsShort, IsWithout}
+use Rattle.rz_show.specs.Lines.{hidden_in, IsWithout}
+use Rattle.rz_show_lines.specs.Cut.{IsShort}
 use Rattle.rz_show.specs.Statement.{data_lines}
-use Rattle.rz_show.specs.Written.{as_line}
+use Rattle.rz_show_lines.specs.Written.{as_line}
 use Rattle.rz_show.proofs.Heads.{data_left, ready_without}
 use Rattle.rz_show.proofs.Short.{data_short}
 use Rattle.rz_show.proofs.lines.ShowLines.of_bytes.Goals as goal

@@ -3,11 +3,11 @@ use Rattle.std.specs.List.{AllByRecursion}
 use Rattle.rz_core.specs.declared.facts.Facts.{Facts}
 use Rattle.rz_types.specs.Field.{plain_body}
 use Rattle.rz_show.specs.Height.{heights}
-use Rattle.rz_show.specs.Hidden.{hides}
-use Rattle.rz_show.specs.Lines.{hidden_in, left, lines_left, IsOpen, IsShort}
-use Rattle.rz_show.specs.Single.{hides_in}
+use Rattle.rz_show.specs.Hidden.{hides, hides_in}
+use Rattle.rz_show.specs.Lines.{hidden_in, left, lines_left, IsOpen}
+use Rattle.rz_show_lines.specs.Cut.{IsShort}
 use Rattle.rz_show.specs.Statement.{row_items, row_lines, statement_lines}
-use Rattle.rz_show.specs.Written.{as_line}
+use Rattle.rz_show_lines.specs.Written.{as_line}
 use Rattle.rz_show.proofs.Heads.{ready_first, resource_left, row_fits}
 use Rattle.rz_show.proofs.Names.{shaped_names}
 use Rattle.rz_show.proofs.Short.{row_short}

@@ -1,5 +1,0 @@
-use Rattle.rz_catalog_laws.proofs.Changes.{changed_catalogue}
-use Rattle.rz_catalog_laws.proofs.laws.changed_catalogue.Goals as goal
-
-pub returns : goal.returns
-returns c types moment over list new entries own is are = changed_catalogue types moment entries c.one_tree.ensures over list new own is are

@@ -1,5 +1,0 @@
-use Rattle.rz_catalog_laws.proofs.Own.{own_catalogue}
-use Rattle.rz_catalog_laws.proofs.laws.own_catalogue.Goals as goal
-
-pub returns : goal.returns
-returns c types moment over list entries keys are = own_catalogue types moment over list entries keys are

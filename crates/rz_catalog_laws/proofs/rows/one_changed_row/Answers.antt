@@ -1,5 +1,0 @@
-use Rattle.rz_catalog.proofs.Changed.{one_changed}
-use Rattle.rz_catalog_laws.proofs.rows.one_changed_row.Goals as goal
-
-pub returns : goal.returns
-returns c = one_changed

@@ -1,4 +1,0 @@
-use Rattle.rz_show.proofs.line.Line.+digits.Given as goal
-
-abbrev pub decreases-digits : goal.decreases-digits
-decreases-digits l = l.count

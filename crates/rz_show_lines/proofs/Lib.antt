@@ -1,0 +1,6 @@
+pub mod Writes
+pub mod Pieces
+pub mod Octal
+pub mod ShortTokens
+pub mod ShortItems
+pub mod Examples
