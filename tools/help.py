@@ -48,7 +48,8 @@ class Help:
         about, rows = about.split("  -", 1)
         about, self.order = " ".join(about.split()).rsplit(". ", 1)
         self.about = about + "."
-        said = (sentence.split(" ", 1) for sentence in re.split(r"[.;] ?", about))
+        others = r"[.;] ?|, and (?=(?:%s) )" % "|".join(self.forms)
+        said = (sentence.split(" ", 1) for sentence in re.split(others, about))
         self.commands = {name: does for name, does in said if name in self.forms}
         self.rows = {}
         for row in re.split(r"(?m)^  (?=-)", "  -" + rows)[1:]:

@@ -4,8 +4,8 @@
     python3 tools/messages.py
 
 Each fault that crates/rz_core/src/message.rt names has a row of a table in docs/MESSAGES.md, which begins with its
-number and name, and a line of output there, but 452, which no command says, and 461 to 464, which none says yet.
-tools/tour.py looks whether the commands there print these lines. No case of crates/rezkit_cases that is refused ends with the line of a warning, of which there is
+number and name, and a line of output there, but 452, which no command says. tools/tour.py looks whether the commands
+there print these lines. No case of crates/rezkit_cases that is refused ends with the line of a warning, of which there is
 one, 240. What is wrong is printed, and the status is 1 if anything is.
 """
 import glob
@@ -14,7 +14,7 @@ import re
 import sys
 
 TOP = os.path.join(os.path.dirname(os.path.abspath(__file__)), "..")
-UNSAID = {("452", "UnknownCode"), ("461", "BadEntry"), ("462", "NoLeaf"), ("463", "EntryTwice"), ("464", "TextRefused")}
+UNSAID = {("452", "UnknownCode")}
 
 
 def text_of(path):

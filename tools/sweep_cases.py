@@ -84,6 +84,11 @@ SWEEPS = [
         ("det", "a fork that is whole", "out", 1, 8),
         ("det", "BinHex without its last colon", "err", 1, 12),
     ]),
+    ("strings and restring: reads of the type file, the fork and the catalogue, and a write", [
+        ("catalog", "listed: an application", "folder", 2, 0),
+        ("catalog", "an application in French", "folder", 3, 1),
+        ("catalog", "AppleDouble: the header alone is written", "folder", 3, 1),
+    ]),
     ("warnings: after a read none is said, after a write all are", [
         ("types", "a declaration again is warned of", "folder", 1, 1),
     ]),
