@@ -1,6 +1,7 @@
 //! What the `type` statements of cases declare.
 
 ghost use Rattle.std.specs.Prelude.{◌≡◌, true, IfOk};
+ghost use Rattle.rz_stmt.specs.Grammar.{statement_of, IsShapedStatement};
 ghost use Rattle.rz_stmt_type.specs.Constants.{made_of};
 ghost use Rattle.rz_stmt_type.specs.Shaped.{IsShapedMade};
 ghost use Rattle.rz_lex.specs.Lexeme.{AreLexed};
@@ -41,8 +42,22 @@ pub fn declaration(alloc: Global, text: &str) -> Result<DeclareStmt, CaseFault>
         return Err(CaseFault::NoTokens);
     }
     match parse(alloc, &tokens, Span { start: 0, end }) {
-        Ok(Stmt::Declare(declare)) => Ok(declare),
-        _ => Err(CaseFault::NoCase),
+        Ok(stmt) => declared_by(stmt),
+        Err(_) => Err(CaseFault::NoCase),
+    }
+}
+
+/// The `type` statement that a statement is.
+fn declared_by(stmt: Stmt) -> Result<DeclareStmt, CaseFault>
+    requires { IsShapedStatement (statement_of stmt) }
+    ensures { IfOk result (λ declare. IsShapedMade (made_of declare.made)) }
+{
+    match stmt {
+        Stmt::Declare(declare) => Ok(declare),
+        other => {
+            drop(other);
+            Err(CaseFault::NoCase)
+        }
     }
 }
 
