@@ -1,9 +1,10 @@
 -- What `restring` writes has the texts of its catalogue, and all else stays.
-use Rattle.std.proofs.Common.{◌≡◌, inl, inr, ℕ, Bool, List, [], ◌∷◌, Option, Some, None, Ok, Err, sym, ap, subst, ◌∙◌}
+use Rattle.std.proofs.Common.{◌≡◌, inl, inr, ℕ, Bool, List, [], ◌∷◌, map, Option, Some, None, Ok, Err, sym, ap, subst, ◌∙◌}
 use Rattle.std.specs.Prelude.{IfSome}
 use Rattle.std.specs.declared.result.Result.{Result}
 use Rattle.rz_catalog.specs.Apply.{Applied}
-use Rattle.rz_catalog.specs.Became.{BecameEach}
+use Rattle.rz_catalog.specs.Became.{with_text, BecameEach}
+use Rattle.rz_catalog.specs.Catalogue.{IsCatalogue}
 use Rattle.rz_catalog_entries.specs.declared.entry.Entry.{Entry}
 use Rattle.rz_core.specs.declared.fault.Fault.{Fault}
 use Rattle.rz_core.specs.declared.moment.Moment.{Moment}
@@ -28,10 +29,15 @@ ResourcesBecome =
     (types : List Declaration) (moment : Moment) (over : Bool) (list new : List Resource) (entries : List Entry) → Applied types moment over list entries (Ok new)
     → BecameEach types moment entries list new
 
+abbrev pub CataloguesBecome : Type 0
+CataloguesBecome =
+    (types : List Declaration) (moment : Moment) (over : Bool) (list new : List Resource) (entries own : List Entry) → Applied types moment over list entries (Ok new)
+    → IsCatalogue types moment list own → IsCatalogue types moment new (map (with_text entries) own)
+
 ok_err : {X : Type 0} (value : X) (fault : Fault) → ◌≡◌ {A = Result X Fault} (Ok value) (Err fault) → ⊥
 ok_err value fault is = cc is
 
-module _ (law : ResourcesBecome) (moment : Moment) (asked : RestringAsked) (files : Files) where
+module _ (law : ResourcesBecome) (listed_law : CataloguesBecome) (moment : Moment) (asked : RestringAsked) (files : Files) where
   abbrev Written : Answer → Type 0
   Written wanted = (bytes : List ℕ) × IsChangedFile moment asked files bytes × (wanted.writes ≡ record { name = asked.output; bytes = bytes } ∷ [])
 
@@ -52,7 +58,9 @@ module _ (law : ResourcesBecome) (moment : Moment) (asked : RestringAsked) (file
       entries = entries;
       listed = listed;
       list = list;
+      applied = applied;
       became = law compiled.work.types moment asked.over base.fork.list list entries applied;
+      again = λ own. listed_law compiled.work.types moment asked.over base.fork.list list entries own applied;
       output = output;
     },
     ap (λ (a : Answer). a.writes) is ∙ ap (λ (m : Making). record { name = asked.output; bytes = m.bytes } ∷ []) (same_making making _ same),
@@ -65,7 +73,7 @@ restring_answered commands words asked (items, is, same) files moment wanted ans
     subst (λ (a : RestringAsked). AnswersRestring a files moment wanted) (sym same) (of_asked commands words (record { name = names.Restring; items = items }) is files moment wanted answers)
 
 -- a run that is done
-module _ (law : ResourcesBecome) (commands : OneCommand) (words : List (List ℕ)) (moment : Moment) (before after : World) (done : Answer) where
+module _ (law : ResourcesBecome) (listed_law : CataloguesBecome) (commands : OneCommand) (words : List (List ℕ)) (moment : Moment) (before after : World) (done : Answer) where
   pub leaves_others : (result : Outcome) → result ≡ Done → CarriesOut done before after result → (asked : RestringAsked) → IsRestring words asked
       → IfSome before.files (λ files. Answers words files moment done) → IfSome before.files (λ files. LeavesOthers moment asked files after.files)
   leaves_others result is carried asked as_asked answers =
@@ -76,5 +84,5 @@ module _ (law : ResourcesBecome) (commands : OneCommand) (words : List (List ℕ
           → IfSome b (λ files. LeavesOthers moment asked files after.files)
       by None ended written answers = tt
       by (Some files) ended written answers =
-          let made = changed law moment asked files done (restring_answered commands words asked as_asked files moment done answers) ended in
+          let made = changed law listed_law moment asked files done (restring_answered commands words asked as_asked files moment done answers) ended in
           (made.0, made.1, written ∙ ap (λ (writes : List Write). Some (files_after writes files)) made.2)

@@ -158,9 +158,9 @@ module _ (law : CataloguesArePutBack) (commands : OneCommand) (words : List (Lis
           let listed = listed_answer moment asked files bytes fork done (strings_answered commands words asked as_asked files moment done answers) ended there admits in
           let file = at_some (λ bytes. done.outcome ≡ Done → HoldsFile asked.from bytes) (finite.get files asked.file) bytes there held ended parts.0 parts.1 in (
             listed.compiled,
-            done.out,
+            listed.entries,
             listed.types,
-            written,
-            subst (IsPutBack listed.compiled.work.types moment fork.list) (sym listed.same)
-                (law listed.compiled.work.types moment parts.0.res_fork file fork parts.2 listed.entries listed.is),
+            listed.is,
+            written ∙ ap (λ (text : List ℕ). Some (out ++ text)) listed.same,
+            law listed.compiled.work.types moment parts.0.res_fork file fork parts.2 listed.entries listed.is,
           )

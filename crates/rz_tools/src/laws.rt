@@ -1,4 +1,4 @@
-//! Laws of answers and of the text of `derez`. `run` rests on those of answers and on that of a text read again.
+//! Laws of answers, of the text of `derez` and of catalogues. `run` rests on all but [`shown_forks_are_compiled_again`].
 
 ghost use Rattle.std.specs.Prelude.{◌≡◌, List, [], ℕ, Ok};
 ghost use Rattle.rz_core.specs.declared.moment.Moment.{Moment};

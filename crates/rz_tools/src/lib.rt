@@ -1,7 +1,7 @@
 //! The commands of rezkit: what the words ask for, and the run that does it. `run` carries out the answer to
 //! these words (`specs/Program.antt`), and words have exactly one answer. What `derez` shows of a fork means again to
 //! `rez` the resources that it shows, if each has at most 16,777,212 bytes. What `strings` lists of a fork gives its resources
-//! again, and what `restring` changes are texts alone.
+//! again, or 219, and of the values of resources `restring` changes texts alone.
 //! It rests on all crates below it: of `rz_tools_answer` it has how an answer is carried out, of `rz_tools_resource` and
 //! `rz_tools_work` what single statements give and do, of `rz_tools_output` what is written, of `rz_tools_text` how
 //! resources are shown, and of `rz_catalog` what their texts are. The folder, the streams and the moment are arguments of `run`.

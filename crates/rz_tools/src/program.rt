@@ -19,7 +19,7 @@ use crate::laws::{
     catalogues_are_put_back, every_answer, one_answer, reserved_words_are_spared,
     shown_forks_are_read_again,
 };
-use rz_catalog::others_stay;
+use rz_catalog::{changed_catalogue, others_stay};
 use rz_core::{Halt, Moment};
 use rz_folder::{Folder, Sink};
 use rz_tools_answer::{NO_MEMORY, Outcome, READ_FAULT, put_line};
@@ -36,9 +36,10 @@ use std::alloc::Global;
 /// before, and `out` has got a front of its text; after WriteFault the writes before the one that failed are done, and but
 /// for that one's file and a front of `out` all else is as before.
 /// After `derez` of a fork, where the resources that are shown have at most 16,777,212 bytes each, the text on `out`
-/// means these resources again to `rez`. After `strings` the catalogue on `out` gives the resources of its fork again, where
-/// it is put back under the same types; and after `restring` each resource has the catalogue's texts in place of its own, and
-/// all else stays. What `err` does changes no outcome. NoMemory may come in place of any other answer.
+/// means these resources again to `rez`. After `strings` the catalogue on `out`, put back under the same types, gives the
+/// resources of its fork again, or 219 where a protected one has a text and may not be changed. After `restring` the row of each
+/// resource has the catalogue's texts in place of its own, counts and labels are solved again, and all else of the resources
+/// stays. What `err` does changes no outcome. NoMemory may come in place of any other answer.
 pub fn run<F: Folder, O: Sink, E: Sink>(
     alloc: Global,
     words: &[String],
@@ -82,11 +83,11 @@ pub fn run<F: Folder, O: Sink, E: Sink>(
     ensures again { result ≡ Outcome.Done → (asked : DeRezAsked) → IsDeRez (map string_bytes words.now) asked
         → IfSome (F.files folder.old) (λ files. IfSome (O.written out.old) (λ before. ShowsAgain moment asked files before (O.written out.new))) }
 
-    // The catalogue that is listed of a fork gives the fork's resources again, put back under the same types.
+    // What is listed of a fork is exactly its catalogue, and gives its resources again, put back under the same types.
     ensures back { result ≡ Outcome.Done → (asked : StringsAsked) → IsStrings (map string_bytes words.now) asked
         → IfSome (F.files folder.old) (λ files. IfSome (O.written out.old) (λ before. ListsBack moment asked files before (O.written out.new))) }
 
-    // What is written of a fork and a catalogue has the catalogue's texts in their places, and all else of the fork stays.
+    // What is written of a fork and a catalogue has all texts of the catalogue in their places, and all else of the fork stays.
     ensures others { result ≡ Outcome.Done → (asked : RestringAsked) → IsRestring (map string_bytes words.now) asked
         → IfSome (F.files folder.old) (λ files. LeavesOthers moment asked files (F.files folder.new)) }
 {
@@ -97,6 +98,7 @@ pub fn run<F: Folder, O: Sink, E: Sink>(
     reserved_words_are_spared();
     definitions_are_free();
     catalogues_are_put_back();
+    changed_catalogue();
     others_stay();
     match answer(alloc, words, folder, moment) {
         Ok(reply) => reply.carry_out(alloc, folder, out, err),

@@ -182,8 +182,8 @@ pub fn bridges_are_asked_for_all()
 /// A law, with nothing to run: what `strings` answers for a fork is, as the catalogue of `restring` for the same fork under the
 /// same type files, and at the same moment, answered by the file of the same resources: if the type files mean the same where
 /// that catalogue stands, and the fork isn't read only (220). Or, where protected resources may not be changed, it is the
-/// refusal (219) of the first entry for one; or the fault of what such a file may hold. A raw file whose fork is the image of its
-/// resources comes out byte for byte.
+/// refusal (219) of the first entry for one; or the fault of what such a file may hold. If a file of the same resources is
+/// written, and the fork's file is raw and the image of its resources, it is that file byte for byte.
 pub fn own_strings_change_nothing()
     ensures answer { (words others : List (List ℕ)) (listed : StringsAsked) (asked : RestringAsked) (files after : Files) (moment : Moment) (bytes : List ℕ) (base : Base) (answer : Answer)
         → IsStrings words listed → Answers words files moment answer → answer.outcome ≡ Done

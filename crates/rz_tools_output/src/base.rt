@@ -1,4 +1,4 @@
-//! What `rez` begins with: a new file, or the one that it appends to. What is taken of it is in `specs/Base`.
+//! What `rez` and `restring` begin with: a new file, or one that is there. What is taken of it is in `specs/Base`.
 
 ghost use Rattle.std.specs.Prelude.{◌≡◌, ◌<◌, ◌≤◌, ◌^◌, [], ℕ, true, length, None, IfOk, IfSome};
 ghost use Rattle.std.specs.FinMap as finite;

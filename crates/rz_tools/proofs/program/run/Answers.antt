@@ -91,7 +91,7 @@ returns-in-Ok-clause-back g c is asked as_asked =
 pub returns-in-Ok-clause-others : goal.returns-in-Ok-clause-others
 returns-in-Ok-clause-others g c is asked as_asked =
     let made = c.carry_out.ensures.carried in
-    leaves_others c.others_stay.ensures c.one_command.ensures.command (map string_bytes c.args.words.now) c.args.moment _ _ made.0 c.carry_out.result is
+    leaves_others c.others_stay.ensures c.changed_catalogue.ensures c.one_command.ensures.command (map string_bytes c.args.words.now) c.args.moment _ _ made.0 c.carry_out.result is
     (carried_from made.0 _ c.carry_out.result _ _ _ _ _ _ _ _ _ _ c.in-Ok.ensures.reads.unchanged c.in-Ok.ensures.reads.counted c.in-Ok.ensures.reads.other_count made.2)
     asked as_asked
     (answers_so (λ files. Answers (map string_bytes c.args.words.now) files c.args.moment) c.in-Ok.reply made.0 made.1 (g.F.Folder.files c.args.folder.now) c.in-Ok.ensures.answered)
