@@ -23,7 +23,7 @@ use Rattle.rz_catalog.specs.Leaves.{leaves}
 use Rattle.rz_catalog.specs.Stock.{texts_in, texts_of, AreStocked, HasTree, Stocked}
 use Rattle.rz_catalog.proofs.Lookups.{any_map, at_front, behind_differ, each_own, first_map, holder_is, holder_of, leaves_differ, resources_of, stock_list, tested, IsOwn, LeavesDiffer, StockDiffers}
 use Rattle.rz_catalog.proofs.Pairs.{each_by, AreBy}
-use Rattle.rz_catalog.specs.Own.{is_locked, locked_fault, own_answer}
+use Rattle.rz_catalog.specs.Own.{is_protected_resource, protected_fault, own_answer}
 
 -- Entries as they were read.
 
@@ -79,23 +79,23 @@ module _ (stock : List Stocked) where
         by false false = refl
 
 -- its holder in the list
-locked_is : (list : List Resource) (stock : List Stocked) → resources_of stock ≡ list → (e : Entry) → is_protected (holder_of stock e) ≡ is_locked (first_such (λ r. is_entry_for r e) list)
-locked_is list stock is e =
-    by (holder_of stock e) ∙ ap is_locked (sym (first_map (λ r. is_entry_for r e) (λ s. s.resource) stock)) ∙ ap (λ (l : List Resource). is_locked (first_such (λ r. is_entry_for r e) l)) is
+protected_is : (list : List Resource) (stock : List Stocked) → resources_of stock ≡ list → (e : Entry) → is_protected (holder_of stock e) ≡ is_protected_resource (first_such (λ r. is_entry_for r e) list)
+protected_is list stock is e =
+    by (holder_of stock e) ∙ ap is_protected_resource (sym (first_map (λ r. is_entry_for r e) (λ s. s.resource) stock)) ∙ ap (λ (l : List Resource). is_protected_resource (first_such (λ r. is_entry_for r e) l)) is
   where
-    by : (o : Option Stocked) → is_protected o ≡ is_locked (option_map (λ s. s.resource) o)
+    by : (o : Option Stocked) → is_protected o ≡ is_protected_resource (option_map (λ s. s.resource) o)
     by None = refl
     by (Some s) = refl
 
 fault_is : (over : Bool) (list : List Resource) (entries : List Entry)
-    → (if over then None else option_map (fault_of 219) (first_such (λ e. is_locked (first_such (λ r. is_entry_for r e) list)) entries)) ≡ locked_fault over list entries
+    → (if over then None else option_map (fault_of 219) (first_such (λ e. is_protected_resource (first_such (λ r. is_entry_for r e) list)) entries)) ≡ protected_fault over list entries
 fault_is true list entries = refl
 fault_is false list entries = refl
 
 own_refused : (over : Bool) (list : List Resource) (stock : List Stocked) (entries : List Entry) → resources_of stock ≡ list → AllByRecursion (IsOwn stock) entries → LeavesDiffer [] entries
-    → first_refused over stock entries ≡ locked_fault over list entries
+    → first_refused over stock entries ≡ protected_fault over list entries
 own_refused over list stock entries is own differ =
-    refused_is stock over [] entries own differ ∙ (λ i. if over then None else option_map (fault_of 219) (first_such (λ e. locked_is list stock is e i) entries)) ∙ fault_is over list entries
+    refused_is stock over [] entries own differ ∙ (λ i. if over then None else option_map (fault_of 219) (first_such (λ e. protected_is list stock is e i) entries)) ∙ fault_is over list entries
 
 -- Texts that are the resource's own.
 
@@ -173,7 +173,7 @@ pub own_catalogue : (types : List Declaration) (moment : Moment) (over : Bool) (
 own_catalogue types moment over list entries keys (stock, are, is) = record {
   stock = stock;
   stocked = are;
-  is = subst (λ (fault : Option Fault). IsAppliedTo types moment stock entries fault (own_answer over list entries)) (sym refused) (by (locked_fault over list entries));
+  is = subst (λ (fault : Option Fault). IsAppliedTo types moment stock entries fault (own_answer over list entries)) (sym refused) (by (protected_fault over list entries));
 }
   where
     resources : resources_of stock ≡ list
@@ -185,7 +185,7 @@ own_catalogue types moment over list entries keys (stock, are, is) = record {
     own : AllByRecursion (IsOwn stock) entries
     own = own_unmarked stock entries (subst (AllByRecursion (IsOwn stock)) (sym is) (each_own [] stock differ))
 
-    refused : first_refused over stock entries ≡ locked_fault over list entries
+    refused : first_refused over stock entries ≡ protected_fault over list entries
     refused = own_refused over list stock entries resources own (differ_unmarked [] entries (subst (LeavesDiffer []) (sym is) (leaves_differ [] stock differ)))
 
     by : (fault : Option Fault) → IsAppliedTo types moment stock entries fault (unless_fault fault list)

@@ -12,7 +12,8 @@ use Rattle.rz_core.specs.declared.resource.Resource.{Resource}
 use Rattle.rz_types_fields.specs.declared.tree.Tree.{Tree}
 use Rattle.rz_types_table.specs.Table.{Declaration}
 use Rattle.rz_catalog.specs.Apply.{entry_fault, fault_of, first_refused, first_such, has_leaf, is_entry_for, is_protected, same_leaf, unless, with_bytes, Applied, IsAppliedTo, IsPut, IsRestrung}
-use Rattle.rz_catalog.specs.Stays.{bare, AreIn}
+use Rattle.rz_catalog.specs.Stays.{bare}
+use Rattle.rz_catalog_entries.specs.Stored.{AreEntriesIn}
 use Rattle.rz_catalog.specs.Stock.{AreStocked, Stocked}
 use Rattle.rz_catalog_entries.specs.InOrder.{EachInOrder}
 use Rattle.rz_catalog_entries.specs.declared.entry.Entry.{Entry}
@@ -81,7 +82,7 @@ module _ (files : ℕ) where
         (not (list_any (same_leaf e) before)) (fault_of 462 e) (fault_of 219 e) (fault_of 463 e)
         (record { number = refl; place = within }) (record { number = refl; place = within }) (record { number = refl; place = within }) fault is
 
-    first_told : (before entries : List Entry) (fault : Fault) → AreIn files entries → first_in (entry_fault over stock) before entries ≡ Some fault → IsNameable files fault
+    first_told : (before entries : List Entry) (fault : Fault) → AreEntriesIn files entries → first_in (entry_fault over stock) before entries ≡ Some fault → IsNameable files fault
     first_told before [] fault all is = absurd (none_some fault is)
     first_told before (e ∷ entries) fault all is = by (entry_fault over stock before e) refl (first_told (before ++ e ∷ []) entries fault all.1) is
       where
@@ -92,7 +93,7 @@ module _ (files : ℕ) where
         by (Some own) same behind is = entry_told before e fault all.0 (same ∙ is)
 
   module _ (types : List Declaration) (moment : Moment) where
-    put_told : (r : Resource) (tree : Option (List Tree)) (own : List Entry) → AreIn files own → (fault : Fault) → IsPut types moment r tree own (Err fault) → IsNameable files fault
+    put_told : (r : Resource) (tree : Option (List Tree)) (own : List Entry) → AreEntriesIn files own → (fault : Fault) → IsPut types moment r tree own (Err fault) → IsNameable files fault
     put_told r tree [] all fault is = absurd (ok_or_err r fault (sym is))
     put_told r None (first ∷ others) all fault is = absurd (ok_or_err r fault (sym is))
     put_told r (Some row) (first ∷ others) all fault (changed, texts, found, decided, is) = by found is
@@ -101,15 +102,15 @@ module _ (files : ℕ) where
         by None is = told 464 first fault (same_err {X = Resource} fault (fault_of 464 first) is) (record { number = refl; place = all.0 })
         by (Some bytes) is = absurd (ok_or_err (with_bytes r bytes) fault (sym is))
 
-    own_in : (test : Entry → Bool) (entries : List Entry) → AreIn files entries → AreIn files (filter test entries)
+    own_in : (test : Entry → Bool) (entries : List Entry) → AreEntriesIn files entries → AreEntriesIn files (filter test entries)
     own_in test [] all = tt
     own_in test (e ∷ entries) all = by (test e) (own_in test entries all.1)
       where
-        by : (own : Bool) → AreIn files (filter test entries) → AreIn files (if own then e ∷ filter test entries else filter test entries)
+        by : (own : Bool) → AreEntriesIn files (filter test entries) → AreEntriesIn files (if own then e ∷ filter test entries else filter test entries)
         by true rest = (all.0, rest)
         by false rest = rest
 
-    each_told : (entries : List Entry) → AreIn files entries → (stock : List Stocked) (fault : Fault) → EachInOrder (IsRestrung types moment entries) stock (Err fault) → IsNameable files fault
+    each_told : (entries : List Entry) → AreEntriesIn files entries → (stock : List Stocked) (fault : Fault) → EachInOrder (IsRestrung types moment entries) stock (Err fault) → IsNameable files fault
     each_told entries all [] fault is = absurd (ok_or_err {X = List Resource} [] fault (sym is))
     each_told entries all (s ∷ stock) fault (inl (new, put, inl (others, are, is))) = absurd (ok_or_err (new ∷ others) fault (sym is))
     each_told entries all (s ∷ stock) fault (inl (new, put, inr (other, bad, is))) = each_told entries all stock fault (subst (λ (f : Fault). EachInOrder (IsRestrung types moment entries) stock (Err f)) (sym (same_err {X = List Resource} fault other is)) bad)
@@ -117,7 +118,7 @@ module _ (files : ℕ) where
         put_told s.resource s.tree (filter (is_entry_for s.resource) entries) (own_in (is_entry_for s.resource) entries all) fault
         (subst (λ (f : Fault). IsRestrung types moment entries s (Err f)) (sym (same_err {X = List Resource} fault other is)) bad)
 
-    pub faults_told : (over : Bool) (list : List Resource) (entries : List Entry) (fault : Fault) → Applied types moment over list entries (Err fault) → AreIn files entries → IsNameable files fault
+    pub faults_told : (over : Bool) (list : List Resource) (entries : List Entry) (fault : Fault) → Applied types moment over list entries (Err fault) → AreEntriesIn files entries → IsNameable files fault
     faults_told over list entries fault applied all = by (first_refused over applied.stock entries) refl applied.is
       where
         by : (refused : Option Fault) → first_refused over applied.stock entries ≡ refused → IsAppliedTo types moment applied.stock entries refused (Err fault) → IsNameable files fault

@@ -107,6 +107,8 @@ abbrev pub IsAppliedTo : List Declaration → Moment → List Stocked → List E
 IsAppliedTo types moment stock entries (Some fault) answer = answer ≡ Err fault
 IsAppliedTo types moment stock entries None answer = EachInOrder (IsRestrung types moment entries) stock answer
 
+-- what is answered where these entries are applied to the list: the first fault of an entry, or else the list with the texts in place,
+-- or the first resource that can't have them
 pub record Applied (types : List Declaration) (moment : Moment) (over : Bool) (list : List Resource) (entries : List Entry)
     (answer : Result (List Resource) Fault) : Type 0 where
   pub stock : List Stocked

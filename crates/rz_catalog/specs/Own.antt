@@ -7,15 +7,15 @@ use Rattle.rz_core.specs.declared.resource.Resource.{Resource}
 use Rattle.rz_catalog_entries.specs.declared.entry.Entry.{Entry}
 use Rattle.rz_catalog.specs.Apply.{fault_of, first_such, is_entry_for}
 
-abbrev pub is_locked : Option Resource → Bool
-is_locked None = false
-is_locked (Some r) = not (bit_and r.attr 8 == 0)
+abbrev pub is_protected_resource : Option Resource → Bool
+is_protected_resource None = false
+is_protected_resource (Some r) = not (bit_and r.attr 8 == 0)
 
 -- the first entry of a protected resource, which is refused where these may not be changed
-abbrev pub locked_fault : (over : Bool) → List Resource → List Entry → Option Fault
-locked_fault true list entries = None
-locked_fault false list entries = option_map (fault_of 219) (first_such (λ e. is_locked (first_such (λ r. is_entry_for r e) list)) entries)
+abbrev pub protected_fault : (over : Bool) → List Resource → List Entry → Option Fault
+protected_fault true list entries = None
+protected_fault false list entries = option_map (fault_of 219) (first_such (λ e. is_protected_resource (first_such (λ r. is_entry_for r e) list)) entries)
 
 -- that refusal, or else the list
 abbrev pub own_answer : (over : Bool) → List Resource → List Entry → Result (List Resource) Fault
-own_answer over list entries = unless_fault (locked_fault over list entries) list
+own_answer over list entries = unless_fault (protected_fault over list entries) list

@@ -6,7 +6,8 @@ ghost use Rattle.rz_core.specs.declared.fault.Fault.{Fault};
 ghost use Rattle.rz_core.specs.declared.moment.Moment.{Moment};
 ghost use Rattle.rz_core.specs.declared.resource.Resource.{Resource};
 ghost use Rattle.rz_catalog.specs.Apply.{Applied};
-ghost use Rattle.rz_catalog.specs.Stays.{bare, AreIn};
+ghost use Rattle.rz_catalog.specs.Stays.{bare};
+ghost use Rattle.rz_catalog_entries.specs.Stored.{AreEntriesIn};
 ghost use Rattle.rz_catalog_entries.specs.declared.entry.Entry.{Entry};
 ghost use Rattle.rz_types_table.specs.Table.{Declaration};
 
@@ -20,5 +21,5 @@ pub fn resources_stay()
 /// A law, with nothing to run: each fault of entries has a number of the table of faults, and stands where one of them does.
 pub fn entry_faults_are_told()
     ensures { (types : List Declaration) (moment : Moment) (over : Bool) (list : List Resource) (entries : List Entry) (fault : Fault) (files : ℕ)
-        → Applied types moment over list entries (Err fault) → AreIn files entries → IsNameable files fault }
+        → Applied types moment over list entries (Err fault) → AreEntriesIn files entries → IsNameable files fault }
 {}

@@ -1,6 +1,7 @@
--- What every entry has, and entries without the places where they were read.
-use Rattle.std.specs.Prelude.{◌<◌, ◌^◌, FitsSigned}
+-- What every entry has, where entries stand, and entries without the places where they were read.
+use Rattle.std.specs.Prelude.{ℕ, ◌<◌, ◌^◌, FitsSigned, List}
 use Rattle.std.specs.Int.{w16}
+use Rattle.std.specs.List.{AllByRecursion}
 use Rattle.rz_lex.specs.Printed.{AreBytes}
 use Rattle.rz_catalog_entries.specs.declared.entry.Entry.{Entry}
 
@@ -14,3 +15,7 @@ pub record IsStored (entry : Entry) : Type 0 where
 -- the entry as one that was not read
 abbrev pub unmarked : Entry → Entry
 unmarked entry = record { kind = entry.kind; id = entry.id; leaf = entry.leaf; text = entry.text; mark = record { file = 0; line = 0 } }
+
+-- each entry stands in one of so many files
+abbrev pub AreEntriesIn : ℕ → List Entry → Type 0
+AreEntriesIn files entries = AllByRecursion (λ e. e.mark.file < files) entries

@@ -7,6 +7,7 @@ ghost use Rattle.rz_core.specs.Message.{IsNameable};
 ghost use Rattle.rz_core.specs.declared.fault.Fault.{Fault};
 ghost use Rattle.rz_lex.specs.declared.token.Token.{Token};
 ghost use Rattle.rz_catalog_entries.specs.Entries.{AreEntries};
+ghost use Rattle.rz_catalog_entries.specs.Stored.{AreEntriesIn};
 ghost use Rattle.rz_catalog_entries.specs.declared.entry.Entry.{Entry};
 
 use rz_lex::one_sign;
@@ -30,5 +31,5 @@ pub fn entries_are_in_files()
     ensures fault { (files : ℕ) (tokens : List Token) (fault : Fault) → AllByRecursion (λ token. token.mark.file < files) tokens
         → AreEntries tokens (Err fault) → IsNameable files fault }
     ensures entries { (files : ℕ) (tokens : List Token) (entries : List Entry) → AllByRecursion (λ token. token.mark.file < files) tokens
-        → AreEntries tokens (Ok entries) → AllByRecursion (λ entry. entry.mark.file < files) entries }
+        → AreEntries tokens (Ok entries) → AreEntriesIn files entries }
 {}

@@ -20,7 +20,7 @@ use Rattle.rz_pre.proofs.Placing.{all_append, cut_on}
 use Rattle.rz_pre.specs.Placed.{AreOn}
 use Rattle.rz_catalog_entries.specs.Entries.{AreEntries}
 use Rattle.rz_catalog_entries.specs.declared.entry.Entry.{Entry}
-use Rattle.rz_catalog_source.specs.Source.{AreEntriesIn}
+use Rattle.rz_catalog_entries.specs.Stored.{AreEntriesIn}
 
 -- Lines.
 

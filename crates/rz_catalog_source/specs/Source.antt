@@ -1,6 +1,5 @@
 -- The entries of the file of a catalogue. (MPW Rez.)
-use Rattle.std.specs.Prelude.{◌<◌, ℕ, List, Ok, Err}
-use Rattle.std.specs.List.{AllByRecursion}
+use Rattle.std.specs.Prelude.{ℕ, List, Ok, Err}
 use Rattle.std.specs.declared.result.Result.{Result}
 use Rattle.rz_core.specs.Answers.{Then}
 use Rattle.rz_core.specs.declared.fault.Fault.{Fault}
@@ -23,7 +22,3 @@ HaveEntries file text = Then (HasTokens file text) AreEntries
 -- the entries of a file: its text in Mac Roman, and then those of the text; or the first fault
 abbrev pub HasEntries : ℕ → List ℕ → Result (List Entry) Fault → Type 0
 HasEntries file source = Then (HasText file source) (HaveEntries file)
-
--- each entry stands in one of so many files
-abbrev pub AreEntriesIn : ℕ → List Entry → Type 0
-AreEntriesIn files entries = AllByRecursion (λ e. e.mark.file < files) entries

@@ -3,7 +3,8 @@
 ghost use Rattle.std.specs.Prelude.{◌<◌, ◌+◌, ◌^◌, length, IfOk};
 ghost use Rattle.rz_core.specs.Message.{IsNameable};
 ghost use Rattle.rz_core.specs.Stop.{Meets, OnFault};
-ghost use Rattle.rz_catalog_source.specs.Source.{AreEntriesIn, HasEntries, HaveEntries};
+ghost use Rattle.rz_catalog_entries.specs.Stored.{AreEntriesIn};
+ghost use Rattle.rz_catalog_source.specs.Source.{HasEntries, HaveEntries};
 
 use rz_catalog_entries::{Entries, entries_are_in_files, read_entries};
 use rz_core::{Bytes, Fault, Stop};

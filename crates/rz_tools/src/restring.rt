@@ -3,7 +3,7 @@
 
 ghost use Rattle.std.specs.Prelude.{◌≡◌, ◌<◌, ◌+◌, ◌^◌, ◌≤◌, [], ℕ, length, Err, IfOk, IfSome};
 ghost use Rattle.std.specs.FinMap as map;
-ghost use Rattle.rz_catalog_source.specs.Source.{AreEntriesIn};
+ghost use Rattle.rz_catalog_entries.specs.Stored.{AreEntriesIn};
 ghost use Rattle.rz_core.specs.Answers.{Then};
 ghost use Rattle.rz_core.specs.Message.{IsNameable};
 ghost use Rattle.rz_core.specs.Resources.{KeysDiffer};
