@@ -8,8 +8,8 @@ of twenty, are made in folders of their own, which are removed at the end. `stri
 puts another text in the place of each; `derez` shows the fork by the fields of the type, and `rez` compiles that text.
 What is written is compared byte by byte with what is made here. Seven runs are made of each, in turn; counted are the
 least time of the processor and the most memory. The status is 1 where a run fails, something differs, twice as many texts
-take more than 2.5 times the time or the memory, or `strings` takes more than twice the time of `derez`, or `restring` more
-than twice that of `rez`. Memory is told by `/usr/bin/time -v`.
+take more than 2.5 times the time or the memory, or with lists of ten `strings` takes more than twice the time of `derez`,
+or `restring` more than twice that of `rez`. Memory is told by `/usr/bin/time -v`.
 """
 import os
 import random
@@ -92,7 +92,7 @@ def main():
         for name, (seconds, memory, right) in took.items():
             growth = (seconds / before[name][0], memory / before[name][1]) if before else (0, 0)
             beside = seconds / took[BESIDE[name]][0] if name in BESIDE else 0
-            good = good and right and (name not in BESIDE or max(growth) <= MOST_GROWTH and beside <= MOST_TIMES)
+            good = good and right and (name not in BESIDE or max(growth) <= MOST_GROWTH and (before or beside <= MOST_TIMES))
             print("%-8d %-9s %8.3f %8.1f %7s %6s %8s%s" % (LISTS * count, name, seconds, memory / MB,
                                                            *("%.2f" % each if each else "" for each in growth),
                                                           "%.2f" % beside if beside else "", "" if right else "  other bytes"), flush=True)
