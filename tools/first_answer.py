@@ -240,7 +240,9 @@ def places(copy):
     os.symlink("a link", chain)
     copy.answers("through a link", script=[link], folder="/")
     copy.answers("through a link to a link", script=["./chain"], folder=copy.room)
-    copy.answers("by a CDPATH", env={"PATH": copy.path_words, "CDPATH": copy.room}, script=["./rezkit"])
+    os.mkdir(os.path.join(copy.room, "tools"))
+    copy.run("tools/program where CDPATH has another folder tools", [], 0, copy.path("prebuilt/rezkit\n"), "",
+             script=["/bin/sh", "tools/program"], env={"PATH": copy.path_words, "CDPATH": copy.room})
     copy.answers("without standard input", stdin=None, preexec_fn=lambda: os.close(0))
     copy.run("words that hold blanks and stars", ["derez", "* $(no)"], 2, "", 'rezkit: error 101 MissingFile: "* $(no)"\n')
     copy.run("a moment that is none", ["--version"], 5, "", "rezkit: SOURCE_DATE_EPOCH isn't a decimal number from 0 to "
