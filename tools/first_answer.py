@@ -6,9 +6,9 @@
 PROGRAM is the one that ./rezkit runs unless another is named. It is put into a copy of what ./rezkit needs, and tools/ship
 writes prebuilt/ there, with a command `rt` that tells a version and does nothing else. Then ./rezkit is run without `rt`:
 as it stands, with a changed source, a damaged program, a program of another sum, a stale record and so on; with a program
-that can't be loaded, on another processor, through a link, in a read-only folder, from another folder, two at once. What it
-has to write and to say stands here by hand, and each run has to end in less than a second of processor time. What comes
-otherwise is printed, and the status is 1.
+that can't be loaded, on another processor, through a link, in a read-only folder, from another folder, eight at once. Last
+it is run with an `rt` that seems to prove the program. What ./rezkit has to write and to say stands here by hand, and each
+run has to end in less than a second of processor time. What comes otherwise is printed, and the status is 1.
 """
 import os
 import resource
@@ -272,6 +272,24 @@ def read_only(copy):
     copy.tell("no file is made", before, sorted(os.path.join(at, name) for at, _, names in os.walk(copy.top) for name in names))
 
 
+@kept
+def proving(copy):
+    """With `rt` the program of changed sources is proved and built; here by an `rt` that only seems to do so."""
+    write(copy.path("crates/rz_lex/src/lexer.rt"), "another\n")
+    built = copy.path("crates/rezkit/out/rezkit")
+    said = (SOURCE[:-len(NO_RT)] + "rezkit: proving and building the program; this is done once, and takes about 30 minutes on "
+            "four cores\n")
+    check = "#!/bin/sh\ncase $1 in\nall) seq -f '== rz_%g' 55; exec sleep 100 ;;\nesac\n"
+    fails = copy.tools("fails", rt=check + "echo 'rz_lex: not proved'\nexit 1\n")
+    proves = copy.tools("proves", rt=check + "cp ../../prebuilt/rezkit out/rezkit\n")
+    others = os.pathsep + os.environ.get("PATH", os.defpath)
+    copy.refuses("proofs that fail", said, path=fails + others, front=True)
+    copy.tell("proofs that fail: no program", False, os.path.exists(built))
+    copy.run("proofs that end well", ["--version"], 0, "rezkit 0.1.0\n", said, path=proves + others, front=True)
+    copy.run("the program that was proved", ["--version"], 0, "rezkit 0.1.0\n", "")
+    os.remove(built)
+
+
 def built_here(copy):
     """A program that was built here goes first, unless a source is newer."""
     built = copy.path("crates/rezkit/out/rezkit")
@@ -295,8 +313,8 @@ def main():
         copy.tell("--check", ("prebuilt/rezkit has the sums of its record, and so have the sources\n"
                               "prebuilt/rezkit is crates/rezkit/out/rezkit byte for byte\n", 0), copy.ship("--check"))
         os.remove(copy.path("crates/rezkit/out/rezkit"))
-        for tries in (places, two_at_once, read_only, changed_sources, changed_crates, changed_programs, built_here,
-                      other_machines, unloadable_programs):
+        for tries in (places, two_at_once, read_only, changed_sources, changed_crates, changed_programs, proving,
+                      built_here, other_machines, unloadable_programs):
             tries(copy)
     print("%d looks, %d differences" % (copy.count, copy.wrong))
     sys.exit(1 if copy.wrong else 0)
