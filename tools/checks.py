@@ -6,9 +6,9 @@
 The files of cases that a script writes are what it would write now, and a second reading shows what they show; the
 documents name what is there; docs/MESSAGES.md has each message; the help text describes each option; and, with the
 programs that the gate built, the commands that README.md, docs/TOUR.md, docs/MESSAGES.md, docs/DAMAGED.md,
-docs/TEMPLATES.md, docs/TRANSLATING.md and docs/PORTING.md show print what stands there, SOURCE_DATE_EPOCH is the moment of
-a run, odd words, names and limits of the host are met, and case files that are broken or differ are told. A check whose
-program isn't there is skipped and says so. The status is 1 if one fails.
+docs/TEMPLATES.md, docs/TYPES.md, docs/TRANSLATING.md and docs/PORTING.md show print what stands there,
+SOURCE_DATE_EPOCH is the moment of a run, odd words, names and limits of the host are met, and case files that are
+broken or differ are told. A check whose program isn't there is skipped and says so. The status is 1 if one fails.
 """
 import glob
 import os
