@@ -4,17 +4,16 @@
    restring FORK TEXTS types/Texts.r     puts them back
    derez FORK types/Texts.r              shows where each text stands
 
-   The texts of these resources are all that they have to be translated, so nothing else becomes an entry of a
-   catalogue. A number may have any value that a file has, also one that has no meaning. A source includes Types.r
-   instead of this file, which names the values.
+   In a catalogue are the texts of these resources, and padding. All else is a number, which may have any value, also one
+   without a meaning. Sources include Types.r, which names the values.
 
-   Padding is the byte that makes the length before it even. Most programs write a zero there, some leave any byte. The
-   padding after the text of a dialog item, and after the title of a window or a dialog that has a position, is a string:
-   the language has no number whose place depends on a text before it. So it is an entry too, with the number after that
-   of its text. An empty entry stands for no padding, and for one that is zero.
+   Padding is one byte where a text ends at an odd place, and else none. Most programs write a zero there, some leave any
+   byte. Only a string can be one byte or none by the place where it stands. So the padding after the text of a dialog
+   item, and after the title of a window or a dialog that has a position, is a string, and an entry with the number after
+   that of its text. An empty entry stands for no padding, and for one that is zero.
 
    Each comment names the book of Inside Macintosh that has the layout, and its chapter: Essentials is Macintosh Toolbox
-   Essentials, More is More Macintosh Toolbox, and Text has its own name. */
+   Essentials, More is More Macintosh Toolbox, and Text has its own name. Types without a book are as Types.r has them. */
 #ifndef __TEXTS_R__
 #define __TEXTS_R__
 
@@ -176,11 +175,11 @@ type 'vers' {
     pstring;
 };
 
-/* The words of Open and Quit in menus with other ones, and lists of them. MPW's SysTypes.r declares them. */
+/* The words of Open and Quit in menus with other ones, and lists of them. */
 type 'mstr' as 'STR ';
 type 'mst#' as 'STR#';
 
-/* The text of an error, for tools of MPW. MPW's SysTypes.r declares it. */
+/* The text of an error, whose id is the error's number. */
 type 'Estr' as 'STR ';
 
 /* Which help belongs to which window, by the beginning of its title. More, Help Manager. */

@@ -43,9 +43,7 @@
    without a book are of Mac OS 8 or of a tool.
 
    Not here yet: hmnu, hdlg and hovr, whose parts begin with their length as those of hfdr do, and ictb. Of snd and FOND
-   the parts after the fields that stand here are one string, and so are the pixels of what has some.
-
-   For a translation Texts.r is the better file: it declares the types that have texts, and no other ones. */
+   the parts after the fields here are one string, and so are pixels. Texts.r has the types of a translation alone. */
 #ifndef __TYPES_R__
 #define __TYPES_R__
 
