@@ -29,7 +29,7 @@ WALKS = (
     ("docs/TRANSLATING.md",),
     ("docs/PORTING.md",),
 )
-TOOLS = ("cpp", "git", "make", "xxd")
+TOOLS = ("cpp", "git", "make", "unar", "xxd")
 
 
 def parts_of(text):
