@@ -337,11 +337,11 @@ class Rows:
                          "Written by tools/row_cases.py, where all that comes stands by hand, and is told by tools/shown.py.")
         self.names = set()
 
-    def case(self, name, words, files, leaves=(), out=""):
+    def case(self, name, words, files, leaves=(), out="", keys=()):
         """A case that no other has the name of."""
         assert name not in self.names, name
         self.names.add(name)
-        self.book.case(name, words, files, (), 0, leaves, (), out)
+        self.book.case(name, words, files, keys, 0, leaves, (), out)
 
     def read(self, line, head):
         """A case of what is read of bytes, and one of the text that is shown, or of items by hand."""
@@ -396,7 +396,7 @@ class Rows:
             text, times = piece if isinstance(piece, tuple) else (piece, 1)
             digits = text.replace("¶", "\n").encode().hex().upper()
             out.append(digits + ("*%d" % times if times > 1 else ""))
-        self.case("%d bytes: %s" % (count, fields), "derez f t.r", [("f", fork), ("t.r", types)], (), out)
+        self.case("%d bytes: %s" % (count, fields), "derez f t.r", [("f", fork), ("t.r", types)], (), out, ["room out 10000000"])
 
 
 def main():

@@ -637,7 +637,8 @@ class Statements:
             return
         resources = resources_of(wanted)
         fork = image(resources)
-        self.book.case(text, words, [("s.r", source)] + files, (), 0, [("x", fork)])
+        room = ["room folder 1 10000000"] if len(fork) > 900000 else []
+        self.book.case(text, words, [("s.r", source)] + files, room, 0, [("x", fork)])
         if items:
             self.book.case("shown: " + text, "derez f s.r", [("f", fork), ("s.r", source)], (), 0, (), (),
                            shown_text(resources[0], items))
