@@ -25,11 +25,25 @@ pub fn run_cases<R: Files + AllocGlobal + Print + Clone + Drop, C: Command>(
     command: &C,
 ) -> Result<ExitCode> {
     let mut tally = Tally::default();
-    for file in &case_files(rt, folder)? {
-        run_group(rt, command, file.as_str(), &mut tally)?;
-    }
+    let files = case_files(rt, folder)?;
+    let ran = run_files(rt, command, &files, &mut tally);
+    drop(files);
+    ran?;
     println!(rt; "{tally}")?;
     Ok(tally.exit_code())
+}
+
+/// Runs the cases of files.
+fn run_files<R: Files + AllocGlobal + Print, C: Command>(
+    rt: &R,
+    command: &C,
+    files: &[String],
+    tally: &mut Tally,
+) -> Result<()> {
+    for file in files {
+        run_group(rt, command, file.as_str(), tally)?;
+    }
+    Ok(())
 }
 
 /// The paths of the case files in a folder, in order.
@@ -72,28 +86,53 @@ fn run_group<R: Files + AllocGlobal + Print, C: Command>(
     name: &str,
     tally: &mut Tally,
 ) -> Result<()> {
-    let cases = match cases_in(rt, name) {
-        Ok(cases) => cases,
+    match cases_in(rt, name) {
+        Ok(cases) => {
+            let ran = run_each(rt, command, name, &cases, tally);
+            drop(cases);
+            ran
+        }
         Err(trouble) => {
             tally.add_unread();
             println!(rt; "{name}:{trouble}")?;
-            return Ok(());
+            Ok(())
         }
-    };
-    for case in &cases {
-        let differs = match print_differences(rt, command, name, case) {
-            Ok(differs) => differs,
-            Err(error) => {
-                println!(rt; "{name}:{error}")?;
-                true
-            }
-        };
-        tally.add(differs);
+    }
+}
+
+/// Runs cases, prints what differs, and counts them.
+fn run_each<R: AllocGlobal + Print, C: Command>(
+    rt: &R,
+    command: &C,
+    name: &str,
+    cases: &[Case],
+    tally: &mut Tally,
+) -> Result<()> {
+    for case in cases {
+        tally.add(is_other(rt, command, name, case)?);
         if let Some(sweep) = &case.sweep {
             tally.add_sweep(sweep);
         }
     }
     Ok(())
+}
+
+/// Runs a case, and says whether it differs or can't be run. Why is printed.
+fn is_other<R: AllocGlobal + Print, C: Command>(
+    rt: &R,
+    command: &C,
+    name: &str,
+    case: &Case,
+) -> Result<bool> {
+    match print_differences(rt, command, name, case) {
+        Ok(differs) => Ok(differs),
+        Err(error) => {
+            let printed = println!(rt; "{name}:{error}");
+            drop(error);
+            printed?;
+            Ok(true)
+        }
+    }
 }
 
 /// The cases that a file has.
