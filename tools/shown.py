@@ -541,7 +541,7 @@ class Bits:
     """The bits of a resource, from the front, and how many values were read of it."""
 
     def __init__(self, content):
-        self.number, self.length, self.at = int.from_bytes(content, "big"), 8 * len(content), 0
+        self.content, self.length, self.at = content, 8 * len(content), 0
         self.values = 0
 
     def left(self):
@@ -550,8 +550,9 @@ class Bits:
     def take(self, width):
         if width > self.left():
             raise NoRow
-        self.at += width
-        return self.number >> (self.length - self.at) & ((1 << width) - 1)
+        first, self.at = self.at // 8, self.at + width
+        last = (self.at + 7) // 8
+        return int.from_bytes(self.content[first:last], "big") >> (8 * last - self.at) & ((1 << width) - 1)
 
     def take_bytes(self, count):
         return self.take(8 * count).to_bytes(count, "big")
@@ -630,7 +631,8 @@ def read_rows(field, rest, counts, facts, bits):
     count = field["count"]
     if count is None:
         count = counts.get(field["name"])
-    while len(rows) < count if count is not None else bits.left() - width_of(rest) >= 8:
+    behind = width_of(rest)
+    while len(rows) < count if count is not None else bits.left() - behind >= 8:
         bits.count(1)
         rows.append(read_row(row, {**counts, ("row", field["name"]): len(rows) + 1}, facts, bits))
     if field["name"]:
@@ -820,7 +822,7 @@ def resource_text(resource, table, hidden, moment):
     fields, content = found(table, resource[0], resource[1]), resource[4]
     word, lines = "data", ["    " + hex_text(each) for each in pieces(content, 16)]
     row = None if fields is None else row_by_both(fields, content, resource + (moment,))
-    if row is not None and not uses_hidden(fields, row, hidden):
+    if row is not None and not (hidden and uses_hidden(fields, row, hidden)):
         word, lines = "resource", lines_of(items_of(fields, row, hidden), 1)
     return "\n".join([head_text(word, resource)] + lines + ["};", "", ""])
 

@@ -1,4 +1,4 @@
-//! What the `type` statements of cases declare.
+//! The fields that cases declare.
 
 ghost use Rattle.std.specs.Prelude.{◌≡◌, true, IfOk};
 ghost use Rattle.rz_stmt.specs.Grammar.{statement_of, IsShapedStatement};
@@ -10,7 +10,7 @@ ghost use Rattle.rz_types.specs.Shape.{is_well_shaped};
 
 use rz_core::{Bytes, Mark};
 use rz_lex::{RawLine, Tokens, cut, tokens_are_lexed};
-use rz_stmt::{DeclareStmt, Made, Span, Stmt, parse};
+use rz_stmt::{Made, Span, Stmt, parse};
 use rz_test_tables::CaseFault;
 use rz_types::{Body, Template};
 use rz_types_check::check;
@@ -31,38 +31,8 @@ fn tokens_in(alloc: Global, line: &str) -> Result<Tokens, CaseFault>
     }
 }
 
-/// The `type` statement with this text behind its word.
-pub fn declaration(alloc: Global, text: &str) -> Result<DeclareStmt, CaseFault>
-    ensures { IfOk result (λ declare. IsShapedMade (made_of declare.made)) }
-{
-    let line = format!(in alloc; "type {text};")?;
-    let tokens = tokens_in(alloc, line.as_str())?;
-    let end = tokens.len();
-    if end == 0 {
-        return Err(CaseFault::NoTokens);
-    }
-    match parse(alloc, &tokens, Span { start: 0, end }) {
-        Ok(stmt) => declared_by(stmt),
-        Err(_) => Err(CaseFault::NoCase),
-    }
-}
-
-/// The `type` statement that a statement is.
-fn declared_by(stmt: Stmt) -> Result<DeclareStmt, CaseFault>
-    requires { IsShapedStatement (statement_of stmt) }
-    ensures { IfOk result (λ declare. IsShapedMade (made_of declare.made)) }
-{
-    match stmt {
-        Stmt::Declare(declare) => Ok(declare),
-        other => {
-            drop(other);
-            Err(CaseFault::NoCase)
-        }
-    }
-}
-
 /// The fields that a declaration has of its own.
-pub fn fields_in(made: Made) -> Result<Body, CaseFault>
+fn own_fields(made: Made) -> Result<Body, CaseFault>
     requires { IsShapedMade (made_of made) }
     ensures { IfOk result (λ body. is_well_shaped (plain_body body) ≡ true) }
 {
@@ -76,9 +46,30 @@ pub fn fields_in(made: Made) -> Result<Body, CaseFault>
 pub fn fields_of(alloc: Global, fields: &str) -> Result<Body, CaseFault>
     ensures { IfOk result (λ body. is_well_shaped (plain_body body) ≡ true) }
 {
-    let text = format!(in alloc; "'Test' {{ {fields} }}")?;
-    let declare = declaration(alloc, text.as_str())?;
-    fields_in(declare.made)
+    let line = format!(in alloc; "type 'Test' {{ {fields} }};")?;
+    let tokens = tokens_in(alloc, line.as_str())?;
+    let end = tokens.len();
+    if end == 0 {
+        return Err(CaseFault::NoTokens);
+    }
+    match parse(alloc, &tokens, Span { start: 0, end }) {
+        Ok(stmt) => fields_in(stmt),
+        Err(_) => Err(CaseFault::NoCase),
+    }
+}
+
+/// The fields that a statement declares of its own.
+fn fields_in(stmt: Stmt) -> Result<Body, CaseFault>
+    requires { IsShapedStatement (statement_of stmt) }
+    ensures { IfOk result (λ body. is_well_shaped (plain_body body) ≡ true) }
+{
+    match stmt {
+        Stmt::Declare(declare) => own_fields(declare.made),
+        other => {
+            drop(other);
+            Err(CaseFault::NoCase)
+        }
+    }
 }
 
 /// The template of a declaration with these fields.

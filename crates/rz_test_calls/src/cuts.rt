@@ -38,3 +38,11 @@ a ] ; ( ; ) ; => 0-3.3-7.
 ";" ';' /* ; */ a ; b => 0-4.4-5.
 "{" ; b => 0-2.2-3.
 "#;
+
+/// Texts of more than one statement, which aren't one, and one that is.
+pub const WHOLES: &str = r#"
+data 'Test' (1) { "a" }; => one
+data 'Test' (1) { "a" }; ; => 201
+type 'Byte' { byte; }; ; => 201
+resource 'Test' (1) { };; => 201
+"#;
