@@ -38,7 +38,7 @@ def checks(program):
     found.append(("tools/fork.py", ["tools/fork.py", "--check", *sorted(cases)], None))
     for name in ("calls", "help", "wrong_bodies"):
         found.append(("tools/%s.py" % name, ["tools/%s.py" % name, "--check"], None))
-    for name in ("links", "messages"):
+    for name in ("links", "messages", "tried_edits"):
         found.append(("tools/%s.py" % name, ["tools/%s.py" % name], None))
     found.append(("tools/harness.py", ["tools/harness.py"], HARNESS))
     return found
