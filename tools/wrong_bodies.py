@@ -14,7 +14,7 @@ The script needs `rt`, Rattle's command. It copies the crates, names the folders
 `rt must-fail` try them there, over what `rt` kept of the proofs in `out/`. So it takes about a minute for a crate whose
 libraries are built (`rt lib` in the crate's folder builds them), and else as long as these take to be proved. What is tried
 is told a line each. Of each edit that was refused it writes the line in tools/wrong_bodies.txt: the name, and the sum of the
-crate's src/ and specs/ and of the edit, for which it was refused. The status is 1 if an edit isn't refused, or can't be tried.
+crate's src/ and specs/ and of the edit, for which it was refused. It removes the line of an edit that wasn't. The status is 1 if an edit isn't refused, or can't be tried.
 
 With --check it needs no `rt` and changes nothing. The status is 1 if an edit of wrong-bodies/ or must-fail/ doesn't apply
 (the text after each `old:` stands in its file exactly once, where the pairs before it have been applied), or if one of
@@ -32,7 +32,7 @@ import tempfile
 TOP = os.path.abspath(os.path.join(os.path.dirname(__file__), ".."))
 RECORD = os.path.join(TOP, "tools", "wrong_bodies.txt")
 ABOUT = "# Of each wrong body the sum for which it was last refused; tools/wrong_bodies.py says what is summed, and writes this file.\n"
-REFUSED = re.compile(r"must-fail (\w+)/([\w.-]+\.edit): refused, as it must be")
+TRIED = re.compile(r"must-fail (\w+/[\w.-]+\.edit): (refused, as it must be|NOT REFUSED)")
 
 
 def crates_below():
@@ -136,9 +136,9 @@ def record():
 
 
 def write_record(sums):
-    """Puts sums into the record, and leaves out the lines of edits that are no more."""
+    """Puts sums into the record, and leaves out the lines of edits that are no more, or have None for a sum."""
     there = {f"{crate}/{name}" for crate, name, _ in edits(TOP, "wrong-bodies")}
-    told = {name: total for name, total in {**record(), **sums}.items() if name in there}
+    told = {name: total for name, total in {**record(), **sums}.items() if total and name in there}
     with open(RECORD, "w", encoding="utf-8") as file:
         file.write(ABOUT + "".join(f"{name} {told[name]}\n" for name in sorted(told)))
 
@@ -163,17 +163,17 @@ def check():
 
 
 def try_in(room, names):
-    """Has `rt` try the edits of these crates in the copy, and prints what it says. Gives its status, and the sums of the
-    edits that were refused."""
-    sums = {(crate, name): sum_of(room, crate, path) for crate, name, path in edits(room, "must-fail")}
+    """Has `rt` try the edits of these crates in the copy, and prints what it says. Gives its status, and of each edit that
+    was tried the sum if it was refused, and else None."""
+    sums = {f"{crate}/{name}": sum_of(room, crate, path) for crate, name, path in edits(room, "must-fail")}
     with subprocess.Popen(["rt", "must-fail", *names], cwd=room, stdin=subprocess.DEVNULL, stdout=subprocess.PIPE,
                           stderr=subprocess.STDOUT, encoding="utf-8", errors="replace") as ran:
         lines = []
         for line in ran.stdout:
             print(line, end="", flush=True)
             lines.append(line)
-    refused = {found.groups() for found in map(REFUSED.search, lines) if found}
-    return ran.returncode, {"/".join(key): total for key, total in sums.items() if key in refused}
+    tried = [found.groups() for found in map(TRIED.search, lines) if found]
+    return ran.returncode, {name: sums.get(name) if says.startswith("refused") else None for name, says in tried}
 
 
 def main(names):
