@@ -22,6 +22,23 @@ HELP = os.path.join(CRATES, "rz_tools_answer", "src", "help.rt")
 SYNTAX = os.path.join(CRATES, "rz_tools_args", "src", "syntax.rt")
 OPTION = re.compile(r"(-[a-z]+)(?: ([A-Z]+))?")
 ALONE = {"--help": "writes this help", "--version": "writes the version"}
+# The examples of the man page, for each kind of user: what they do, and their commands, with TYPES for the folder of the
+# type files. tools/tour.py runs them.
+EXAMPLES = (
+    ("Compile a source, show the fork as text, and compile the text after it was edited",
+     ("rezkit rez App.r -i TYPES -o App.rsrc", "rezkit derez App.rsrc TYPES/Types.r > App.txt",
+      "rezkit rez TYPES/Types.r App.txt -o New.rsrc")),
+    ("Change a file that has a fork", ("rezkit rez Changes.r -a -o App.rsrc",)),
+    ("Look for damage in an old file, convert it, and part it into the two files of AppleDouble in a new folder",
+     ("rezkit det Old.hqx", "rezkit bridge Old.hqx -to macbin -o Old.bin",
+      "mkdir parts && rezkit bridge Old.hqx -to double -o parts/._Old")),
+    ("Translate a program: write its texts, edit them, and put them back",
+     ("rezkit strings Old.bin TYPES/Types.r > Old.texts", "rezkit restring Old.bin Old.texts TYPES/Types.r -o German.bin")),
+    ("Compile a source for MPW from before System 7, with a folder of its own files, into an application",
+     ("rezkit rez Port.r -i TYPES -i Includes -d SystemSevenOrLater=0 -form macbin -t APPL -c Samp -o Port.bin",)),
+    ("Give the same bytes in each build, whatever the clock says",
+     ("SOURCE_DATE_EPOCH=0 rezkit rez App.r -i TYPES -form macbin -o App.bin",)),
+)
 
 
 class Help:
@@ -103,7 +120,7 @@ def styled(text):
 def man(it, types):
     lines = [".TH REZKIT 1 \"\" \"%s\" \"User Commands\"" % it.version, ".ad l", ".SH NAME",
              "rezkit \\- Rez and DeRez, the resource compiler pair of the classic Macintosh", ".SH SYNOPSIS"]
-    for command, form in it.forms.items():
+    for command, form in sorted(it.forms.items(), key=lambda pair: pair[0] not in ALONE):
         whole = re.sub(r"\[.*?\](?=[ .]|$)", lambda part: part[0].replace(" ", "\\ "), styled(form))
         lines += [".HP", "\\fBrezkit %s\\fR %s" % (troff(command), whole)]
     lines += [".SH DESCRIPTION", troff(it.about), ".SH OPTIONS", troff(it.order.replace(":", "."))]
@@ -116,13 +133,15 @@ def man(it, types):
     if types:
         types = troff(types.rstrip("/"))
         lines += [".SH FILES", ".TP", "\\fI%s\\fR" % types, "type files, for", "\\fB\\-i\\fR", "and as files after a fork.",
-                  ".SH EXAMPLES", ".nf", "rezkit derez App.rsrc %s/Types.r > App.r" % types,
-                  "rezkit rez %s/Types.r App.r \\-o App.rsrc" % types, ".fi"]
+                  ".SH EXAMPLES"]
+        for place, (does, commands) in enumerate(EXAMPLES):
+            lines += [".PP"] * bool(place) + [troff(does) + ":", ".PP", ".nf"]
+            lines += [troff(command).replace("TYPES", types) for command in commands] + [".fi"]
     return lines
 
 
 def values_of(name, takes):
-    """What may stand behind an option: `forms`, `folders`, `files`, `any`, or nothing if it takes none."""
+    """What may stand after an option: `forms`, `folders`, `files`, `any`, or nothing if it takes none."""
     if not takes:
         return ""
     return "files" if name == "-o" else {"FORM": "forms", "PATH": "folders"}.get(takes, "any")

@@ -7,8 +7,9 @@ In the code blocks of WALKS a line that begins with `$ ` is a command, lines tha
 with it, and what follows, up to the next command or the end of the block, is its output. The commands of the documents
 of one walk are run in their order, by `sh`, in a folder of their own that has `examples`, `types`, `tools` and, as `./rezkit`,
 the built program (the one that ./rezkit runs unless another is named). A command that names a tool of TOOLS which isn't
-installed is skipped. What differs is printed, and with `--write` put into the document. The status is 1 if anything
-differs. The quick checks run it.
+installed is skipped. What differs is printed, and with `--write` put into the document. The examples of the man page
+(tools/help.py) are run too: each has to end with the status 0 and to print what EXAMPLES_PRINT says. The status is 1 if
+anything differs. The quick checks run it.
 """
 import os
 import re
@@ -17,6 +18,7 @@ import subprocess
 import sys
 import tempfile
 
+from help import EXAMPLES
 from running import program_to_run
 
 TOP = os.path.abspath(os.path.join(os.path.dirname(os.path.abspath(__file__)), ".."))
@@ -30,6 +32,12 @@ WALKS = (
     ("docs/PORTING.md",),
 )
 TOOLS = ("cpp", "git", "make", "unar", "xxd")
+# Files that the examples of the man page begin with, by a command that makes them, and what an example prints.
+EXAMPLE_FILES = """cp examples/App.r App.r && cp examples/patch.r Changes.r && mkdir Includes
+rezkit rez App.r -i types -form hqx -o Old.hqx && echo '#define kTitle "Old"' > Includes/Title.r
+printf '#include "Types.r"\n#include "Title.r"\nresource '"'WIND'"' (128) ' > Port.r
+echo '{ {40, 20, 240, 420}, documentProc, visible, goAway, 0, kTitle };' >> Port.r"""
+EXAMPLES_PRINT = {"rezkit det Old.hqx": ["broken 0"]}
 
 
 def parts_of(text):
@@ -59,6 +67,12 @@ def text_of(parts):
 def missing_tool(command):
     words = re.findall(r"[\w./-]+", command)
     return next((tool for tool in TOOLS if tool in words and not shutil.which(tool)), None)
+
+
+def missing_tools():
+    """The tools that aren't installed, as the end of a line; nothing if all are."""
+    missing = [tool for tool in TOOLS if not shutil.which(tool)]
+    return ", for there is no %s" % " and no ".join(missing) if missing else ""
 
 
 def printed(command, folder):
@@ -104,12 +118,29 @@ def walk(documents, program, write):
         return [sum(column) for column in zip(*(walk_document(document, folder, write) for document in documents))]
 
 
+def walk_examples(program):
+    """Runs the examples of the man page in a folder of their own; gives the same numbers as walk."""
+    commands = [command.replace("TYPES", "types") for _, commands in EXAMPLES for command in commands]
+    wrong = 0
+    with tempfile.TemporaryDirectory(prefix="rezkit-tour-") as folder:
+        os.mkdir(os.path.join(folder, "bin"))
+        os.symlink(program, os.path.join(folder, "bin", "rezkit"))
+        for name in ("examples", "types"):
+            os.symlink(os.path.join(TOP, name), os.path.join(folder, name))
+        for command in (EXAMPLE_FILES, *commands):
+            came = printed('PATH="$PWD/bin:$PATH"; set -e; %s' % command + '\necho "status $?"', folder)
+            if came != EXAMPLES_PRINT.get(command, []) + ["status 0"]:
+                wrong += 1
+                print("the man page\n%s\n--- the program\n%s" % (command, "\n".join(came)))
+    return len(commands), wrong, 0
+
+
 def main():
     arguments = [argument for argument in sys.argv[1:] if argument != "--write"]
     program = os.path.abspath(arguments[0] if arguments else program_to_run())
-    sums = [walk(documents, program, "--write" in sys.argv[1:]) for documents in WALKS]
+    sums = [walk(documents, program, "--write" in sys.argv[1:]) for documents in WALKS] + [walk_examples(program)]
     count, wrong, skipped = (sum(column) for column in zip(*sums))
-    print("%d commands, %d print something else, %d skipped" % (count, wrong, skipped))
+    print("%d commands, %d print something else, %d skipped%s" % (count, wrong, skipped, missing_tools()))
     sys.exit(1 if wrong else 0)
 
 
