@@ -1,6 +1,6 @@
 //! Resources by type, the types in the order of their first resources; changed only with `specs/Groups`.
 
-ghost use Rattle.std.specs.Prelude.{◌≡◌, IfOk};
+ghost use Rattle.std.specs.Prelude.{◌≡◌, [], IfOk};
 ghost use Rattle.std.specs.List.{flat_map};
 ghost use Rattle.rz_fork.specs.Groups.{shown, members_of, AreGroups};
 
@@ -24,6 +24,28 @@ pub fn groups_in<'a>(alloc: Global, list: &'a [Resource]) -> Result<Vec<Group<'a
 {
     let mut kinds = IndexSet::new(alloc);
     let mut groups = Vec::new(alloc);
+    let ended = put_groups(alloc, list, &mut kinds, &mut groups);
+    drop(kinds);
+    match ended {
+        Ok(()) => Ok(groups),
+        Err(NoMemory) => {
+            drop(groups);
+            Err(NoMemory)
+        }
+    }
+}
+
+/// Puts each resource into its group; there is none yet, and no type was met.
+fn put_groups<'a>(
+    alloc: Global,
+    list: &'a [Resource],
+    kinds: &mut IndexSet<u32>,
+    groups: &mut Vec<Group<'a>>,
+) -> Result<(), NoMemory>
+    requires kinds { kinds.old.keys ≡ [] }
+    requires groups { groups.old.items ≡ [] }
+    ensures { IfOk result (λ done. AreGroups list.now groups.new.items) }
+{
     for resource in list {
         let code = resource.kind.code;
         let (place, added) = kinds.insert_full(code)?;
@@ -35,7 +57,7 @@ pub fn groups_in<'a>(alloc: Global, list: &'a [Resource]) -> Result<Vec<Group<'a
         }
         groups[place].members.push(resource)?;
     }
-    Ok(groups)
+    Ok(())
 }
 
 /// The resources of all groups, one group behind the other.

@@ -8,8 +8,8 @@ use Rattle.rz_fork.specs.declared.group.Group.{Group}
 use Rattle.rz_fork.specs.Image.{kinds_of}
 use Rattle.rz_fork.specs.Groups.{AreGroups}
 use Rattle.rz_fork.proofs.Grouping.{codes, AreReady, ready_new, ready_old, with_joined, kinds_more}
-use Rattle.rz_fork.proofs.group.groups_in.Goals.{then-added+in_ok-push, else-added}
-use Rattle.rz_fork.proofs.group.groups_in.Goals as goal
+use Rattle.rz_fork.proofs.group.put_groups.Goals.{then-added+in_ok-push, else-added}
+use Rattle.rz_fork.proofs.group.put_groups.Goals as goal
 
 pub loop-resource-preserved : goal.loop-resource-preserved
 loop-resource-preserved c =
