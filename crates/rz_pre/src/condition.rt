@@ -227,11 +227,17 @@ fn value_of(alloc: Global, tokens: &Tokens) -> Result<Option<i32>, NoMemory>
         return Ok(None);
     };
     if found.end < tokens.len() {
+        drop(found);
         return Ok(None);
     }
-    match eval(alloc, &found.expr, &NoNames) {
+    let computed = eval(alloc, &found.expr, &NoNames);
+    drop(found);
+    match computed {
         Ok(value) => Ok(Some(value)),
-        Err(Stop::Refused(_)) => Ok(None),
+        Err(Stop::Refused(fault)) => {
+            drop(fault);
+            Ok(None)
+        }
         Err(Stop::NoMemory) => Err(NoMemory),
     }
 }

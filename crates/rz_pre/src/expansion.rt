@@ -37,7 +37,33 @@ pub fn replace(
 {
     let mut done = Tokens::new(alloc);
     let mut frames: IndexMap<usize, usize> = IndexMap::new(alloc);
-    push_frame(&mut frames, index, 0)?;
+    let replaced = replace_all(alloc, macros, index, token, &mut frames, &mut done);
+    drop(frames);
+    match replaced {
+        Ok(()) => Ok(done),
+        Err(stop) => {
+            drop(done);
+            Err(stop)
+        }
+    }
+}
+
+/// The same, with no frames and nothing done before.
+fn replace_all(
+    alloc: Global,
+    macros: &Macros,
+    index: usize,
+    token: &Token,
+    frames: &mut IndexMap<usize, usize>,
+    done: &mut Tokens,
+) -> Result<(), Stop<TooLong>>
+    requires live { token_row (rows_of macros.now) token.now.shape ≡ Some index }
+    requires frames { frames.old.entries ≡ [] }
+    requires done { done.old ≡ [] }
+    ensures tokens { OnOk result (ExpandsTo (live_in (rows_of macros.now)) token.now done.new) }
+    ensures long { OnFault result (λ fault. IsTooLong (live_in (rows_of macros.now)) token.now) }
+{
+    push_frame(frames, index, 0)?;
     let mut budget: u32 = LIMIT - 1;
     while let Some((inner, next)) = frames.pop() {
         let body = macros.body(inner);
@@ -46,18 +72,11 @@ pub fn replace(
                 return Err(Stop::Refused(TooLong));
             }
             budget -= 1;
-            push_frame(&mut frames, inner, next + 1)?;
-            handle(
-                alloc,
-                macros,
-                &body[next],
-                token.mark,
-                &mut frames,
-                &mut done,
-            )?;
+            push_frame(frames, inner, next + 1)?;
+            handle(alloc, macros, &body[next], token.mark, frames, done)?;
         }
     }
-    Ok(done)
+    Ok(())
 }
 
 /// Handles one token of a replacement: a live macro that isn't being replaced is, and any other token is

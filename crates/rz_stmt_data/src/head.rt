@@ -74,14 +74,21 @@ pub fn read_head_for(
     let Some(id) = read_said(alloc, subject, first)? else {
         return Ok(None);
     };
-    let Some((name, attributes)) = read_rest(alloc, subject, others)? else {
-        return Ok(None);
-    };
-    Ok(Some(HeadExpr {
-        id,
-        name,
-        attributes,
-    }))
+    match read_rest(alloc, subject, others) {
+        Ok(Some((name, attributes))) => Ok(Some(HeadExpr {
+            id,
+            name,
+            attributes,
+        })),
+        Ok(None) => {
+            drop(id);
+            Ok(None)
+        }
+        Err(NoMemory) => {
+            drop(id);
+            Err(NoMemory)
+        }
+    }
 }
 
 /// The name and the attributes that the pieces behind an id are.
@@ -183,6 +190,7 @@ pub fn read_said(
             if may_say(place_of(subject), &expr) {
                 Ok(Some(expr))
             } else {
+                drop(expr);
                 Ok(None)
             }
         }

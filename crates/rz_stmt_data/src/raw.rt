@@ -5,7 +5,7 @@ ghost use Rattle.rz_types_fields.specs.Text.{plain_parts};
 ghost use Rattle.rz_core.specs.Decided.{Decided};
 ghost use Rattle.rz_stmt_data.specs.Raw.{raw_of, AreTexts, IsInside, IsMaybeText, IsRaw};
 
-use crate::frame::read_frame;
+use crate::frame::{Framed, read_frame};
 use crate::head::HeadExpr;
 use crate::texts::text_at;
 use rz_core::{NoMemory, OsType};
@@ -34,13 +34,17 @@ pub fn read_raw(alloc: Global, tokens: &[Token]) -> Result<Option<RawStmt>, NoMe
     let Some(framed) = read_frame(alloc, Keyword::Data, tokens)? else {
         return Ok(None);
     };
-    match read_inside(alloc, framed.inside)? {
-        Some(texts) => Ok(Some(RawStmt {
-            kind: framed.kind,
-            head: framed.head,
-            texts,
-        })),
-        None => Ok(None),
+    let Framed { kind, head, inside } = framed;
+    match read_inside(alloc, inside) {
+        Ok(Some(texts)) => Ok(Some(RawStmt { kind, head, texts })),
+        Ok(None) => {
+            drop(head);
+            Ok(None)
+        }
+        Err(NoMemory) => {
+            drop(head);
+            Err(NoMemory)
+        }
     }
 }
 

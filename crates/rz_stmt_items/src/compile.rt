@@ -9,7 +9,7 @@ use crate::items::read_items;
 use rz_core::{NoMemory, OsType};
 use rz_expr::Keyword;
 use rz_lex::Token;
-use rz_stmt_data::{HeadExpr, read_frame};
+use rz_stmt_data::{Framed, HeadExpr, read_frame};
 use std::alloc::Global;
 
 /// A `resource` statement. (MPW Rez.)
@@ -32,12 +32,16 @@ pub fn read_compile(alloc: Global, tokens: &[Token]) -> Result<Option<CompileStm
     let Some(framed) = read_frame(alloc, Keyword::Resource, tokens)? else {
         return Ok(None);
     };
-    match read_items(alloc, framed.inside)? {
-        Some(items) => Ok(Some(CompileStmt {
-            kind: framed.kind,
-            head: framed.head,
-            items,
-        })),
-        None => Ok(None),
+    let Framed { kind, head, inside } = framed;
+    match read_items(alloc, inside) {
+        Ok(Some(items)) => Ok(Some(CompileStmt { kind, head, items })),
+        Ok(None) => {
+            drop(head);
+            Ok(None)
+        }
+        Err(NoMemory) => {
+            drop(head);
+            Err(NoMemory)
+        }
     }
 }

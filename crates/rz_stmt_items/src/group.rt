@@ -44,13 +44,30 @@ fn numbers_for(
     ensures { Gives (numbers_for facts.now rect place (plain_items items.now)) result }
 {
     let field = integer(alloc);
+    let numbers = numbers_under(alloc, &field, rect, place, items, facts);
+    drop(field);
+    numbers
+}
+
+/// The numbers that the items are, each of them as such a field.
+fn numbers_under(
+    alloc: Global,
+    field: &NumField,
+    rect: bool,
+    place: Mark,
+    items: &[Item],
+    facts: &Facts,
+) -> Result<Numbers, Stop<Fault>>
+    requires { plain_number field.now ≡ integer None }
+    ensures { Gives (numbers_for facts.now rect place (plain_items items.now)) result }
+{
     let count = numbers_of(rect);
     let mut numbers = Numbers::new(alloc);
     for before in 0..count {
         let Some(item) = items.get(before) else {
             return Err(too_few(place, items));
         };
-        let number = number_for(alloc, &field, item, before as u64 + 1, facts)?;
+        let number = number_for(alloc, field, item, before as u64 + 1, facts)?;
         numbers.push(number as u16)?;
     }
     match items.get(count) {

@@ -6,7 +6,7 @@ ghost use Rattle.rz_stmt_lists.specs.Change.{change_of, IsChange};
 
 use crate::clause::read_clause;
 use crate::pick::{PickExpr, read_picked};
-use crate::renaming::read_renaming;
+use crate::renaming::{Renaming, read_renaming};
 use rz_core::{NoMemory, OsType};
 use rz_expr::{Keyword, one_expression};
 use rz_lex::Token;
@@ -37,13 +37,20 @@ pub fn read_change(alloc: Global, tokens: &[Token]) -> Result<Option<ChangeStmt>
     let Some(pick) = read_picked(alloc, clause.inside)? else {
         return Ok(None);
     };
-    match read_renaming(alloc, Keyword::To, &pick, clause.behind)? {
-        Some(new) => Ok(Some(ChangeStmt {
+    match read_renaming(alloc, Keyword::To, &pick, clause.behind) {
+        Ok(Some(Renaming { kind, head })) => Ok(Some(ChangeStmt {
             kind: clause.kind,
             pick,
-            new_kind: new.kind,
-            head: new.head,
+            new_kind: kind,
+            head,
         })),
-        None => Ok(None),
+        Ok(None) => {
+            drop(pick);
+            Ok(None)
+        }
+        Err(NoMemory) => {
+            drop(pick);
+            Err(NoMemory)
+        }
     }
 }

@@ -9,7 +9,7 @@ ghost use Rattle.rz_stmt_lists.specs.Steps.{IsGoneOn, IsOfType, IsOthers};
 
 use crate::brackets::maybe_bracketed;
 use crate::pick::{PickExpr, read_picked};
-use crate::renaming::read_renaming;
+use crate::renaming::{Renaming, read_renaming};
 use rz_core::{Bytes, NoMemory, OsType};
 use rz_expr::{Keyword, is_keyword, one_expression};
 use rz_lex::Token;
@@ -120,8 +120,21 @@ fn read_gone_on(
     if is_empty_statement(tokens) {
         return Ok(Some(IncludePart::Chosen(kind, pick)));
     }
-    match read_renaming(alloc, Keyword::As, &pick, tokens)? {
-        Some(new) => Ok(Some(IncludePart::Renamed(kind, pick, new.kind, new.head))),
-        None => Ok(None),
+    match read_renaming(alloc, Keyword::As, &pick, tokens) {
+        Ok(Some(new)) => {
+            let Renaming {
+                kind: new_kind,
+                head,
+            } = new;
+            Ok(Some(IncludePart::Renamed(kind, pick, new_kind, head)))
+        }
+        Ok(None) => {
+            drop(pick);
+            Ok(None)
+        }
+        Err(NoMemory) => {
+            drop(pick);
+            Err(NoMemory)
+        }
     }
 }

@@ -102,8 +102,15 @@ fn read_two(alloc: Global, first: &[Token], last: &[Token]) -> Result<Option<Pic
     let Some(first) = read_said(alloc, Subject::New, first)? else {
         return Ok(None);
     };
-    match read_said(alloc, Subject::New, last)? {
-        Some(last) => Ok(Some(PickExpr::Range(first, last))),
-        None => Ok(None),
+    match read_said(alloc, Subject::New, last) {
+        Ok(Some(last)) => Ok(Some(PickExpr::Range(first, last))),
+        Ok(None) => {
+            drop(first);
+            Ok(None)
+        }
+        Err(NoMemory) => {
+            drop(first);
+            Err(NoMemory)
+        }
     }
 }

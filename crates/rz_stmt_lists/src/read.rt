@@ -36,13 +36,20 @@ pub fn read_read(alloc: Global, tokens: &[Token]) -> Result<Option<ReadStmt>, No
     let Some(head) = read_head_in(alloc, Subject::New, split.front)? else {
         return Ok(None);
     };
-    match read_named(alloc, split.behind)? {
-        Some(file) => Ok(Some(ReadStmt {
+    match read_named(alloc, split.behind) {
+        Ok(Some(file)) => Ok(Some(ReadStmt {
             kind: typed.kind,
             head,
             file,
         })),
-        None => Ok(None),
+        Ok(None) => {
+            drop(head);
+            Ok(None)
+        }
+        Err(NoMemory) => {
+            drop(head);
+            Err(NoMemory)
+        }
     }
 }
 

@@ -6,7 +6,7 @@ ghost use Rattle.rz_stmt_type.specs.Body.{AreCases, IsArray, IsBody, IsCase, IsF
 ghost use Rattle.rz_stmt_fields.specs.Form.{body_form, case_form, cases_form, field_form};
 
 use crate::flat::read_flat;
-use crate::head::{behind_empty, braced, case_front, read_array_front};
+use crate::head::{ArrayFront, behind_empty, braced, case_front, read_array_front};
 use crate::label::read_labels;
 use crate::start::{Start, start_of};
 use rz_core::NoMemory;
@@ -69,16 +69,20 @@ fn read_array(alloc: Global, tokens: &[Token]) -> Result<Option<FieldExpr>, NoMe
     let Some(front) = read_array_front(alloc, tokens)? else {
         return Ok(None);
     };
-    match read_body(alloc, false, front.row)? {
-        Some(row) => {
-            let array = ArrayExpr {
-                name: front.name,
-                count: front.count,
-                row,
-            };
+    match read_body(alloc, false, front.row) {
+        Ok(Some(row)) => {
+            let ArrayFront { name, count, .. } = front;
+            let array = ArrayExpr { name, count, row };
             Ok(Some(FieldExpr::Array(Box::new(alloc, array)?)))
         }
-        None => Ok(None),
+        Ok(None) => {
+            drop(front);
+            Ok(None)
+        }
+        Err(NoMemory) => {
+            drop(front);
+            Err(NoMemory)
+        }
     }
 }
 
@@ -126,8 +130,11 @@ fn read_case(alloc: Global, tokens: &[Token]) -> Result<Option<CaseExpr>, NoMemo
     let Some(row) = read_body(alloc, true, front.row)? else {
         return Ok(None);
     };
-    Ok(Some(CaseExpr {
-        name: front.name.copy(alloc)?,
-        row,
-    }))
+    match front.name.copy(alloc) {
+        Ok(name) => Ok(Some(CaseExpr { name, row })),
+        Err(NoMemory) => {
+            drop(row);
+            Err(NoMemory)
+        }
+    }
 }

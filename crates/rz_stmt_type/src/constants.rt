@@ -70,16 +70,18 @@ pub fn value_declare(
 fn value_parts(alloc: Global, mark: Mark, stmt: DeclareExpr) -> Result<DeclareStmt, Stop<Fault>>
     ensures { Gives (declared mark (declare_form stmt)) (seen declare_of result) }
 {
-    let bounds = match value_scope(alloc, mark, &stmt.scope) {
+    let DeclareExpr { kind, scope, made } = stmt;
+    let bounds = value_scope(alloc, mark, &scope);
+    drop(scope);
+    let bounds = match bounds {
         Ok(bounds) => bounds,
-        Err(stop) => return Err(stop),
+        Err(stop) => {
+            drop(made);
+            return Err(stop);
+        }
     };
-    match value_made(alloc, mark, stmt.made) {
-        Ok(made) => Ok(DeclareStmt {
-            kind: stmt.kind,
-            bounds,
-            made,
-        }),
+    match value_made(alloc, mark, made) {
+        Ok(made) => Ok(DeclareStmt { kind, bounds, made }),
         Err(stop) => Err(stop),
     }
 }
@@ -120,10 +122,14 @@ fn value_made(alloc: Global, mark: Mark, made: MadeExpr) -> Result<Made, Stop<Fa
             Ok(body) => Ok(Made::Fields(body)),
             Err(stop) => Err(stop),
         },
-        MadeExpr::Copy(kind, id) => match value_given(alloc, mark, &id) {
-            Ok(id) => Ok(Made::Copy(kind, id)),
-            Err(stop) => Err(stop),
-        },
+        MadeExpr::Copy(kind, given) => {
+            let id = value_given(alloc, mark, &given);
+            drop(given);
+            match id {
+                Ok(id) => Ok(Made::Copy(kind, id)),
+                Err(stop) => Err(stop),
+            }
+        }
     }
 }
 
@@ -181,10 +187,14 @@ fn value_field(alloc: Global, mark: Mark, field: FieldExpr) -> Result<Field, Sto
         },
         FieldExpr::Text(text) => Ok(Field::Text(Box::into_inner(text))),
         FieldExpr::Points(points) => Ok(Field::Points(points)),
-        FieldExpr::Fill(unit, count) => match value_count(alloc, mark, &count) {
-            Ok(count) => Ok(Field::Fill(unit, count)),
-            Err(stop) => Err(stop),
-        },
+        FieldExpr::Fill(unit, given) => {
+            let count = value_count(alloc, mark, &given);
+            drop(given);
+            match count {
+                Ok(count) => Ok(Field::Fill(unit, count)),
+                Err(stop) => Err(stop),
+            }
+        }
         FieldExpr::Align(unit) => Ok(Field::Align(unit)),
         FieldExpr::Label(name) => Ok(Field::Label(name)),
         FieldExpr::Array(array) => match value_array(alloc, mark, Box::into_inner(array)) {
@@ -203,17 +213,27 @@ fn value_field(alloc: Global, mark: Mark, field: FieldExpr) -> Result<Field, Sto
 fn value_array(alloc: Global, mark: Mark, array: ArrayExpr) -> Result<ArrayField, Stop<Fault>>
     ensures { Gives (field_value mark (array_form array)) (seen plain_array result) }
 {
-    let count = match value_given(alloc, mark, &array.count) {
+    let ArrayExpr {
+        name,
+        count: given,
+        row,
+    } = array;
+    let count = value_given(alloc, mark, &given);
+    drop(given);
+    let count = match count {
         Ok(count) => count,
-        Err(stop) => return Err(stop),
+        Err(stop) => {
+            drop(name);
+            drop(row);
+            return Err(stop);
+        }
     };
-    match value_body(alloc, mark, array.row) {
-        Ok(row) => Ok(ArrayField {
-            name: array.name,
-            count,
-            row,
-        }),
-        Err(stop) => Err(stop),
+    match value_body(alloc, mark, row) {
+        Ok(row) => Ok(ArrayField { name, count, row }),
+        Err(stop) => {
+            drop(name);
+            Err(stop)
+        }
     }
 }
 
@@ -236,12 +256,13 @@ fn value_cases(alloc: Global, mark: Mark, cases: CaseExprs) -> Result<Cases, Sto
 fn value_case(alloc: Global, mark: Mark, case: CaseExpr) -> Result<Case, Stop<Fault>>
     ensures { Gives (case_value mark (case_form case)) (seen plain_case result) }
 {
-    match value_body(alloc, mark, case.row) {
-        Ok(row) => Ok(Case {
-            name: case.name,
-            row,
-        }),
-        Err(stop) => Err(stop),
+    let CaseExpr { name, row } = case;
+    match value_body(alloc, mark, row) {
+        Ok(row) => Ok(Case { name, row }),
+        Err(stop) => {
+            drop(name);
+            Err(stop)
+        }
     }
 }
 
@@ -260,11 +281,17 @@ fn value_number(alloc: Global, mark: Mark, number: NumberExpr) -> Result<NumFiel
 {
     let width = match value_width(alloc, mark, &number.width) {
         Ok(width) => width,
-        Err(stop) => return Err(stop),
+        Err(stop) => {
+            drop(number);
+            return Err(stop);
+        }
     };
     match value_key(alloc, mark, number.key, &number.fixed) {
         Ok(()) => make_number(alloc, mark, number, width),
-        Err(stop) => Err(stop),
+        Err(stop) => {
+            drop(number);
+            Err(stop)
+        }
     }
 }
 
@@ -303,17 +330,32 @@ fn make_number(
 ) -> Result<NumField, Stop<Fault>>
     ensures { Gives (number_of_width mark (number_form number) width) (seen plain_number result) }
 {
-    match values_of(alloc, mark, number.form, width, number.symbols.as_slice()) {
+    let NumberExpr {
+        form,
+        unsigned,
+        radix,
+        key,
+        width: given,
+        symbols: names,
+        fixed,
+    } = number;
+    drop(given);
+    let symbols = values_of(alloc, mark, form, width, names.as_slice());
+    drop(names);
+    match symbols {
         Ok(symbols) => Ok(NumField {
-            form: number.form,
+            form,
             width,
-            unsigned: number.unsigned,
-            radix: number.radix,
+            unsigned,
+            radix,
             symbols,
-            fixed: unboxed(number.fixed),
-            key: number.key,
+            fixed: unboxed(fixed),
+            key,
         }),
-        Err(stop) => Err(stop),
+        Err(stop) => {
+            drop(fixed);
+            Err(stop)
+        }
     }
 }
 

@@ -74,9 +74,16 @@ fn read_for_ids(alloc: Global, tokens: &[Token]) -> Result<Option<Scoped>, NoMem
     let Some(scope) = read_scope(alloc, split.front)? else {
         return Ok(None);
     };
-    match read_made(alloc, split.behind)? {
-        Some(made) => Ok(Some(Scoped { scope, made })),
-        None => Ok(None),
+    match read_made(alloc, split.behind) {
+        Ok(Some(made)) => Ok(Some(Scoped { scope, made })),
+        Ok(None) => {
+            drop(scope);
+            Ok(None)
+        }
+        Err(NoMemory) => {
+            drop(scope);
+            Err(NoMemory)
+        }
     }
 }
 
@@ -113,9 +120,16 @@ fn read_two(alloc: Global, first: &[Token], last: &[Token]) -> Result<Option<Sco
     let Some(first) = read_constant(alloc, first)? else {
         return Ok(None);
     };
-    match read_constant(alloc, last)? {
-        Some(last) => Ok(Some(ScopeExpr::Two(first, last))),
-        None => Ok(None),
+    match read_constant(alloc, last) {
+        Ok(Some(last)) => Ok(Some(ScopeExpr::Two(first, last))),
+        Ok(None) => {
+            drop(first);
+            Ok(None)
+        }
+        Err(NoMemory) => {
+            drop(first);
+            Err(NoMemory)
+        }
     }
 }
 

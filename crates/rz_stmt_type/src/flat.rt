@@ -85,14 +85,21 @@ fn read_sized(
     let Some(size) = read_expression(alloc, split.front)? else {
         return Ok(None);
     };
-    match read_fixed(alloc, split.behind)? {
-        Some(fixed) => Ok(Some(TextField {
+    match read_fixed(alloc, split.behind) {
+        Ok(Some(fixed)) => Ok(Some(TextField {
             form,
             hex,
             size: Some(size),
             fixed,
         })),
-        None => Ok(None),
+        Ok(None) => {
+            drop(size);
+            Ok(None)
+        }
+        Err(NoMemory) => {
+            drop(size);
+            Err(NoMemory)
+        }
     }
 }
 

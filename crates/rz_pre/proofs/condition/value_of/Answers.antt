@@ -12,5 +12,5 @@ returns-then-found-len c =
 
 pub returns-in-Err-Refused : goal.returns-in-Err-Refused
 returns-in-Err-Refused c =
-    faulty c.args.tokens.now c.in-Some.found.end (term_of c.in-Some.found.expr) c.in-Err-Refused.field-0-0 (rw c.in-Some.is at c.in_ok-found.ensures.every)
+    faulty c.args.tokens.now c.in-Some.found.end (term_of c.in-Some.found.expr) c.in-Err-Refused.fault (rw c.in-Some.is at c.in_ok-found.ensures.every)
     (rw c.in-Err-Refused.field-0-is at c.in-Err-Refused.ensures.value)

@@ -10,8 +10,8 @@ returns-in_default c compile is =
     let never = rw c.in_default.is at c.in_ok-framed.ensures in
     never _ is.frame
 
-pub returns-in-None : goal.returns-in-None
-returns-in-None c compile is =
-    let never = rw c.in-None.is at c.in_ok-items.ensures in
+pub returns-in-Ok-None : goal.returns-in-Ok-None
+returns-in-Ok-None c compile is =
+    let never = rw c.in-Ok-None.field-0-is at c.in-Ok-None.ensures in
     let found = rw c.in-Some.is at c.in_ok-framed.ensures in
     never compile.items (subst (λ (ts : List Token). AreItems ts compile.items) (same_inside Resource c.args.tokens.now _ _ is.frame found) is.items)

@@ -16,12 +16,12 @@ returns-in_default-2 c change is =
     let never = rw c.in_default-2.is at c.in_ok-pick.ensures in
     never change.pick (subst (λ (clause : Clause). IsPicked clause.inside change.pick) same is.has_pick)
 
-pub returns-in-None : goal.returns-in-None
-returns-in-None c change is =
+pub returns-in-Ok-None : goal.returns-in-Ok-None
+returns-in-Ok-None c change is =
     let clause = clause_of c.in-Some.clause in
     let same = one_clause Change c.args.tokens.now _ _ is.clause c.in-Some.ensures in
     let new : Renaming = record { kind = change.new_kind; head = change.head } in
     let pick = one_pick c.one_expression.ensures.expression clause.inside change.pick (pick_of c.in-Some-2.pick)
     (subst (λ (clause : Clause). IsPicked clause.inside change.pick) same is.has_pick) (rw c.in-Some-2.is at c.in_ok-pick.ensures) in
-    let never = rw c.in-None.is at c.in_ok-new.ensures in
+    let never = rw c.in-Ok-None.field-0-is at c.in-Ok-None.ensures in
     never new (subst (λ (p : Pick). IsRenaming To p clause.rest new) pick (subst (λ (clause : Clause). IsRenaming To change.pick clause.rest new) same is.becomes))

@@ -23,9 +23,9 @@ returns-in_default-2 c read is =
     let never = rw c.in_default-2.is at c.in_ok-head.ensures in
     never read.head (subst (λ (p : Parted). IsHeadIn New p.front read.head) (sym same) is.has_head)
 
-pub returns-in-None : goal.returns-in-None
-returns-in-None c read is =
+pub returns-in-Ok-None : goal.returns-in-Ok-None
+returns-in-Ok-None c read is =
     let same = same_within Round c.in-Some.typed.behind.now (held_split c.in-Some-bracketed.split) c.in-Some-bracketed.ensures.every is.parted
     (read_brackets c.args.tokens.now read is _ c.in-Some.ensures) in
-    let never = rw c.in-None.is at c.in_ok-file.ensures in
+    let never = rw c.in-Ok-None.field-0-is at c.in-Ok-None.ensures in
     never read.file (subst (λ (p : Parted). IsNamed p.behind read.file) (sym same) is.names)

@@ -28,20 +28,20 @@ use Rattle.rz_stmt_type.proofs.body.+body.Goals as goal
 pub read_array-returns-in_default : goal.read_array-returns-in_default
 read_array-returns-in_default t c field is = let never = rw c.in_default.is at c.in_ok-front.ensures in never is.0 is.2
 
-pub read_array-returns-in_ok-new-in-Some-2 : goal.read_array-returns-in_ok-new-in-Some-2
-read_array-returns-in_ok-new-in-Some-2 t c = (
+pub read_array-returns-in_ok-new-in-Ok-Some : goal.read_array-returns-in_ok-new-in-Ok-Some
+read_array-returns-in_ok-new-in-Ok-Some t c = (
   held_array c.in-Some.front,
-  body_form c.in-Some-2.row,
+  body_form c.in-Ok-Some.row,
   rw c.in-Some.is at c.in_ok-front.ensures,
-  rw c.in-Some-2.is at c.in_ok-row.ensures,
-  array_is c.in_ok-new-in-Some-2.field-0 c.in-Some.front.name c.in-Some.front.count c.in-Some-2.row c.in_ok-new-in-Some-2.ensures.ok,
+  rw c.in-Ok-Some.field-0-is at c.in-Ok-Some.ensures,
+  array_is c.in_ok-new-in-Ok-Some.field-0 c.in-Some.front.name c.in-Some.front.count c.in-Ok-Some.row c.in_ok-new-in-Ok-Some.ensures.ok,
 )
 
-pub read_array-returns-in-None : goal.read_array-returns-in-None
-read_array-returns-in-None t c field is =
+pub read_array-returns-in-Ok-None : goal.read_array-returns-in-Ok-None
+read_array-returns-in-Ok-None t c field is =
     let same = one_array_front c.pieces_are_cut.ensures.within c.one_expression.ensures.expression c.args.tokens.now is.0 (held_array c.in-Some.front) is.2
     (rw c.in-Some.is at c.in_ok-front.ensures) in
-    let never = rw c.in-None.is at c.in_ok-row.ensures in
+    let never = rw c.in-Ok-None.field-0-is at c.in-Ok-None.ensures in
     never is.1 (subst (λ (front : ArrayFront). IsBody false front.row is.1) same is.3)
 
 -- The body.

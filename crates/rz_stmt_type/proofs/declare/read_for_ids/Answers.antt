@@ -16,19 +16,19 @@ returns-in_default-2 c parts is =
     let never = rw c.in_default-2.is at c.in_ok-scope.ensures in
     never is.1 (subst (λ (p : Parted). IsScope p.front is.1) (sym same) is.4)
 
-pub returns-in-None : goal.returns-in-None
-returns-in-None c parts is =
+pub returns-in-Ok-None : goal.returns-in-Ok-None
+returns-in-Ok-None c parts is =
     let same = same_within Round c.args.tokens.now (held_split c.in-Some.split) c.in-Some.ensures.every is.0 is.3 in
-    let never = rw c.in-None.is at c.in_ok-made.ensures in
+    let never = rw c.in-Ok-None.field-0-is at c.in-Ok-None.ensures in
     never is.2 (subst (λ (p : Parted). IsMade p.behind is.2) (sym same) is.5)
 
-pub returns-in-Some-3 : goal.returns-in-Some-3
-returns-in-Some-3 c = (
+pub returns-in-Ok-Some : goal.returns-in-Ok-Some
+returns-in-Ok-Some c = (
   held_split c.in-Some.split,
   scope_form c.in-Some-2.scope,
-  made_form c.in-Some-3.made,
+  made_form c.in-Ok-Some.made,
   c.in-Some.ensures.found,
   rw c.in-Some-2.is at c.in_ok-scope.ensures,
-  rw c.in-Some-3.is at c.in_ok-made.ensures,
+  rw c.in-Ok-Some.field-0-is at c.in-Ok-Some.ensures,
   refl,
 )

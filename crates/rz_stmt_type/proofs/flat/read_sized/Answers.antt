@@ -16,8 +16,8 @@ returns-in_default-2 c text is =
     let never = rw c.in_default-2.is at c.in_ok-size.ensures in
     never is.1 (subst (λ (p : Parted). IsSizeExpression p.front is.1) (sym same) is.4)
 
-pub returns-in-None : goal.returns-in-None
-returns-in-None c text is =
+pub returns-in-Ok-None : goal.returns-in-Ok-None
+returns-in-Ok-None c text is =
     let same = same_within Square c.args.tokens.now (held_split c.in-Some.split) c.in-Some.ensures.every is.0 is.3 in
-    let never = rw c.in-None.is at c.in_ok-fixed.ensures in
+    let never = rw c.in-Ok-None.field-0-is at c.in-Ok-None.ensures in
     never is.2 (subst (λ (p : Parted). IsFixed p.behind is.2) (sym same) is.5)

@@ -10,7 +10,7 @@ use Rattle.rz_stmt_items.proofs.Steps.{no_field, no_item, one_more, one_stop, re
 use Rattle.rz_types.specs.Field.{PlainNumber}
 use Rattle.rz_types.specs.Shape.{numbers_of}
 use Rattle.rz_types.specs.Piece.{integer}
-use Rattle.rz_stmt_items.proofs.group.numbers_for.Goals as goal
+use Rattle.rz_stmt_items.proofs.group.numbers_under.Goals as goal
 
 pub returns-in_default : goal.returns-in_default
 returns-in_default c =
@@ -30,7 +30,7 @@ returns-in_err-number c =
     let i = c.loop-before.before in
     let item = c.in-Some.item.now in
     let within : i < numbers_of c.args.rect = omega (arith, c.loop-before-test.true, c.numbers_of-count.ensures) in
-    let gives = subst (λ (number : PlainNumber). Gives (number_for c.args.facts.now (i + 1) number (plain_item item)) (Err c.in_err-number.field-0.0)) c.integer-field.ensures
+    let gives = subst (λ (number : PlainNumber). Gives (number_for c.args.facts.now (i + 1) number (plain_item item)) (Err c.in_err-number.field-0.0)) c.requires
     c.in_err-number.ensures.number in
     let left = err_from_is_err_and c.from_residual.result c.from_residual.ensures.1 in
     rw (left.1, left.2) (one_stop (number_for c.args.facts.now) c.args.place items whole c.loop-before.numbers i (replicate (numbers_of c.args.rect - i) (integer None))
@@ -45,7 +45,7 @@ loop-before-preserved c =
     let i = c.loop-before.before in
     let item = c.in-Some.item.now in
     let within : i < numbers_of c.args.rect = omega (arith, c.loop-before-test.true, c.numbers_of-count.ensures) in
-    let gives = subst (λ (number : PlainNumber). number_for c.args.facts.now (i + 1) number (plain_item item) ≡ Ok c.in_ok-number.number) c.integer-field.ensures
+    let gives = subst (λ (number : PlainNumber). number_for c.args.facts.now (i + 1) number (plain_item item) ≡ Ok c.in_ok-number.number) c.requires
     c.in_ok-number.ensures.number in
     subst (λ (numbers : List ℕ). Walked (number_for c.args.facts.now) c.args.place items whole numbers (i + 1)
     (replicate (numbers_of c.args.rect - (i + 1)) (integer None)) (plain_items (drop (i + 1) c.args.items.now))) (sym c.in_ok-push.ensures.ok)
@@ -65,8 +65,8 @@ returns-in-None c =
     (plain_items (drop i c.args.items.now)) c.loop-before.invariant (replicate_end (numbers_of c.args.rect) i (integer None) past)
     (rest_end plain_item c.args.items.now i ended)
 
-pub returns : goal.returns
-returns c =
+pub returns-in-Some-get : goal.returns-in-Some-get
+returns-in-Some-get c =
     let items = plain_items c.args.items.now in
     let whole = numbers_for c.args.facts.now c.args.rect c.args.place items in
     let i = c.loop-before.before in

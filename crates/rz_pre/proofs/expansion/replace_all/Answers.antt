@@ -6,15 +6,15 @@ use Rattle.rz_pre.specs.Steps.{Frame, Handles}
 use Rattle.rz_pre.proofs.Bodies.{next_shape, no_items, no_shape, some_token}
 use Rattle.rz_pre.proofs.Lookups.{inside_found}
 use Rattle.rz_pre.proofs.Made.{made_all, made_begun, made_closed, made_more, made_too_long, Making}
-use Rattle.rz_pre.proofs.expansion.replace.Goals as goal
+use Rattle.rz_pre.proofs.expansion.replace_all.Goals as goal
 
 -- src/expansion.rt:51:5
 pub loop-inner-init : goal.loop-inner-init
 loop-inner-init c =
-    subst (λ (es : List Frame). Making (rows_of c.args.macros.now) c.args.token.now.shape c.args.token.now.mark es c.new-done.result 65535)
-    (sym (c.in_ok-push_frame.ensures ∙ ap (λ (es : List Frame). es ++ (c.args.index, 0) ∷ []) c.new-frames.ensures.empty))
-    (subst (λ (ts : List Token). Making (rows_of c.args.macros.now) c.args.token.now.shape c.args.token.now.mark ((c.args.index, 0) ∷ []) ts 65535) (sym c.new-done.ensures)
-    (made_begun (rows_of c.args.macros.now) c.args.token.now.shape c.args.token.now.mark c.args.index c.requires))
+    subst (λ (es : List Frame). Making (rows_of c.args.macros.now) c.args.token.now.shape c.args.token.now.mark es c.args.done.now 65535)
+    (sym (c.in_ok-push_frame.ensures ∙ ap (λ (es : List Frame). es ++ (c.args.index, 0) ∷ []) c.requires.frames))
+    (subst (λ (ts : List Token). Making (rows_of c.args.macros.now) c.args.token.now.shape c.args.token.now.mark ((c.args.index, 0) ∷ []) ts 65535) (sym c.requires.done)
+    (made_begun (rows_of c.args.macros.now) c.args.token.now.shape c.args.token.now.mark c.args.index c.requires.live))
 
 -- src/expansion.rt:55:17
 pub returns-then-budget-eq0-clause-long : goal.returns-then-budget-eq0-clause-long

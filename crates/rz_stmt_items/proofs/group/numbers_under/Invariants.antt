@@ -5,7 +5,7 @@ use Rattle.rz_stmt_items.specs.Matched.{number_for, numbers_for}
 use Rattle.rz_stmt_items.proofs.Steps.{Walked}
 use Rattle.rz_types.specs.Shape.{numbers_of}
 use Rattle.rz_types.specs.Piece.{integer}
-use Rattle.rz_stmt_items.proofs.group.numbers_for.Given as goal
+use Rattle.rz_stmt_items.proofs.group.numbers_under.Given as goal
 
 abbrev pub invariant-loop-before : goal.invariant-loop-before
 invariant-loop-before l =
