@@ -45,13 +45,21 @@ fn lex_lines(alloc: Global, text: &[u8], file: u64) -> Result<Tokens, Stop<Fault
         match next_line(alloc, file, place) {
             Ok(None) => return Ok(tokens),
             Ok(Some((line, after))) => {
-                match cut(alloc, &line) {
+                let of_line = cut(alloc, &line);
+                drop(line);
+                match of_line {
                     Ok(of_line) => append(&mut tokens, of_line)?,
-                    Err(stop) => return Err(stop),
+                    Err(stop) => {
+                        drop(tokens);
+                        return Err(stop);
+                    }
                 }
                 place = after;
             }
-            Err(stop) => return Err(stop),
+            Err(stop) => {
+                drop(tokens);
+                return Err(stop);
+            }
         }
     }
 }

@@ -7,10 +7,10 @@ pub returns-in-Ok-None-clause-tokens : goal.returns-in-Ok-None-clause-tokens
 returns-in-Ok-None-clause-tokens c =
     lexed_all c.args.file (joined 1 c.args.text.now) (ahead c.lines.place) c.lines.tokens c.lines.invariant.lexed (rw c.in-Ok-None.field-0-is at c.in-Ok-None.ensures.end)
 
-pub returns-in-Err-cut-clause-fault : goal.returns-in-Err-cut-clause-fault
-returns-in-Err-cut-clause-fault c =
-    stopped_in_line c.args.file (joined 1 c.args.text.now) (ahead c.lines.place) c.lines.tokens c.lines.invariant.lexed (ahead c.in-Ok-Some.after) c.in-Ok-Some.line c.in-Err-cut.stop
-    (rw c.in-Ok-Some.field-0-is at c.in-Ok-Some.ensures.line) c.in-Err-cut.ensures.fault
+pub returns-in-Err-of_line-clause-fault : goal.returns-in-Err-of_line-clause-fault
+returns-in-Err-of_line-clause-fault c =
+    stopped_in_line c.args.file (joined 1 c.args.text.now) (ahead c.lines.place) c.lines.tokens c.lines.invariant.lexed (ahead c.in-Ok-Some.after) c.in-Ok-Some.line c.in-Err-of_line.stop
+    (rw c.in-Ok-Some.field-0-is at c.in-Ok-Some.ensures.line) c.in-Err-of_line.ensures.fault
 
 pub returns-in-Err-clause-fault : goal.returns-in-Err-clause-fault
 returns-in-Err-clause-fault c =
