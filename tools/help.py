@@ -33,7 +33,7 @@ EXAMPLES = (
      ("rezkit det Old.hqx", "rezkit bridge Old.hqx -to macbin -o Old.bin",
       "mkdir parts && rezkit bridge Old.hqx -to double -o parts/._Old")),
     ("Translate a program: write its texts, edit them, and put them back",
-     ("rezkit strings Old.bin TYPES/Types.r > Old.texts", "rezkit restring Old.bin Old.texts TYPES/Types.r -o German.bin")),
+     ("rezkit strings Old.bin TYPES/Texts.r > Old.texts", "rezkit restring Old.bin Old.texts TYPES/Texts.r -o German.bin")),
     ("Compile a source for MPW from before System 7, with a folder of its own files, into an application",
      ("rezkit rez Port.r -i TYPES -i Includes -d SystemSevenOrLater=0 -form macbin -t APPL -c Samp -o Port.bin",)),
     ("Give the same bytes in each build, whatever the clock says",
