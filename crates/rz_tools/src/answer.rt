@@ -81,30 +81,54 @@ fn answer_command<F: Folder>(
     match command.name {
         CommandName::Rez => {
             let words = RezWords::of(alloc, command)?;
-            planned(plan_rez(alloc, folder, &words, moment))
+            let plan = plan_rez(alloc, folder, &words, moment);
+            drop(words);
+            planned(plan)
         }
         CommandName::DeRez => {
             let words = DeRezWords::of(alloc, command)?;
             answer_derez(alloc, folder, words, moment)
         }
         CommandName::Bridge => {
-            let words = BridgeWords::of(alloc, &command)?;
-            planned(plan_bridge(alloc, folder, &words))
+            let words = BridgeWords::of(alloc, &command);
+            drop(command);
+            let words = words?;
+            let plan = plan_bridge(alloc, folder, &words);
+            drop(words);
+            planned(plan)
         }
         CommandName::Det => {
-            let words = DetWords::of(alloc, &command)?;
-            planned(plan_det(alloc, folder, &words))
+            let words = DetWords::of(alloc, &command);
+            drop(command);
+            let words = words?;
+            let plan = plan_det(alloc, folder, &words);
+            drop(words);
+            planned(plan)
         }
         CommandName::Strings => {
             let words = StringsWords::of(alloc, command)?;
-            planned(plan_strings(alloc, folder, &words, moment))
+            let plan = plan_strings(alloc, folder, &words, moment);
+            drop(words);
+            planned(plan)
         }
         CommandName::Restring => {
             let words = RestringWords::of(alloc, command)?;
-            planned(plan_restring(alloc, folder, &words, moment))
+            let plan = plan_restring(alloc, folder, &words, moment);
+            drop(words);
+            planned(plan)
         }
-        CommandName::Sample => planned(plan_sample(alloc, command.number(), moment)),
-        CommandName::Help => Ok(Reply::Plan(Plan::text(alloc, help_text(alloc)?.as_slice())?)),
-        CommandName::Version => Ok(Reply::Plan(Plan::text(alloc, version_text())?)),
+        CommandName::Sample => {
+            let count = command.number();
+            drop(command);
+            planned(plan_sample(alloc, count, moment))
+        }
+        CommandName::Help => {
+            drop(command);
+            Ok(Reply::Plan(Plan::text(alloc, help_text(alloc)?.as_slice())?))
+        }
+        CommandName::Version => {
+            drop(command);
+            Ok(Reply::Plan(Plan::text(alloc, version_text())?))
+        }
     }
 }

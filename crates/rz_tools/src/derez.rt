@@ -142,12 +142,24 @@ fn show_under<F: Folder>(
     } = compiled;
     let Work {
         types,
+        resources,
         warnings,
-        ..
     } = work;
-    match Known::of(alloc, types, &macros, moment) {
-        Ok(known) => show_file(alloc, folder, words, known, &warnings, files),
-        Err(NoMemory) => Err(Halt::NoMemory),
+    drop(resources);
+    let known = Known::of(alloc, types, &macros, moment);
+    drop(macros);
+    match known {
+        Ok(known) => {
+            let shown = show_file(alloc, folder, words, known, &warnings, files);
+            drop(warnings);
+            shown
+        }
+        Err(NoMemory) => {
+            drop(words);
+            drop(warnings);
+            drop(files);
+            Err(Halt::NoMemory)
+        }
     }
 }
 
@@ -175,9 +187,12 @@ fn show_file<F: Folder>(
         from,
         only,
         skip,
-        ..
+        types,
     } = words;
-    match read_fork(alloc, folder, file.as_str(), from, warnings, files) {
+    drop(types);
+    let made = read_fork(alloc, folder, file.as_str(), from, warnings, files);
+    drop(file);
+    match made {
         Ok(made) => {
             let Made { bytes, said } = made;
             let text = ForkText {
@@ -188,7 +203,12 @@ fn show_file<F: Folder>(
             };
             Ok(ForkShown { text, said })
         }
-        Err(stop) => Err(stop),
+        Err(stop) => {
+            drop(only);
+            drop(skip);
+            drop(known);
+            Err(stop)
+        }
     }
 }
 

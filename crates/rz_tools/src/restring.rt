@@ -137,18 +137,31 @@ fn restring_under<F: Folder>(
 {
     let Compiled {
         work,
+        macros,
         mut files,
-        ..
     } = compiled;
+    drop(macros);
     let Work {
         types,
+        resources,
         warnings,
-        ..
     } = work;
+    drop(resources);
     let file = files.len();
-    files.push(words.catalogue.as_str())?;
+    match files.push(words.catalogue.as_str()) {
+        Ok(()) => (),
+        Err(NoMemory) => {
+            drop(types);
+            drop(warnings);
+            drop(files);
+            return Err(Halt::NoMemory);
+        }
+    }
     let output = restrung(alloc, folder, words, &types, file, moment);
-    halt_beside(alloc, output, &warnings, files)
+    drop(types);
+    let made = halt_beside(alloc, output, &warnings, files);
+    drop(warnings);
+    made
 }
 
 /// The file to write under these types, where the catalogue is behind so many files.

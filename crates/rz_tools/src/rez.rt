@@ -215,10 +215,20 @@ fn compile_behind<F: Folder>(
         moment,
     };
     let Beginning { base, list } = begun;
-    let start = Work::begun(alloc, types, list)?;
+    let start = match Work::begun(alloc, types, list) {
+        Ok(start) => start,
+        Err(NoMemory) => {
+            drop(base);
+            drop(program);
+            return Err(Halt::NoMemory);
+        }
+    };
     match compile_program(alloc, folder, &words.searches, program, start, setting) {
         Ok(compiled) => write_compiled(alloc, &words.target, base, compiled, moment),
-        Err(stop) => Err(stop),
+        Err(stop) => {
+            drop(base);
+            Err(stop)
+        }
     }
 }
 
@@ -238,17 +248,30 @@ fn write_compiled(
     ensures short { IfOk result (λ made. length made.bytes < 2 ^ 32) }
     ensures quiet { result ≡ Err ReadFault → ⊥ }
 {
-    let Compiled { work, files, .. } = compiled;
+    let Compiled {
+        work,
+        macros,
+        files,
+    } = compiled;
+    drop(macros);
     let Work {
+        types,
         resources,
         warnings,
-        ..
     } = work;
-    let list = resources.into_list(alloc)?;
-    say_beside(
-        alloc,
-        write_output(alloc, output, base, &list, moment),
-        &warnings,
-        files,
-    )
+    drop(types);
+    let list = match resources.into_list(alloc) {
+        Ok(list) => list,
+        Err(NoMemory) => {
+            drop(base);
+            drop(warnings);
+            drop(files);
+            return Err(Halt::NoMemory);
+        }
+    };
+    let output = write_output(alloc, output, base, &list, moment);
+    drop(list);
+    let made = say_beside(alloc, output, &warnings, files);
+    drop(warnings);
+    made
 }

@@ -97,11 +97,14 @@ fn whole_text(alloc: Global, shown: ForkShown) -> Result<Made, NoMemory>
     ensures said { IfOk result (λ made. made.said ≡ shown.said) }
 {
     every_list_is_shown();
+    let ForkShown { text, said } = shown;
     let mut sink = TextSink::new(alloc);
-    match shown.text.put(alloc, &mut sink)? {
+    let put = text.put(alloc, &mut sink);
+    drop(text);
+    match put? {
         Put::Done => Ok(Made {
             bytes: sink.into_bytes(),
-            said: shown.said,
+            said,
         }),
         Put::Failed => Err(NoMemory),
     }
@@ -114,12 +117,32 @@ fn compile_text(alloc: Global, text: &Bytes, moment: Moment) -> Result<Made, Hal
     ensures quiet { result ≡ Err ReadFault → ⊥ }
 {
     let mut shelf = Shelf::new(alloc);
-    hold(&mut shelf, "types", sample_source::types())?;
-    hold(&mut shelf, "text", text.as_slice())?;
+    let made = compile_text_on(alloc, &mut shelf, text, moment);
+    drop(shelf);
+    made
+}
+
+/// The same, over a shelf without files.
+fn compile_text_on(
+    alloc: Global,
+    shelf: &mut Shelf,
+    text: &Bytes,
+    moment: Moment,
+) -> Result<Made, Halt<Failing>>
+    requires { shelf.old ≡ finite.empty }
+    ensures made { Yields (seen making_of result) (CompilesAgain moment text.now) }
+    ensures sayable { OnRefusal result IsSayable }
+    ensures quiet { result ≡ Err ReadFault → ⊥ }
+{
+    hold(shelf, "types", sample_source::types())?;
+    hold(shelf, "text", text.as_slice())?;
     let mut files = FileNames::new(alloc);
     files.push("types")?;
     files.push("text")?;
-    compile(alloc, &mut shelf, &rez_words(alloc, files), moment)
+    let words = rez_words(alloc, files);
+    let made = compile(alloc, shelf, &words, moment);
+    drop(words);
+    made
 }
 
 /// Puts a file on a shelf, which takes fewer than 2^32 bytes, as each folder.

@@ -114,13 +114,23 @@ pub fn compile_program<F: Folder>(
             macros,
             files,
         }),
-        Err(Halt::Refused(fault)) => Err(Halt::Refused(refusal(
-            alloc,
-            fault,
-            &work.warnings,
-            files,
-        )?)),
-        Err(Halt::ReadFault) => Err(Halt::ReadFault),
-        Err(Halt::NoMemory) => Err(Halt::NoMemory),
+        Err(Halt::Refused(fault)) => {
+            drop(macros);
+            let refused = refusal(alloc, fault, &work.warnings, files);
+            drop(work);
+            Err(Halt::Refused(refused?))
+        }
+        Err(Halt::ReadFault) => {
+            drop(work);
+            drop(macros);
+            drop(files);
+            Err(Halt::ReadFault)
+        }
+        Err(Halt::NoMemory) => {
+            drop(work);
+            drop(macros);
+            drop(files);
+            Err(Halt::NoMemory)
+        }
     }
 }

@@ -114,7 +114,9 @@ fn step_at<F: Folder>(
             }
             Stmt::List(stmt) => {
                 let resources = &mut work.resources;
-                list_step(alloc, folder, paths, &stmt, mark, setting, resources)
+                let ended = list_step(alloc, folder, paths, &stmt, mark, setting, resources);
+                drop(stmt);
+                ended
             }
             Stmt::Compile(stmt) => {
                 let types = &work.types;

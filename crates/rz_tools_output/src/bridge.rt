@@ -196,20 +196,37 @@ fn listed(
     ensures writes { IfOk result (λ writes. AreWrites (bridge words.now) file bytes (map write_of writes)) }
     ensures writable { IfOk result (λ writes. AreWritable (map write_of writes)) }
 {
-    let mut writes = Writes::new(alloc);
+    let data_fork = data_fork_of(file);
     let header = Write {
         name: words.output.to_string(alloc)?,
         bytes,
     };
-    if !matches!(words.to, Form::AppleDouble) || file.data_fork.is_empty() {
+    let mut writes = Writes::new(alloc);
+    if !matches!(words.to, Form::AppleDouble) || data_fork.is_empty() {
+        drop(data_fork);
         writes.push(header)?;
         return Ok(writes);
     }
     let data_file = Write {
         name: data_file_name(alloc, words.output)?,
-        bytes: file.data_fork,
+        bytes: data_fork,
     };
     writes.push(data_file)?;
     writes.push(header)?;
     Ok(writes)
+}
+
+/// The data fork of a file of which nothing else is needed.
+fn data_fork_of(file: MacFile) -> Bytes
+    ensures { result ≡ file.data_fork }
+{
+    let MacFile {
+        name,
+        data_fork,
+        res_fork,
+        ..
+    } = file;
+    drop(name);
+    drop(res_fork);
+    data_fork
 }

@@ -36,9 +36,15 @@ pub fn resource_of<F: Folder>(
     ensures nameable { (files : ℕ) → mark.file < files → OnRefusal result (IsNameable files) }
     ensures reads { OnlyReads F.files F.read_faults F.write_faults folder.old folder.new (IsReadFault result) }
 {
-    match facts_of(alloc, raw.kind, &raw.head, mark, setting) {
-        Ok(known) => with_text(alloc, folder, paths, known, raw.texts, mark),
-        Err(stop) => Err(Halt::from(stop)),
+    let RawStmt { kind, head, texts } = raw;
+    let said = facts_of(alloc, kind, &head, mark, setting);
+    drop(head);
+    match said {
+        Ok(known) => with_text(alloc, folder, paths, known, texts, mark),
+        Err(stop) => {
+            drop(texts);
+            Err(Halt::from(stop))
+        }
     }
 }
 

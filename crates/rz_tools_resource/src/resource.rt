@@ -45,8 +45,11 @@ pub fn resource_of_items<F: Folder>(
     ensures nameable { (files : ℕ) → mark.file < files → AreItemsWithin files (plain_items stmt.items) → OnRefusal result (IsNameable files) }
     ensures reads { OnlyReads F.files F.read_faults F.write_faults folder.old folder.new (IsReadFault result) }
 {
-    let known = facts_of(alloc, stmt.kind, &stmt.head, mark, setting)?;
-    match bytes_of(alloc, folder, paths, stmt.items, mark, &known, types) {
+    let CompileStmt { kind, head, items } = stmt;
+    let said = facts_of(alloc, kind, &head, mark, setting);
+    drop(head);
+    let known = said?;
+    match bytes_of(alloc, folder, paths, items, mark, &known, types) {
         Ok(bytes) => Ok(with_bytes(known, bytes)),
         Err(halt) => Err(halt),
     }

@@ -23,115 +23,115 @@ use Rattle.rz_tools.proofs.Planned.{as_bridge, as_derez, as_det, as_held, as_nam
 use Rattle.rz_tools.proofs.Replied.{plan_end, plan_held, plan_no_usage, plan_sound, reads_as}
 use Rattle.rz_tools.proofs.answer.answer_command.Goals as goal
 
-pub plan_rez-requires : goal.plan_rez-requires
-plan_rez-requires g c = subst HaveLexedTexts (sym (ap (λ (a : RezAsked). a.defs) c.in_ok-words-in-Rez.ensures)) c.requires.lexed
+pub plan_rez-plan-requires : goal.plan_rez-plan-requires
+plan_rez-plan-requires g c = subst HaveLexedTexts (sym (ap (λ (a : RezAsked). a.defs) c.in_ok-words-in-Rez.ensures)) c.requires.lexed
 
 pub answer_derez-requires : goal.answer_derez-requires
 answer_derez-requires g c = subst HaveLexedTexts (sym (ap (λ (a : DeRezAsked). a.types.defs) c.in_ok-words-in-DeRez.ensures)) c.requires.lexed
 
-pub plan_strings-requires : goal.plan_strings-requires
-plan_strings-requires g c = subst HaveLexedTexts (sym (ap (λ (a : StringsAsked). a.types.defs) c.in_ok-words-in-Strings.ensures)) c.requires.lexed
+pub plan_strings-plan-requires : goal.plan_strings-plan-requires
+plan_strings-plan-requires g c = subst HaveLexedTexts (sym (ap (λ (a : StringsAsked). a.types.defs) c.in_ok-words-in-Strings.ensures)) c.requires.lexed
 
-pub plan_restring-requires : goal.plan_restring-requires
-plan_restring-requires g c = subst HaveLexedTexts (sym (ap (λ (a : RestringAsked). a.types.defs) c.in_ok-words-in-Restring.ensures)) c.requires.lexed
+pub plan_restring-plan-requires : goal.plan_restring-plan-requires
+plan_restring-plan-requires g c = subst HaveLexedTexts (sym (ap (λ (a : RestringAsked). a.types.defs) c.in_ok-words-in-Restring.ensures)) c.requires.lexed
 
 -- Plans.
 
 pub returns-in_ok-words-in-Rez-clause-answered : goal.returns-in_ok-words-in-Rez-clause-answered
 returns-in_ok-words-in-Rez-clause-answered g c =
     plan_named c.args.command.name names.Rez (items_of c.args.command) c.args.moment c.in-Rez.is (g.F.Folder.files c.args.folder.now)
-    c.plan_rez.result c.planned.result c.planned.ensures
-    (as_rez c.args.moment (g.F.Folder.files c.args.folder.now) c.plan_rez.result (rez c.in_ok-words-in-Rez.words) (rez_asked (items_of c.args.command)) c.in_ok-words-in-Rez.ensures
-    c.plan_rez.ensures.answered)
+    c.plan_rez-plan.result c.planned.result c.planned.ensures
+    (as_rez c.args.moment (g.F.Folder.files c.args.folder.now) c.plan_rez-plan.result (rez c.in_ok-words-in-Rez.words) (rez_asked (items_of c.args.command)) c.in_ok-words-in-Rez.ensures
+    c.plan_rez-plan.ensures.answered)
 
 pub returns-in_ok-words-in-Rez-clause-sound : goal.returns-in_ok-words-in-Rez-clause-sound
-returns-in_ok-words-in-Rez-clause-sound g c = plan_sound c.plan_rez.result c.planned.result c.planned.ensures c.plan_rez.ensures.well_formed c.plan_rez.ensures.writable
+returns-in_ok-words-in-Rez-clause-sound g c = plan_sound c.plan_rez-plan.result c.planned.result c.planned.ensures c.plan_rez-plan.ensures.well_formed c.plan_rez-plan.ensures.writable
 
 pub returns-in_ok-words-in-Rez-clause-no_usage : goal.returns-in_ok-words-in-Rez-clause-no_usage
-returns-in_ok-words-in-Rez-clause-no_usage g c = plan_no_usage c.plan_rez.result c.planned.result c.planned.ensures c.plan_rez.ensures.no_usage
+returns-in_ok-words-in-Rez-clause-no_usage g c = plan_no_usage c.plan_rez-plan.result c.planned.result c.planned.ensures c.plan_rez-plan.ensures.no_usage
 
 pub returns-in_ok-words-in-Rez-clause-reads : goal.returns-in_ok-words-in-Rez-clause-reads
 returns-in_ok-words-in-Rez-clause-reads g c =
-    reads_as g.F.Folder.files g.F.Folder.read_faults g.F.Folder.write_faults c.args.folder.now c.plan_rez.new.folder
-    (plan_end c.plan_rez.result c.planned.result c.planned.ensures ReadFault) c.plan_rez.ensures.reads
+    reads_as g.F.Folder.files g.F.Folder.read_faults g.F.Folder.write_faults c.args.folder.now c.plan_rez-plan.new.folder
+    (plan_end c.plan_rez-plan.result c.planned.result c.planned.ensures ReadFault) c.plan_rez-plan.ensures.reads
 
 pub returns-in_ok-words-in-Bridge-clause-answered : goal.returns-in_ok-words-in-Bridge-clause-answered
 returns-in_ok-words-in-Bridge-clause-answered g c =
     plan_named c.args.command.name names.Bridge (items_of c.args.command) c.args.moment c.in-Bridge.is (g.F.Folder.files c.args.folder.now)
-    c.plan_bridge.result c.planned-in-Bridge.result c.planned-in-Bridge.ensures
-    (as_bridge c.args.moment (g.F.Folder.files c.args.folder.now) c.plan_bridge.result (bridge c.in_ok-words-in-Bridge.words) (bridge_asked (items_of c.args.command)) c.in_ok-words-in-Bridge.ensures
-    c.plan_bridge.ensures.answered)
+    c.plan_bridge-plan.result c.planned-in-Bridge.result c.planned-in-Bridge.ensures
+    (as_bridge c.args.moment (g.F.Folder.files c.args.folder.now) c.plan_bridge-plan.result (bridge c.in_ok-words-in-Bridge.words) (bridge_asked (items_of c.args.command)) c.in_ok-words-in-Bridge.ensures
+    c.plan_bridge-plan.ensures.answered)
 
 pub returns-in_ok-words-in-Bridge-clause-sound : goal.returns-in_ok-words-in-Bridge-clause-sound
-returns-in_ok-words-in-Bridge-clause-sound g c = plan_sound c.plan_bridge.result c.planned-in-Bridge.result c.planned-in-Bridge.ensures c.plan_bridge.ensures.well_formed c.plan_bridge.ensures.writable
+returns-in_ok-words-in-Bridge-clause-sound g c = plan_sound c.plan_bridge-plan.result c.planned-in-Bridge.result c.planned-in-Bridge.ensures c.plan_bridge-plan.ensures.well_formed c.plan_bridge-plan.ensures.writable
 
 pub returns-in_ok-words-in-Bridge-clause-no_usage : goal.returns-in_ok-words-in-Bridge-clause-no_usage
-returns-in_ok-words-in-Bridge-clause-no_usage g c = plan_no_usage c.plan_bridge.result c.planned-in-Bridge.result c.planned-in-Bridge.ensures c.plan_bridge.ensures.no_usage
+returns-in_ok-words-in-Bridge-clause-no_usage g c = plan_no_usage c.plan_bridge-plan.result c.planned-in-Bridge.result c.planned-in-Bridge.ensures c.plan_bridge-plan.ensures.no_usage
 
 pub returns-in_ok-words-in-Bridge-clause-reads : goal.returns-in_ok-words-in-Bridge-clause-reads
 returns-in_ok-words-in-Bridge-clause-reads g c =
-    reads_as g.F.Folder.files g.F.Folder.read_faults g.F.Folder.write_faults c.args.folder.now c.plan_bridge.new.folder
-    (plan_end c.plan_bridge.result c.planned-in-Bridge.result c.planned-in-Bridge.ensures ReadFault) c.plan_bridge.ensures.reads
+    reads_as g.F.Folder.files g.F.Folder.read_faults g.F.Folder.write_faults c.args.folder.now c.plan_bridge-plan.new.folder
+    (plan_end c.plan_bridge-plan.result c.planned-in-Bridge.result c.planned-in-Bridge.ensures ReadFault) c.plan_bridge-plan.ensures.reads
 
 pub returns-in_ok-words-in-Det-clause-answered : goal.returns-in_ok-words-in-Det-clause-answered
 returns-in_ok-words-in-Det-clause-answered g c =
     plan_named c.args.command.name names.Det (items_of c.args.command) c.args.moment c.in-Det.is (g.F.Folder.files c.args.folder.now)
-    c.plan_det.result c.planned-in-Det.result c.planned-in-Det.ensures
-    (as_det c.args.moment (g.F.Folder.files c.args.folder.now) c.plan_det.result (det c.in_ok-words-in-Det.words) (det_asked (items_of c.args.command)) c.in_ok-words-in-Det.ensures
-    c.plan_det.ensures.answered)
+    c.plan_det-plan.result c.planned-in-Det.result c.planned-in-Det.ensures
+    (as_det c.args.moment (g.F.Folder.files c.args.folder.now) c.plan_det-plan.result (det c.in_ok-words-in-Det.words) (det_asked (items_of c.args.command)) c.in_ok-words-in-Det.ensures
+    c.plan_det-plan.ensures.answered)
 
 pub returns-in_ok-words-in-Det-clause-sound : goal.returns-in_ok-words-in-Det-clause-sound
-returns-in_ok-words-in-Det-clause-sound g c = plan_sound c.plan_det.result c.planned-in-Det.result c.planned-in-Det.ensures c.plan_det.ensures.well_formed c.plan_det.ensures.writable
+returns-in_ok-words-in-Det-clause-sound g c = plan_sound c.plan_det-plan.result c.planned-in-Det.result c.planned-in-Det.ensures c.plan_det-plan.ensures.well_formed c.plan_det-plan.ensures.writable
 
 pub returns-in_ok-words-in-Det-clause-no_usage : goal.returns-in_ok-words-in-Det-clause-no_usage
-returns-in_ok-words-in-Det-clause-no_usage g c = plan_no_usage c.plan_det.result c.planned-in-Det.result c.planned-in-Det.ensures c.plan_det.ensures.no_usage
+returns-in_ok-words-in-Det-clause-no_usage g c = plan_no_usage c.plan_det-plan.result c.planned-in-Det.result c.planned-in-Det.ensures c.plan_det-plan.ensures.no_usage
 
 pub returns-in_ok-words-in-Det-clause-reads : goal.returns-in_ok-words-in-Det-clause-reads
 returns-in_ok-words-in-Det-clause-reads g c =
-    reads_as g.F.Folder.files g.F.Folder.read_faults g.F.Folder.write_faults c.args.folder.now c.plan_det.new.folder
-    (plan_end c.plan_det.result c.planned-in-Det.result c.planned-in-Det.ensures ReadFault) c.plan_det.ensures.reads
+    reads_as g.F.Folder.files g.F.Folder.read_faults g.F.Folder.write_faults c.args.folder.now c.plan_det-plan.new.folder
+    (plan_end c.plan_det-plan.result c.planned-in-Det.result c.planned-in-Det.ensures ReadFault) c.plan_det-plan.ensures.reads
 
 pub returns-in_ok-words-in-Strings-clause-answered : goal.returns-in_ok-words-in-Strings-clause-answered
 returns-in_ok-words-in-Strings-clause-answered g c =
     plan_named c.args.command.name names.Strings (items_of c.args.command) c.args.moment c.in-Strings.is (g.F.Folder.files c.args.folder.now)
-    c.plan_strings.result c.planned-in-Strings.result c.planned-in-Strings.ensures
-    (as_strings c.args.moment (g.F.Folder.files c.args.folder.now) c.plan_strings.result (strings c.in_ok-words-in-Strings.words) (strings_asked (items_of c.args.command)) c.in_ok-words-in-Strings.ensures
-    c.plan_strings.ensures.answered)
+    c.plan_strings-plan.result c.planned-in-Strings.result c.planned-in-Strings.ensures
+    (as_strings c.args.moment (g.F.Folder.files c.args.folder.now) c.plan_strings-plan.result (strings c.in_ok-words-in-Strings.words) (strings_asked (items_of c.args.command)) c.in_ok-words-in-Strings.ensures
+    c.plan_strings-plan.ensures.answered)
 
 pub returns-in_ok-words-in-Strings-clause-sound : goal.returns-in_ok-words-in-Strings-clause-sound
-returns-in_ok-words-in-Strings-clause-sound g c = plan_sound c.plan_strings.result c.planned-in-Strings.result c.planned-in-Strings.ensures c.plan_strings.ensures.well_formed c.plan_strings.ensures.writable
+returns-in_ok-words-in-Strings-clause-sound g c = plan_sound c.plan_strings-plan.result c.planned-in-Strings.result c.planned-in-Strings.ensures c.plan_strings-plan.ensures.well_formed c.plan_strings-plan.ensures.writable
 
 pub returns-in_ok-words-in-Strings-clause-no_usage : goal.returns-in_ok-words-in-Strings-clause-no_usage
-returns-in_ok-words-in-Strings-clause-no_usage g c = plan_no_usage c.plan_strings.result c.planned-in-Strings.result c.planned-in-Strings.ensures c.plan_strings.ensures.no_usage
+returns-in_ok-words-in-Strings-clause-no_usage g c = plan_no_usage c.plan_strings-plan.result c.planned-in-Strings.result c.planned-in-Strings.ensures c.plan_strings-plan.ensures.no_usage
 
 pub returns-in_ok-words-in-Strings-clause-reads : goal.returns-in_ok-words-in-Strings-clause-reads
 returns-in_ok-words-in-Strings-clause-reads g c =
-    reads_as g.F.Folder.files g.F.Folder.read_faults g.F.Folder.write_faults c.args.folder.now c.plan_strings.new.folder
-    (plan_end c.plan_strings.result c.planned-in-Strings.result c.planned-in-Strings.ensures ReadFault) c.plan_strings.ensures.reads
+    reads_as g.F.Folder.files g.F.Folder.read_faults g.F.Folder.write_faults c.args.folder.now c.plan_strings-plan.new.folder
+    (plan_end c.plan_strings-plan.result c.planned-in-Strings.result c.planned-in-Strings.ensures ReadFault) c.plan_strings-plan.ensures.reads
 
 pub returns-in_ok-words-in-Restring-clause-answered : goal.returns-in_ok-words-in-Restring-clause-answered
 returns-in_ok-words-in-Restring-clause-answered g c =
     plan_named c.args.command.name names.Restring (items_of c.args.command) c.args.moment c.in-Restring.is (g.F.Folder.files c.args.folder.now)
-    c.plan_restring.result c.planned-in-Restring.result c.planned-in-Restring.ensures
-    (as_restring c.args.moment (g.F.Folder.files c.args.folder.now) c.plan_restring.result (restring c.in_ok-words-in-Restring.words) (restring_asked (items_of c.args.command)) c.in_ok-words-in-Restring.ensures
-    c.plan_restring.ensures.answered)
+    c.plan_restring-plan.result c.planned-in-Restring.result c.planned-in-Restring.ensures
+    (as_restring c.args.moment (g.F.Folder.files c.args.folder.now) c.plan_restring-plan.result (restring c.in_ok-words-in-Restring.words) (restring_asked (items_of c.args.command)) c.in_ok-words-in-Restring.ensures
+    c.plan_restring-plan.ensures.answered)
 
 pub returns-in_ok-words-in-Restring-clause-sound : goal.returns-in_ok-words-in-Restring-clause-sound
-returns-in_ok-words-in-Restring-clause-sound g c = plan_sound c.plan_restring.result c.planned-in-Restring.result c.planned-in-Restring.ensures c.plan_restring.ensures.well_formed c.plan_restring.ensures.writable
+returns-in_ok-words-in-Restring-clause-sound g c = plan_sound c.plan_restring-plan.result c.planned-in-Restring.result c.planned-in-Restring.ensures c.plan_restring-plan.ensures.well_formed c.plan_restring-plan.ensures.writable
 
 pub returns-in_ok-words-in-Restring-clause-no_usage : goal.returns-in_ok-words-in-Restring-clause-no_usage
-returns-in_ok-words-in-Restring-clause-no_usage g c = plan_no_usage c.plan_restring.result c.planned-in-Restring.result c.planned-in-Restring.ensures c.plan_restring.ensures.no_usage
+returns-in_ok-words-in-Restring-clause-no_usage g c = plan_no_usage c.plan_restring-plan.result c.planned-in-Restring.result c.planned-in-Restring.ensures c.plan_restring-plan.ensures.no_usage
 
 pub returns-in_ok-words-in-Restring-clause-reads : goal.returns-in_ok-words-in-Restring-clause-reads
 returns-in_ok-words-in-Restring-clause-reads g c =
-    reads_as g.F.Folder.files g.F.Folder.read_faults g.F.Folder.write_faults c.args.folder.now c.plan_restring.new.folder
-    (plan_end c.plan_restring.result c.planned-in-Restring.result c.planned-in-Restring.ensures ReadFault) c.plan_restring.ensures.reads
+    reads_as g.F.Folder.files g.F.Folder.read_faults g.F.Folder.write_faults c.args.folder.now c.plan_restring-plan.new.folder
+    (plan_end c.plan_restring-plan.result c.planned-in-Restring.result c.planned-in-Restring.ensures ReadFault) c.plan_restring-plan.ensures.reads
 
 pub returns-in-Sample-clause-answered : goal.returns-in-Sample-clause-answered
 returns-in-Sample-clause-answered g c =
     plan_named c.args.command.name names.Sample (items_of c.args.command) c.args.moment c.in-Sample.is (g.F.Folder.files c.args.folder.now)
     c.plan_sample.result c.planned-in-Sample.result c.planned-in-Sample.ensures
-    (as_sample c.args.moment (g.F.Folder.files c.args.folder.now) c.plan_sample.result _ (places_of (items_of c.args.command)) c.number.ensures c.plan_sample.ensures.answered)
+    (as_sample c.args.moment (g.F.Folder.files c.args.folder.now) c.plan_sample.result _ (places_of (items_of c.args.command)) c.number-count.ensures c.plan_sample.ensures.answered)
 
 pub returns-in-Sample-clause-sound : goal.returns-in-Sample-clause-sound
 returns-in-Sample-clause-sound g c = plan_sound c.plan_sample.result c.planned-in-Sample.result c.planned-in-Sample.ensures c.plan_sample.ensures.well_formed c.plan_sample.ensures.writable
@@ -158,7 +158,7 @@ returns-in_ok-words-in-Strings-clause-listed g c is =
     let own = strings c.in_ok-words-in-Strings.words in
     subst (λ (a : StringsAsked). IfSome before (λ files. IfSome (finite.get files a.file) (λ bytes. IfOk c.planned-in-Strings.result (λ reply. outcome_of reply ≡ Done → HoldsFile a.from bytes))))
     c.in_ok-words-in-Strings.ensures
-    (plan_held c.plan_strings.result c.planned-in-Strings.result c.planned-in-Strings.ensures before (λ files. finite.get files own.file) (HoldsFile own.from) c.plan_strings.ensures.held)
+    (plan_held c.plan_strings-plan.result c.planned-in-Strings.result c.planned-in-Strings.ensures before (λ files. finite.get files own.file) (HoldsFile own.from) c.plan_strings-plan.ensures.held)
 
 -- Texts that are there.
 

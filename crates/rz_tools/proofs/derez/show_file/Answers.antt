@@ -12,7 +12,7 @@ returns-in-Ok-clause-text g c moment compiled same_files same_warnings same_know
 pub returns-in-Ok-clause-held : goal.returns-in-Ok-clause-held
 returns-in-Ok-clause-held g c = held_there c.args.words.from c.as_str.result.now _ c.as_str.ensures.value (g.F.Folder.files c.args.folder.now) c.in-Ok.ensures.held
 
-pub returns-clause-text : goal.returns-clause-text
-returns-clause-text g c moment compiled same_files same_warnings same_known text is =
+pub returns-in-Err-clause-text : goal.returns-in-Err-clause-text
+returns-in-Err-clause-text g c moment compiled same_files same_warnings same_known text is =
     text_stopped moment (derez c.args.words) compiled c.as_str.result.now c.as_str.ensures.value c.in-Err.stop
     (g.F.Folder.files c.args.folder.now) (c.in-Err.ensures.fork compiled same_files same_warnings)

@@ -12,15 +12,15 @@ use Rattle.rz_tools.proofs.Compiling.{work_stopped, work_written}
 use Rattle.rz_tools.proofs.rez.compile_behind.Goals as goal
 use Rattle.rz_types_table.specs.TypeTable.{table_of}
 
-pub returns-in-Ok-clause-made : goal.returns-in-Ok-clause-made
-returns-in-Ok-clause-made g c =
-    work_written c.args.moment (rez c.args.words.now) c.args.program (table_of c.args.types) (begun_of c.args.begun) (g.F.Folder.files c.args.folder.now) (compiled_of c.in-Ok.compiled)
+pub returns-in-Ok-compile_program-clause-made : goal.returns-in-Ok-compile_program-clause-made
+returns-in-Ok-compile_program-clause-made g c =
+    work_written c.args.moment (rez c.args.words.now) c.args.program (table_of c.args.types) (begun_of c.args.begun) (g.F.Folder.files c.args.folder.now) (compiled_of c.in-Ok-compile_program.compiled)
     (subst (λ (w : Work). IfSome (g.F.Folder.files c.args.folder.now) (λ files. (s : State) → IsProgram c.args.program s
-    → HasWork (around_of c.args.moment (rez c.args.words.now) files) w s (Ok (compiled_of c.in-Ok.compiled)))) c.in_ok-start.ensures c.in-Ok.ensures.compiled)
+    → HasWork (around_of c.args.moment (rez c.args.words.now) files) w s (Ok (compiled_of c.in-Ok-compile_program.compiled)))) c.in-Ok.ensures c.in-Ok-compile_program.ensures.compiled)
     c.write_compiled.result (c.write_compiled.ensures.made c.args.begun.list)
 
-pub returns-in-Err-clause-made : goal.returns-in-Err-clause-made
-returns-in-Err-clause-made g c =
-    work_stopped c.args.moment (rez c.args.words.now) c.args.program (table_of c.args.types) (begun_of c.args.begun) (g.F.Folder.files c.args.folder.now) c.in-Err.stop
+pub returns-in-Err-compile_program-clause-made : goal.returns-in-Err-compile_program-clause-made
+returns-in-Err-compile_program-clause-made g c =
+    work_stopped c.args.moment (rez c.args.words.now) c.args.program (table_of c.args.types) (begun_of c.args.begun) (g.F.Folder.files c.args.folder.now) c.in-Err-compile_program.stop
     (subst (λ (w : Work). IfSome (g.F.Folder.files c.args.folder.now) (λ files. (s : State) → IsProgram c.args.program s
-    → Yields {X = Compiled} (Err c.in-Err.stop) (HasWork (around_of c.args.moment (rez c.args.words.now) files) w s))) c.in_ok-start.ensures c.in-Err.ensures.compiled)
+    → Yields {X = Compiled} (Err c.in-Err-compile_program.stop) (HasWork (around_of c.args.moment (rez c.args.words.now) files) w s))) c.in-Ok.ensures c.in-Err-compile_program.ensures.compiled)

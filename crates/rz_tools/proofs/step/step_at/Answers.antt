@@ -50,16 +50,16 @@ returns-in-Raw-clause-reads g c =
     (reads_nothing g.F.Folder.files g.F.Folder.read_faults g.F.Folder.write_faults c.args.folder.now) c.resource_of-made.ensures.reads c.put_made.ensures.unread
 
 pub returns-in-List-clause-stepped : goal.returns-in-List-clause-stepped
-returns-in-List-clause-stepped g c = IfSome_then (g.F.Folder.files c.args.folder.now) c.list_step.ensures.stepped (λ files so.
+returns-in-List-clause-stepped g c = IfSome_then (g.F.Folder.files c.args.folder.now) c.list_step-ended.ensures.stepped (λ files so.
     let all = around c.args.setting c.args.paths.now files in
     let work = work_of c.args.work.now in
     listed all work (tokens_at c.args.tokens c.args.span) c.at.result.now.mark (first_mark c.args.tokens c.args.span c.at.result.now c.requires.span c.at.ensures)
     (statement_of c.in-Ok.stmt) (Lists (list_of c.in-List.stmt)) c.in-Ok.ensures.parsed c.in-List.ensures
-    (λ list. list ≡ list_after all c.at.result.now.mark work.list (list_of c.in-List.stmt)) (λ list is. ap (with_list work) is) c.list_step.result c.list_step.new.resources so)
+    (λ list. list ≡ list_after all c.at.result.now.mark work.list (list_of c.in-List.stmt)) (λ list is. ap (with_list work) is) c.list_step-ended.result c.list_step-ended.new.resources so)
 
 pub returns-in-List-clause-nameable : goal.returns-in-List-clause-nameable
 returns-in-List-clause-nameable g c files within =
-    c.list_step.ensures.nameable files (within_at files c.args.tokens c.args.span.start c.at.result.now within c.at.ensures)
+    c.list_step-ended.ensures.nameable files (within_at files c.args.tokens c.args.span.start c.at.result.now within c.at.ensures)
 
 pub returns-in-Compile-clause-stepped : goal.returns-in-Compile-clause-stepped
 returns-in-Compile-clause-stepped g c = IfSome_then (g.F.Folder.files c.args.folder.now) c.resource_of_items-made.ensures.resource (λ files so.

@@ -20,8 +20,8 @@ returns-in-Ok-clause-resource g c = IfSome_then (g.F.Folder.files c.args.folder.
     (then_yields (AreBytes c.args.paths.now files c.args.mark (table_of c.args.types.now) (plain_items c.args.stmt.items) c.in_ok-known.known)
     (λ bytes answer. answer ≡ Ok (with_bytes c.in_ok-known.known bytes)) c.in-Ok.bytes yields (Ok c.with_bytes.result) (ap (λ (r : Resource). Ok r) c.with_bytes.ensures)))
 
-pub returns-clause-resource : goal.returns-clause-resource
-returns-clause-resource g c = IfSome_then (g.F.Folder.files c.args.folder.now) c.in-Err.ensures.bytes (λ files yields.
+pub returns-in-Err-clause-resource : goal.returns-in-Err-clause-resource
+returns-in-Err-clause-resource g c = IfSome_then (g.F.Folder.files c.args.folder.now) c.in-Err.ensures.bytes (λ files yields.
     then_yields (λ answer. answer ≡ facts_of c.args.setting c.args.mark c.args.stmt.kind.code (head_of c.args.stmt.head))
     (IsMade c.args.paths.now files c.args.mark (table_of c.args.types.now) (plain_items c.args.stmt.items)) c.in_ok-known.known (sym c.in_ok-known.ensures.facts) (Err c.in-Err.halt)
     (then_halts (AreBytes c.args.paths.now files c.args.mark (table_of c.args.types.now) (plain_items c.args.stmt.items) c.in_ok-known.known)
