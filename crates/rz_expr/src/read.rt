@@ -4,7 +4,7 @@ ghost use Rattle.std.specs.Prelude.{◌≡◌, ◌+◌, ◌*◌, ◌%◌, ◌^�
 ghost use Rattle.rz_expr.specs.Fronts.{NoneBegins, NoneEnds};
 ghost use Rattle.rz_expr.specs.Grammar.{bytes_number, is_bracket, loosest, sign_start, word_start, Bracket, Calls, IsExpression, Label, LongestExpression, NoExpression};
 ghost use Rattle.rz_expr.specs.Reading.{prefix_count, prefix_of, prefixed_term, Begins, IsEnded, IsFront};
-ghost use Rattle.rz_expr.specs.Term.{term_of, BitsAt, Constant, Indexed, Term};
+ghost use Rattle.rz_expr.specs.Term.{term_of, BitsAt, Constant, Indexed, OfTwo, Term};
 ghost use Rattle.rz_expr.specs.Value.{reduced};
 ghost use Rattle.rz_words.specs.Words.{role_of};
 ghost use Rattle.rz_words.specs.declared.words.Function.TheVariants as function;
@@ -12,7 +12,7 @@ ghost use Rattle.rz_lex.specs.declared.token.Token.{Token};
 
 use crate::operators::{Frame, argument, ends_at, index_at, operator_at, prefix_at, prefix_count};
 use crate::value::signed;
-use crate::{Expr, Function, Role, role_of};
+use crate::{BinaryOp, Expr, Function, Role, role_of};
 use rz_core::{Bytes, NoMemory, Word};
 use rz_lex::{Shape, Sign, Token, Tokens};
 use std::alloc::Global;
@@ -83,6 +83,7 @@ pub fn read_whole(alloc: Global, tokens: &[Token]) -> Result<Option<Expr>, NoMem
             if front.length == tokens.len() {
                 Ok(Some(front.expr))
             } else {
+                drop(front);
                 Ok(None)
             }
         }
@@ -117,11 +118,37 @@ fn read_level(alloc: Global, tokens: &[Token], level: u8) -> Result<Option<Front
         let Some(op) = operator_at(rest, level) else {
             return Ok(Some(Front { expr, length }));
         };
-        let Some(right) = read_level(alloc, behind(rest, 1), level - 1)? else {
-            return Ok(Some(Front { expr, length }));
+        let right = match read_level(alloc, behind(rest, 1), level - 1) {
+            Ok(Some(right)) => right,
+            Ok(None) => return Ok(Some(Front { expr, length })),
+            Err(NoMemory) => {
+                drop(expr);
+                return Err(NoMemory);
+            }
         };
-        expr = Expr::Binary(op, Box::new(alloc, expr)?, Box::new(alloc, right.expr)?);
+        expr = binary(alloc, op, expr, right.expr)?;
         length = length + 1 + right.length;
+    }
+}
+
+/// An operator between its operands.
+fn binary(alloc: Global, op: BinaryOp, left: Expr, right: Expr) -> Result<Expr, NoMemory>
+    ensures { IfOk result (λ expr. term_of expr ≡ OfTwo op (term_of left) (term_of right)) }
+{
+    let (left, right) = both_boxed(alloc, left, right)?;
+    Ok(Expr::Binary(op, left, right))
+}
+
+/// Two expressions, each in a box.
+fn both_boxed(alloc: Global, left: Expr, right: Expr) -> Result<(Box<Expr>, Box<Expr>), NoMemory>
+    ensures { IfOk result (λ both. (both.0.value ≡ left) × (both.1.value ≡ right)) }
+{
+    match Box::new(alloc, left) {
+        Ok(left) => Ok((left, Box::new(alloc, right)?)),
+        Err(_) => {
+            drop(right);
+            Err(NoMemory)
+        }
     }
 }
 
@@ -274,7 +301,13 @@ fn read_label(alloc: Global, tokens: &[Token], label: &Word) -> Result<Option<Fr
 fn indexed(alloc: Global, label: &Word, index: Expr) -> Result<Expr, NoMemory>
     ensures { IfOk result (λ expr. term_of expr ≡ Indexed label.now.bytes (term_of index)) }
 {
-    Ok(Expr::Indexed(label.copy(alloc)?, Box::new(alloc, index)?))
+    match label.copy(alloc) {
+        Ok(label) => Ok(Expr::Indexed(label, Box::new(alloc, index)?)),
+        Err(NoMemory) => {
+            drop(index);
+            Err(NoMemory)
+        }
+    }
 }
 
 /// The number of rows of an array.
@@ -326,11 +359,15 @@ fn read_data(alloc: Global, tokens: &[Token], width: u8) -> Result<Option<Front>
 fn bits_at(alloc: Global, label: &Word, start: Expr, width: Expr) -> Result<Expr, NoMemory>
     ensures { IfOk result (λ expr. term_of expr ≡ BitsAt label.now.bytes (term_of start) (term_of width)) }
 {
-    Ok(Expr::Bits(
-        label.copy(alloc)?,
-        Box::new(alloc, start)?,
-        Box::new(alloc, width)?,
-    ))
+    let (start, width) = both_boxed(alloc, start, width)?;
+    match label.copy(alloc) {
+        Ok(label) => Ok(Expr::Bits(label, start, width)),
+        Err(NoMemory) => {
+            drop(start);
+            drop(width);
+            Err(NoMemory)
+        }
+    }
 }
 
 /// So many bits at a label.
@@ -355,13 +392,20 @@ fn read_bit_field(alloc: Global, tokens: &[Token]) -> Result<Option<Front>, NoMe
     let Some(start) = read_until(alloc, rest, Frame::InStart)? else {
         return Ok(None);
     };
-    let Some(width) = read_until(alloc, behind(rest, start.length), Frame::InWidth)? else {
-        return Ok(None);
-    };
-    Ok(Some(Front {
-        expr: bits_at(alloc, name, start.expr, width.expr)?,
-        length: 4 + start.length + width.length,
-    }))
+    match read_until(alloc, behind(rest, start.length), Frame::InWidth) {
+        Ok(Some(width)) => Ok(Some(Front {
+            expr: bits_at(alloc, name, start.expr, width.expr)?,
+            length: 4 + start.length + width.length,
+        })),
+        Ok(None) => {
+            drop(start);
+            Ok(None)
+        }
+        Err(NoMemory) => {
+            drop(start);
+            Err(NoMemory)
+        }
+    }
 }
 
 /// An expression in brackets.
@@ -394,6 +438,7 @@ fn read_until(alloc: Global, tokens: &[Token], frame: Frame) -> Result<Option<Fr
                     length: front.length + 1,
                 }))
             } else {
+                drop(front);
                 Ok(None)
             }
         }

@@ -26,22 +26,22 @@ read_bit_field-read_until-requires-2 t c =
     let n = named_tokens BitField c.in-Some.name.now c.args.tokens.now c.requires name in
     (omega (arith, c.decreases, field_size c.in-Some.name.now c.args.tokens.now n, ap length c.behind-2.ensures, length-drop c.in-Some-2.start.length c.behind-rest.result.now, ap length c.behind-rest.ensures, length-drop 4 c.args.tokens.now), tt)
 
-pub read_bit_field-returns-in_default-3 : goal.read_bit_field-returns-in_default-3
-read_bit_field-returns-in_default-3 t c =
+pub read_bit_field-returns-in-Ok-None : goal.read_bit_field-returns-in-Ok-None
+read_bit_field-returns-in-Ok-None t c =
     let name = ap (argument BitField) (sym c.behind.ensures) ∙ sym c.argument.ensures ∙ ap option_copied c.in-Some.is in
     let n = named_tokens BitField c.in-Some.name.now c.args.tokens.now c.requires name in
     let start = rw (c.in-Some-2.is, c.behind-rest.ensures) at c.in_ok-start.ensures in
-    let none = rw (c.in_default-3.is, c.behind-2.ensures, c.behind-rest.ensures) at c.in_ok-width.ensures in
+    let none = rw (c.in-Ok-None.field-0-is, c.behind-2.ensures, c.behind-rest.ensures) at c.in-Ok-None.ensures in
     field_not_wide c.in-Some.name.now c.args.tokens.now n c.in-Some-2.start.length (term_of c.in-Some-2.start.expr) start none
 
-pub read_bit_field-returns : goal.read_bit_field-returns
-read_bit_field-returns t c =
+pub read_bit_field-returns-in_ok-bits_at-in-Ok-Some : goal.read_bit_field-returns-in_ok-bits_at-in-Ok-Some
+read_bit_field-returns-in_ok-bits_at-in-Ok-Some t c =
     let name = ap (argument BitField) (sym c.behind.ensures) ∙ sym c.argument.ensures ∙ ap option_copied c.in-Some.is in
     let n = named_tokens BitField c.in-Some.name.now c.args.tokens.now c.requires name in
     let start = rw (c.in-Some-2.is, c.behind-rest.ensures) at c.in_ok-start.ensures in
-    let width = rw (c.in-Some-3.is, c.behind-2.ensures, c.behind-rest.ensures) at c.in_ok-width.ensures in
-    subst (IsFront 0 c.args.tokens.now (4 + c.in-Some-2.start.length + c.in-Some-3.width.length)) (sym c.in_ok-bits_at.ensures)
-    (field_is c.in-Some.name.now c.args.tokens.now n c.in-Some-2.start.length c.in-Some-3.width.length (term_of c.in-Some-2.start.expr) (term_of c.in-Some-3.width.expr) start width)
+    let width = rw (c.in-Ok-Some.field-0-is, c.behind-2.ensures, c.behind-rest.ensures) at c.in-Ok-Some.ensures in
+    subst (IsFront 0 c.args.tokens.now (4 + c.in-Some-2.start.length + c.in-Ok-Some.width.length)) (sym c.in_ok-bits_at-in-Ok-Some.ensures)
+    (field_is c.in-Some.name.now c.args.tokens.now n c.in-Some-2.start.length c.in-Ok-Some.width.length (term_of c.in-Some-2.start.expr) (term_of c.in-Ok-Some.width.expr) start width)
 
 pub read_group-returns-in-Some : goal.read_group-returns-in-Some
 read_group-returns-in-Some t c =
@@ -60,10 +60,10 @@ read_level-returns-in_default t c =
 
 pub read_level-operands-preserved : goal.read_level-operands-preserved
 read_level-operands-preserved t c =
-    let right = rw (c.in-Some-2.is, c.behind.ensures, c.behind-rest.ensures) at c.in_ok-right.ensures in
+    let right = rw (c.in-Ok-Some.field-0-is, c.behind.ensures, c.behind-rest.ensures) at c.in-Ok-Some.ensures in
     let found = sym (rw c.behind-rest.ensures at c.operator_at.ensures) ∙ c.in-Some-operator_at.is in
-    rw (c.in_ok-new.ensures.ok, c.in_ok-new-2.ensures.ok)
-    (one_operand_more c.args.level c.args.tokens.now c.operands.length c.in-Some-2.right.length (term_of c.operands.expr) (term_of c.in-Some-2.right.expr) c.in-Some-operator_at.op (omega arith) c.operands.invariant found right)
+    rw c.in_ok-expr.ensures
+    (one_operand_more c.args.level c.args.tokens.now c.operands.length c.in-Ok-Some.right.length (term_of c.operands.expr) (term_of c.in-Ok-Some.right.expr) c.in-Some-operator_at.op (omega arith) c.operands.invariant found right)
 
 pub read_operand-returns-in-Number : goal.read_operand-returns-in-Number
 read_operand-returns-in-Number t c =
