@@ -112,8 +112,8 @@ fn copy_number(alloc: Global, field: &NumField) -> Result<NumField, NoMemory>
 fn copy_text(alloc: Global, field: &TextField) -> Result<TextField, NoMemory>
     ensures { IfOk result (λ copy. plain_text copy ≡ plain_text field.now) }
 {
-    let size = copy_value(alloc, &field.size)?;
     let fixed = copy_fixed_text(alloc, &field.fixed)?;
+    let size = copy_value(alloc, &field.size)?;
     Ok(TextField {
         form: field.form,
         hex: field.hex,
