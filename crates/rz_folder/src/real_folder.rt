@@ -127,7 +127,7 @@ impl<R: Files + Drop> Folder for RealFolder<R> {
     }
 }
 
-// Reads to the end of the file. Each turn takes at least one byte, was interrupted, or is the last.
+// The whole file of that path.
 fn read_file<R: Files>(rt: &R, alloc: Global, name: &str) -> io::Result<Bytes>
     ensures { IfOk result (λ bytes. length bytes < 2 ^ 32) }
 {
@@ -136,15 +136,24 @@ fn read_file<R: Files>(rt: &R, alloc: Global, name: &str) -> io::Result<Bytes>
     let Ok(mut bytes) = Bytes::with_capacity(alloc, expected) else {
         return Err(io::Error::from(ErrorKind::OutOfMemory));
     };
+    read_to_end(&mut file, &mut bytes)?;
+    Ok(bytes)
+}
+
+// Appends what stands in the file up to its end. Each turn takes at least one byte, was interrupted, or is the last.
+fn read_to_end<F: io::Read>(file: &mut F, bytes: &mut Bytes) -> io::Result<()>
+    requires { length bytes.old < 2 ^ 32 }
+    ensures { IfOk result (λ _. length bytes.new < 2 ^ 32) }
+{
     let mut piece = [0; 8192];
     for _ in 0..u64::MAX {
-        let count = match io::Read::read(&mut file, &mut piece) {
+        let count = match io::Read::read(file, &mut piece) {
             Ok(count) => count,
             Err(error) if error.kind() == ErrorKind::Interrupted => continue,
             Err(error) => return Err(error),
         };
         if count == 0 {
-            return Ok(bytes);
+            return Ok(());
         }
         if bytes.len() + count as u64 >= LENGTH_LIMIT {
             break;
