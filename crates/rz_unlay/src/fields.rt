@@ -22,7 +22,7 @@ use crate::came::{RowCame, RowsCame};
 use crate::cases::has_keys;
 use crate::leaf::{read_pieces, spend};
 use crate::steps::{
-    count_known, push_label, push_places, push_value, row_behind, stop_at, stop_before, tail,
+    count_known, push_label, push_row, push_value, row_behind, stop_at, stop_before, tail,
 };
 use rz_bits::BitView;
 use rz_core::{Facts, NoMemory, Word};
@@ -321,10 +321,9 @@ impl Reader<'_> {
             }
             match self.read_body(row, row_behind(name, &rows), learnt, end, more - 1)? {
                 Some(came) => {
-                    push_places(&mut places, came.places.as_slice())?;
-                    rows.push(came.row)?;
                     end = came.after;
                     more = came.left;
+                    push_row(&mut rows, &mut places, came)?;
                 }
                 None => return Ok(None),
             }
@@ -376,10 +375,9 @@ impl Reader<'_> {
             }
             match self.read_body(row, row_behind(name, &rows), learnt, end, more - 1)? {
                 Some(came) => {
-                    push_places(&mut places, came.places.as_slice())?;
-                    rows.push(came.row)?;
                     end = came.after;
                     more = came.left;
+                    push_row(&mut rows, &mut places, came)?;
                 }
                 None => return Ok(None),
             }
@@ -429,10 +427,9 @@ impl Reader<'_> {
             }
             match self.read_body(row, row_behind(name, &rows), learnt, end, more - 1)? {
                 Some(came) => {
-                    push_places(&mut places, came.places.as_slice())?;
-                    rows.push(came.row)?;
                     end = came.after;
                     more = came.left;
+                    push_row(&mut rows, &mut places, came)?;
                 }
                 None => return Ok(None),
             }

@@ -1,7 +1,7 @@
 //! Steps between fields and rows: what is behind a field, one value more, and where rows end. See `specs/Rows` and
 //! `specs/Cursor`.
 
-ghost use Rattle.std.specs.Prelude.{◌≡◌, ◌+◌, ◌<◌, ◌≤◌, ◌++◌, length, drop, OnOk};
+ghost use Rattle.std.specs.Prelude.{◌≡◌, ◌+◌, ◌<◌, ◌≤◌, ◌++◌, ◌∷◌, [], length, drop, OnOk};
 ghost use Rattle.rz_bits.specs.View.{seen};
 ghost use Rattle.rz_types_fields.specs.Field.{plain_field};
 ghost use Rattle.rz_types_fields.specs.Known.{known, which_of};
@@ -10,6 +10,7 @@ ghost use Rattle.rz_unlay.specs.Cursor.{count_known};
 ghost use Rattle.rz_unlay.specs.Rows.{pushed, stop_at, stop_before};
 ghost use Rattle.rz_unlay_pieces.specs.Seen.{told_of};
 
+use crate::came::RowCame;
 use rz_bits::BitView;
 use rz_core::{NoMemory, Word};
 use rz_types_fields::{Field, InRow, Note, Row, RowList, Tree, rows_of};
@@ -47,12 +48,13 @@ pub fn push_label(places: &mut Vec<i32>, field: &Field, at: u32) -> Result<(), N
     }
 }
 
-/// Appends places to others.
-pub fn push_places(places: &mut Vec<i32>, own: &[i32]) -> Result<(), NoMemory>
-    ensures { OnOk result (places.new.items ≡ places.old.items ++ own.now) }
+/// Appends a row to others, and the places of its labels to theirs.
+pub fn push_row(rows: &mut RowList, places: &mut Vec<i32>, came: RowCame) -> Result<(), NoMemory>
+    ensures rows { OnOk result (rows.new ≡ rows.old ++ came.row ∷ []) }
+    ensures places { OnOk result (places.new.items ≡ places.old.items ++ came.places.items) }
 {
-    places.extend_from_slice(own)?;
-    Ok(())
+    places.extend_from_slice(came.places.as_slice())?;
+    rows.push(came.row)
 }
 
 /// Which row of the array of this name stands behind these.

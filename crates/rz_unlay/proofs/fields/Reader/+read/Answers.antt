@@ -1,4 +1,4 @@
-use Rattle.std.proofs.Common.{◌≡◌, ℕ, ◌+◌, ◌-◌, ◌<◌, ◌≤◌, ◌++◌, ◌∷◌, [], suc, true, false, length, drop, IfOk, IfSome, List, ℤ, Option, Some, None, refl, sym, ap, ◌∙◌, subst, arith}
+use Rattle.std.proofs.Common.{◌≡◌, ℕ, ◌+◌, ◌-◌, ◌<◌, ◌≤◌, ◌++◌, ◌∷◌, [], suc, true, false, length, drop, IfOk, IfSome, List, Option, Some, None, refl, sym, ap, ◌∙◌, subst, arith}
 use Rattle.std.specs.Prelude.{nat_lt, option_and_then, option_map}
 use Rattle.std.specs.List.{sum_by}
 use Rattle.std.proofs.lemmas.Bool.Decides.{nat_tests}
@@ -114,17 +114,16 @@ read_so_many-loop-turn-preserved t c =
     let new = c.read_body.new.learnt in
     let sum : came.left + values_in came.row ≡ c.loop-turn.more - 1 = subst (λ o. IfSome o (λ r. r.left + values_in r.row ≡ c.loop-turn.more - 1)) c.in-Some.is c.in_ok-came.ensures.left in
     let some : 1 ≤ c.loop-turn.more = let other = c.if-more-eq0.false in omega (arith, other) in
-    let spots = c.in_ok-push_places-in-Some.ensures ∙ ap (λ (ps : List ℤ). c.loop-turn.places.items ++ ps) c.as_slice.ensures.value in
     let turns : c.args.count - (c.loop-turn._turn + 1) ≡ c.args.count - c.loop-turn._turn - 1 = omega arith in
     record {
       read =
-          (λ i. with_lines (c.in_ok-push-in-Some.ensures.ok i) (spots i) (few lines_count came.left (rows_at row (turns i) (c.loop-turn._turn + 1 + 1) came.after (marked came.after new.marks))))
+          (λ i. with_lines (c.in_ok-push_row-in-Some.ensures.rows i) (c.in_ok-push_row-in-Some.ensures.places i) (few lines_count came.left (rows_at row (turns i) (c.loop-turn._turn + 1 + 1) came.after (marked came.after new.marks))))
           ∙ row_more row c.loop-turn.rows c.loop-turn.places.items _ (c.args.count - c.loop-turn._turn) (c.loop-turn._turn + 1) end late c.loop-turn.more came.left (line_in new came) (omega arith) some
           (ap (option_map (line_in c.read_body.new.learnt)) (sym c.in-Some.is) ∙ c.in_ok-came.ensures.row
           ∙ (λ i. few line_count (c.loop-turn.more - 1) (line_at c.args.self.now.facts.now all (which i) (plain_body c.args.row.now) (met (c.loop-turn.invariant.notes i)) (known (c.loop-turn.invariant.notes i)) end late)))
           sum c.loop-turn.invariant.read;
-      left = let n = ap rows_count c.in_ok-push-in-Some.ensures.ok ∙ rows_push c.loop-turn.rows came.row in omega (arith, n, sum, some, c.loop-turn.invariant.left);
-      number = let n = ap length c.in_ok-push-in-Some.ensures.ok in let l = length-append c.loop-turn.rows (came.row ∷ []) in omega (arith, n, l, c.loop-turn.invariant.number);
+      left = let n = ap rows_count c.in_ok-push_row-in-Some.ensures.rows ∙ rows_push c.loop-turn.rows came.row in omega (arith, n, sum, some, c.loop-turn.invariant.left);
+      number = let n = ap length c.in_ok-push_row-in-Some.ensures.rows in let l = length-append c.loop-turn.rows (came.row ∷ []) in omega (arith, n, l, c.loop-turn.invariant.number);
       within = subst (λ o. IfSome o (λ r. r.after ≤ length all)) c.in-Some.is c.in_ok-came.ensures.within;
       marks = subst (λ o. IfSome o (λ r. length new.marks ≤ r.after)) c.in-Some.is c.in_ok-came.ensures.marks;
       notes = of_some _ came _ c.in-Some.is c.in_ok-came.ensures.notes ∙ c.loop-turn.invariant.notes;
@@ -170,17 +169,16 @@ read_while-loop-turn-preserved t c =
     let sum : came.left + values_in came.row ≡ c.loop-turn.more - 1 = subst (λ o. IfSome o (λ r. r.left + values_in r.row ≡ c.loop-turn.more - 1)) c.in-Some.is c.in_ok-came.ensures.left in
     let some : 1 ≤ c.loop-turn.more = let other = c.if-more-eq0.false in omega (arith, other) in
     let low : nat_lt c.args.stop (end + 8) ≡ false = let other = c.if-stop-end.false in grind (arith, nat_tests, other) in
-    let spots = c.in_ok-push_places-in-Some.ensures ∙ ap (λ (ps : List ℤ). c.loop-turn.places.items ++ ps) c.as_slice.ensures.value in
     let turns : suc (length all) - (c.loop-turn._turn + 1) ≡ suc (length all) - c.loop-turn._turn - 1 = omega arith in
     record {
       read =
-          (λ i. with_lines (c.in_ok-push-in-Some.ensures.ok i) (spots i) (few lines_count came.left (rows_while row c.args.stop (turns i) (c.loop-turn._turn + 1 + 1) came.after (marked came.after new.marks))))
+          (λ i. with_lines (c.in_ok-push_row-in-Some.ensures.rows i) (c.in_ok-push_row-in-Some.ensures.places i) (few lines_count came.left (rows_while row c.args.stop (turns i) (c.loop-turn._turn + 1 + 1) came.after (marked came.after new.marks))))
           ∙ while_more row c.loop-turn.rows c.loop-turn.places.items _ c.args.stop (suc (length all) - c.loop-turn._turn) (c.loop-turn._turn + 1) end late c.loop-turn.more came.left (line_in new came) (omega arith) some low
           (ap (option_map (line_in c.read_body.new.learnt)) (sym c.in-Some.is) ∙ c.in_ok-came.ensures.row
           ∙ (λ i. few line_count (c.loop-turn.more - 1) (line_at c.args.self.now.facts.now all (which i) (plain_body c.args.row.now) (met (c.loop-turn.invariant.notes i)) (known (c.loop-turn.invariant.notes i)) end late)))
           sum c.loop-turn.invariant.read;
-      left = let n = ap rows_count c.in_ok-push-in-Some.ensures.ok ∙ rows_push c.loop-turn.rows came.row in omega (arith, n, sum, some, c.loop-turn.invariant.left);
-      number = let n = ap length c.in_ok-push-in-Some.ensures.ok in let l = length-append c.loop-turn.rows (came.row ∷ []) in omega (arith, n, l, c.loop-turn.invariant.number);
+      left = let n = ap rows_count c.in_ok-push_row-in-Some.ensures.rows ∙ rows_push c.loop-turn.rows came.row in omega (arith, n, sum, some, c.loop-turn.invariant.left);
+      number = let n = ap length c.in_ok-push_row-in-Some.ensures.rows in let l = length-append c.loop-turn.rows (came.row ∷ []) in omega (arith, n, l, c.loop-turn.invariant.number);
       within = subst (λ o. IfSome o (λ r. r.after ≤ length all)) c.in-Some.is c.in_ok-came.ensures.within;
       marks = subst (λ o. IfSome o (λ r. length new.marks ≤ r.after)) c.in-Some.is c.in_ok-came.ensures.marks;
       notes = of_some _ came _ c.in-Some.is c.in_ok-came.ensures.notes ∙ c.loop-turn.invariant.notes;
@@ -237,17 +235,16 @@ read_to-loop-turn-preserved t c =
     let sum : came.left + values_in came.row ≡ c.loop-turn.more - 1 = subst (λ o. IfSome o (λ r. r.left + values_in r.row ≡ c.loop-turn.more - 1)) c.in-Some.is c.in_ok-came.ensures.left in
     let some : 1 ≤ c.loop-turn.more = let other = c.if-more-eq0.false in omega (arith, other) in
     let before : end < c.args.stop = let other = c.if-end-stop.false in let within = c.if-stop-end.false in omega (arith, other, within) in
-    let spots = c.in_ok-push_places-in-Some.ensures ∙ ap (λ (ps : List ℤ). c.loop-turn.places.items ++ ps) c.as_slice.ensures.value in
     let turns : suc (length all) - (c.loop-turn._turn + 1) ≡ suc (length all) - c.loop-turn._turn - 1 = omega arith in
     record {
       read =
-          (λ i. with_lines (c.in_ok-push-in-Some.ensures.ok i) (spots i) (few lines_count came.left (rows_to row c.args.stop (turns i) (c.loop-turn._turn + 1 + 1) came.after (marked came.after new.marks))))
+          (λ i. with_lines (c.in_ok-push_row-in-Some.ensures.rows i) (c.in_ok-push_row-in-Some.ensures.places i) (few lines_count came.left (rows_to row c.args.stop (turns i) (c.loop-turn._turn + 1 + 1) came.after (marked came.after new.marks))))
           ∙ to_more row c.loop-turn.rows c.loop-turn.places.items _ c.args.stop (suc (length all) - c.loop-turn._turn) (c.loop-turn._turn + 1) end late c.loop-turn.more came.left (line_in new came) (omega arith) some before
           (ap (option_map (line_in c.read_body.new.learnt)) (sym c.in-Some.is) ∙ c.in_ok-came.ensures.row
           ∙ (λ i. few line_count (c.loop-turn.more - 1) (line_at c.args.self.now.facts.now all (which i) (plain_body c.args.row.now) (met (c.loop-turn.invariant.notes i)) (known (c.loop-turn.invariant.notes i)) end late)))
           sum c.loop-turn.invariant.read;
-      left = let n = ap rows_count c.in_ok-push-in-Some.ensures.ok ∙ rows_push c.loop-turn.rows came.row in omega (arith, n, sum, some, c.loop-turn.invariant.left);
-      number = let n = ap length c.in_ok-push-in-Some.ensures.ok in let l = length-append c.loop-turn.rows (came.row ∷ []) in omega (arith, n, l, c.loop-turn.invariant.number);
+      left = let n = ap rows_count c.in_ok-push_row-in-Some.ensures.rows ∙ rows_push c.loop-turn.rows came.row in omega (arith, n, sum, some, c.loop-turn.invariant.left);
+      number = let n = ap length c.in_ok-push_row-in-Some.ensures.rows in let l = length-append c.loop-turn.rows (came.row ∷ []) in omega (arith, n, l, c.loop-turn.invariant.number);
       within = subst (λ o. IfSome o (λ r. r.after ≤ length all)) c.in-Some.is c.in_ok-came.ensures.within;
       marks = subst (λ o. IfSome o (λ r. length new.marks ≤ r.after)) c.in-Some.is c.in_ok-came.ensures.marks;
       notes = of_some _ came _ c.in-Some.is c.in_ok-came.ensures.notes ∙ c.loop-turn.invariant.notes;
