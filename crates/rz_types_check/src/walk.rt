@@ -1,11 +1,11 @@
 //! The walk over the fields of a declaration, depth first. Its steps are in `specs/Walked`.
 
-ghost use Rattle.std.specs.Prelude.{IfOk, OnOk, ◌≡◌, ◌+◌, ◌++◌, [], option_map};
+ghost use Rattle.std.specs.Prelude.{IfOk, OnOk, ◌≡◌, ◌+◌, ◌++◌, [], None, option_map};
 ghost use Rattle.rz_core.specs.Stop.{Gives};
 ghost use Rattle.rz_core.specs.Lists.{unless_fault};
 ghost use Rattle.rz_types_fields.specs.Field.{plain_body, plain_cases, plain_field};
 ghost use Rattle.rz_types.specs.Rules.{broken, kept_position, unknown_fault, unknown_in};
-ghost use Rattle.rz_types.specs.Walk.{and_names, names_of};
+ghost use Rattle.rz_types.specs.Walk.{and_names, names_of, no_names};
 ghost use Rattle.rz_types_check.specs.Walked.{all_met, body_met, cases_met, field_met, met_of, own_of, rows_met, scope_of, Walks};
 
 use crate::named::unknown_in;
@@ -39,17 +39,28 @@ pub fn check_fields(alloc: Global, fields: &[Field]) -> Result<(), Stop<TypeFaul
         scope: no_names(alloc),
         unknown: None,
     };
-    match walk_body(alloc, fields, &mut walk) {
+    let ended = walk_whole(alloc, fields, &mut walk);
+    drop(walk);
+    ended
+}
+
+/// The same, by a walk that hasn't begun.
+fn walk_whole<'a>(
+    alloc: Global,
+    fields: &'a [Field],
+    walk: &mut Walk<'a>,
+) -> Result<(), Stop<TypeFault>>
+    requires scope { scope_of walk.old ≡ no_names }
+    requires names { own_of walk.old.names ≡ no_names }
+    requires position { walk.old.position ≡ 0 }
+    requires unknown { walk.old.unknown ≡ None }
+    ensures { Gives (unless_fault (broken (plain_body fields.now)) tt) result }
+{
+    match walk_body(alloc, fields, walk) {
         Ok(()) => {}
         Err(stop) => return Err(stop),
     }
-    let Walk {
-        position: _,
-        names: _,
-        scope: _,
-        unknown,
-    } = walk;
-    match unknown {
+    match walk.unknown.take() {
         Some(fault) => Err(Stop::Refused(fault)),
         None => Ok(()),
     }
