@@ -97,18 +97,34 @@ fn compile_fields(
     ensures { Gives (laid facts.now (plain_body fields.now) row.now) (fault_seen refusal_of result) }
 {
     let mut laid = Laid::new(alloc);
-    lay_body(alloc, fields, None, row, facts, &mut laid)?;
+    match lay_body(alloc, fields, None, row, facts, &mut laid) {
+        Ok(()) => {}
+        Err(stop) => {
+            drop(laid);
+            return Err(stop);
+        }
+    }
     let Laid {
         mut bits,
         late,
         piece: _,
-        marks: _,
+        marks,
         mut notes,
-        places: _,
+        places,
     } = laid;
+    drop(marks);
+    drop(places);
     let none = BitBuf::new(alloc);
-    fill(late, facts, &mut notes, &none, &mut bits)?;
-    Ok(bits.finish())
+    let filled = fill(late, facts, &mut notes, &none, &mut bits);
+    drop(none);
+    drop(notes);
+    match filled {
+        Ok(()) => Ok(bits.finish()),
+        Err(stop) => {
+            drop(bits);
+            Err(stop)
+        }
+    }
 }
 
 /// Lays the fields of a body, with the numbers of the rows of its arrays for names.
