@@ -131,7 +131,10 @@ fn change_row(
 {
     let texts = placed_texts(alloc, resource, row, entries, places)?;
     let put = put_row(alloc, row, texts.as_slice())?;
-    match bytes_telling(alloc, template, &put.row, facts)? {
+    let told = bytes_telling(alloc, template, &put.row, facts);
+    drop(put);
+    drop(texts);
+    match told? {
         Some(bytes) => Ok(with_bytes(alloc, resource, bytes.as_slice())?),
         None => Err(Stop::Refused(fault_of(464, first))),
     }

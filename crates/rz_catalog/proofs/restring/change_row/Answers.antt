@@ -8,11 +8,11 @@ use Rattle.rz_catalog.proofs.Rows.{row_stays}
 use Rattle.rz_catalog.proofs.Told.{changed_texts, HasRow}
 use Rattle.rz_catalog.proofs.restring.change_row.Goals as goal
 
-pub bytes_telling-requires : goal.bytes_telling-requires
-bytes_telling-requires c = row_stays (template_of c.args.template.now) c.args.row.now c.in_ok-put.put.row c.in_ok-put.ensures.same c.requires.row
+pub bytes_telling-told-requires : goal.bytes_telling-told-requires
+bytes_telling-told-requires c = row_stays (template_of c.args.template.now) c.args.row.now c.in_ok-put.put.row c.in_ok-put.ensures.same c.requires.row
 
-pub returns-in-Some : goal.returns-in-Some
-returns-in-Some c others is =
+pub returns-in_ok-with_bytes-in-Some : goal.returns-in_ok-with_bytes-in-Some
+returns-in_ok-with_bytes-in-Some c others is =
     let row = c.args.row.now in
     let mine = c.args.first.now ∷ others in
     let own : c.as_slice.result.now ≡ placed mine (leaves row) = c.as_slice.ensures ∙ c.in_ok-texts.ensures ∙ ap (λ (es : List Entry). placed es (leaves row)) is in
@@ -24,8 +24,8 @@ returns-in-Some c others is =
       ap (λ r. Ok r) (c.in_ok-with_bytes-in-Some.ensures ∙ ap (with_bytes c.args.resource.now) c.as_slice-in-Some.ensures),
     )
 
-pub returns : goal.returns
-returns c others is =
+pub returns-in-None : goal.returns-in-None
+returns-in-None c others is =
     let row = c.args.row.now in
     let mine = c.args.first.now ∷ others in
     let own : c.as_slice.result.now ≡ placed mine (leaves row) = c.as_slice.ensures ∙ c.in_ok-texts.ensures ∙ ap (λ (es : List Entry). placed es (leaves row)) is in
