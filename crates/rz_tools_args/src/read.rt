@@ -120,6 +120,7 @@ fn read_items<'a>(
         match read_item(alloc, takes, first.as_str(), behind) {
             Ok(item) => {
                 if !item.may_follow(takes.places, places) {
+                    drop(item);
                     return Err(Stop::Refused(UsageFault { position: read + 2 }));
                 }
                 let size = item.size();
