@@ -6,7 +6,7 @@
 Each line of the tables has fields, after ` @ ` bytes in hexadecimal, and after ` => ` by hand what comes. In the tables of
 rows that is the row: numbers without a sign, a text in quote marks, the numbers of a point in brackets, the rows of an array
 in braces with `|` between them, and a case as its name with its row in parentheses; `none` where there is no row; and
-`unreadable` where nothing is read under the fields, with items behind it that give the bytes. In the others it is the text
+`unreadable` where nothing is read under the fields, with items after it that give the bytes. In the others it is the text
 of a resource, with `¶` for each line end. `«TEXT×N»` is TEXT N times, and a line that begins with `//` says what is tried.
 What tools/shown.py tells has to be the same, or the script stops. With --check nothing is written, and the status is 1
 where the file would change.
@@ -27,7 +27,7 @@ bitstring[32]; @ FFFFFFFF => 4294967295
 bitstring[1]; bitstring[31]; @ 80000001 => 1 1
 integer; @ 01 => none
 longint; @ 010203 => none
-// behind the last field fewer than eight bits, all of them zero
+// after the last field fewer than eight bits, all of them zero
 bitstring[7]; @ FE => 127
 bitstring[1]; @ 80 => 1
 byte; @ 4100 => none
@@ -183,7 +183,7 @@ LABELS = r"""
 // of the row itself
 integer = $$CountOf(recs); array recs { b: byte = (e - b) / 8; string; e: }; @ 0002 0241 034243 => {"A"|"BC"}
 integer = $$CountOf(recs); array recs { b: byte = (e - b) / 8; string; e: }; @ 0002 0241 044243 => none
-// of a row by its number, behind the array
+// of a row by its number, after the array
 array [2] { g: byte; }; byte = g[2] / 8; @ AABB 01 => {170|187}
 array [2] { g: byte; }; byte = g[2] / 8; @ AABB 00 => none
 array [2] { g: byte; h: byte; }; byte = h[1] / 8; @ AABB CCDD 01 => {170 187|204 221}
@@ -221,7 +221,7 @@ string[65]; @ «61×65» =>     "aaaaaaaaaaaaaaaaaaaaaaaaaaaaaaaaaaaaaaaaaaaaaaa
 hex string[17]; @ «AB×17» =>     $"ABAB ABAB ABAB ABAB ABAB ABAB ABAB ABAB"¶    $"AB"¶
 hex string[0]; @  =>     $""¶
 point; @ 0001 FFFF =>     {1, -1}¶
-// one behind the other, at any bit
+// one after the other, at any bit
 byte; unsigned decimal byte; unsigned hex bitstring[5]; octal longint; binary bitstring[5]; literal integer; longint; boolean; char; string[65]; hex string[17]; hex string[0]; point; @ FFFFF7FFFFFFF99049E0000000244C«2C×64»35«75×16»60003FFFE0 =>     -1,¶    255,¶    0x1E,¶    037777777777,¶    0B00110,¶    'A\'',¶    -2147483648,¶    true,¶    "\"",¶    "aaaaaaaaaaaaaaaaaaaaaaaaaaaaaaaaaaaaaaaaaaaaaaaaaaaaaaaaaaaaaaaa"¶    "a",¶    $"ABAB ABAB ABAB ABAB ABAB ABAB ABAB ABAB"¶    $"AB",¶    $"",¶    {1, -1}¶
 """
 
@@ -246,7 +246,7 @@ array { array [2] { byte; }; switch { case one: key byte = 1; integer; case two:
 switch { case one: key byte = 1; switch { case two: key byte = 2; byte; }; byte; }; byte; @ 01 02 03 04 05 => resource 'STR#' (128) {¶    one {¶        two {¶            3¶        },¶        4¶    },¶    5¶};¶¶
 // at most 32 blanks before an item
 «array [1] { ×9»byte; «}; ×9» @ 05 => resource 'STR#' (128) {¶    {¶        {¶            {¶                {¶                    {¶                        {¶                            {¶                                {¶                                {¶                                5¶                                }¶                                }¶                            }¶                        }¶                    }¶                }¶            }¶        }¶    }¶};¶¶
-// what stands behind a text stands behind its last piece
+// the comma after a text stands after its last piece
 array [2] { hex string[17]; }; byte; @ «AB×34» 05 => resource 'STR#' (128) {¶    {¶        $"ABAB ABAB ABAB ABAB ABAB ABAB ABAB ABAB"¶        $"AB",¶        $"ABAB ABAB ABAB ABAB ABAB ABAB ABAB ABAB"¶        $"AB"¶    },¶    5¶};¶¶
 pstring; string[64]; @ 81 «62×129» «63×64» => resource 'STR#' (128) {¶    "bbbbbbbbbbbbbbbbbbbbbbbbbbbbbbbbbbbbbbbbbbbbbbbbbbbbbbbbbbbbbbbb"¶    "bbbbbbbbbbbbbbbbbbbbbbbbbbbbbbbbbbbbbbbbbbbbbbbbbbbbbbbbbbbbbbbb"¶    "b",¶    "cccccccccccccccccccccccccccccccccccccccccccccccccccccccccccccccc"¶};¶¶
 // a line of four signs for each byte is the longest
@@ -337,11 +337,11 @@ class Rows:
                          "Written by tools/row_cases.py, where all that comes stands by hand, and is told by tools/shown.py.")
         self.names = set()
 
-    def case(self, name, words, files, leaves=(), out=""):
+    def case(self, name, words, files, leaves=(), out="", keys=()):
         """A case that no other has the name of."""
         assert name not in self.names, name
         self.names.add(name)
-        self.book.case(name, words, files, (), 0, leaves, (), out)
+        self.book.case(name, words, files, keys, 0, leaves, (), out)
 
     def read(self, line, head):
         """A case of what is read of bytes, and one of the text that is shown, or of items by hand."""
@@ -396,7 +396,7 @@ class Rows:
             text, times = piece if isinstance(piece, tuple) else (piece, 1)
             digits = text.replace("¶", "\n").encode().hex().upper()
             out.append(digits + ("*%d" % times if times > 1 else ""))
-        self.case("%d bytes: %s" % (count, fields), "derez f t.r", [("f", fork), ("t.r", types)], (), out)
+        self.case("%d bytes: %s" % (count, fields), "derez f t.r", [("f", fork), ("t.r", types)], (), out, ["room out 10000000"])
 
 
 def main():

@@ -26,7 +26,7 @@ data 'Test' (1) { "A"; }; => 'Test' 1 = 41
 // the word in whatever case, the type as it is
 DATA 'tEST' (0x10) { $"" }; => 'tEST' 16
 Data'A\0x01b '(32767){"a"}; => 'A\0x01b ' 32767 = 61
-// the id is an expression, of whatever value
+// the id is an expression
 data 'Test' (-1) { }; => 'Test' -1
 data 'Test' (2 * (3 + 4), "n") { }; => 'Test' 14 "n"
 data 'Test' ('a') { }; => 'Test' 97
@@ -35,7 +35,7 @@ data 'Test' (99999) { }; => 204 BadId: 99999
 data 'Test' (4294967295) { }; => 'Test' -1
 data 'Test' (1 / 0) { }; => 211 ZeroDivisor
 data 'Test' (1 << 32) { }; => 215 BadShift: 32
-// a name, in one piece or in more, and attributes in any order after it
+// a name, in one piece or in more, and after it attributes in any order
 data 'Test' (1, "name") { }; => 'Test' 1 "name"
 data 'Test' (1, "") { }; => 'Test' 1
 data 'Test' (1, "na" $"6D" "e") { }; => 'Test' 1 "name"
@@ -169,7 +169,7 @@ type 'Byte' { point = 1; }; => 201 Syntax
 type 'Byte' { fill; }; => 201 Syntax
 type 'Byte' { fill bit[1] 2; }; => 201 Syntax
 type 'Byte' { align word[2]; }; => 201 Syntax
-// facts of a resource, here of one with the id 0, and of the moment, here the first second of 1970
+// facts of the resource, and of the moment, which is the first second of 1970
 type 'Byte' { byte = $$ID; }; resource 'Byte' (7) { }; => 'Byte' 7 = 07
 type 'Byte' { byte = $$Year; };|resource 'Byte' (7) { }; => 2: 207 OutOfRange: 1970
 // arrays and switches
@@ -221,7 +221,7 @@ type 'Byte' { array { bitstring[1 << 40]; }; fill bit[1 / 0]; }; => 215 BadShift
 type 'Byte' { switch { case a: key bitstring[1 / 0] = 1 << 40; }; }; => 211 ZeroDivisor
 type 'Byte' { switch { case a: key byte = 1 << 40; case b: byte c = 256; }; }; => 215 BadShift: 40
 type 'Byte' { switch { case a: byte c = 256; key byte = 1 / 0; }; }; => 207 OutOfRange: 256
-// labels, and expressions that name them, here without a value
+// labels, and expressions that name them
 type 'Byte' { x: byte; }; resource 'Byte' (1) { 5 }; => 'Byte' 1 = 05
 type 'Byte' { x: }; resource 'Byte' (1) { }; => 'Byte' 1
 type 'Byte' { a: b: byte; c: ; d: byte; ; e: f: }; resource 'Byte' (1) { 1, 2 }; => 'Byte' 1 = 01 02
@@ -244,7 +244,7 @@ type 'Byte' { $$x: byte; }; => 201 Syntax
 type 'Byte' { x: : byte; }; => 201 Syntax
 type 'Byte' { x; byte; }; => 201 Syntax
 type 'Byte' { byte x: ; }; => 201 Syntax
-// labels in rows by their numbers, and the number of the row around, here without a value
+// labels in rows by their numbers, and the number of the row around
 type 'Byte' { byte = x[1]; array { x: byte; }; }; resource 'Byte' (1) { { 7 } }; => 'Byte' 1 = 08 07
 type 'Byte' { string[x[1 / 0]]; }; => 212 UnknownLabel: "x"
 type 'Byte' { array { x: byte; }; string[x[1 / 0]]; };|resource 'Byte' (1) { { 7 }, "a" }; => 2: 211 ZeroDivisor
@@ -283,7 +283,7 @@ type 'Byte' { byte a = 300 = 1; }; => 201 Syntax
 """
 
 RESOURCES = r"""
-// no items, one, and more, with either sign between them and maybe behind the last
+// no items, one, and more, with either sign between them and maybe after the last
 type 'Test' { }; resource 'Test' (1) { }; => 'Test' 1
 type 'Test' { byte; }; resource 'Test' (1) { 5 }; => 'Test' 1 = 05
 type 'Test' { byte; }; resource 'Test' (1) { 5, }; => 'Test' 1 = 05
@@ -461,7 +461,7 @@ delete not 'Test'; => 201 Syntax
 delete "File"; => 201 Syntax
 deletes 'Test'; => 201 Syntax
 "delete" 'Test'; => 201 Syntax
-// ids without a value are no matter of the form
+// ids without a value
 delete 'Test' (1 / 0 : 1 << 32); => 211 ZeroDivisor
 delete 'Test' (1 : 1 << 32); => 215 BadShift: 32
 // the mark is that of the first token
@@ -499,14 +499,14 @@ type 'Test' { wstring[65536]; }; => 238 BadWidth: 65536
 type 'Test' { cstring[-1]; }; => 238 BadWidth: -1
 type 'Test' { cstring[0]; }; => 238 BadWidth: 0
 type 'Test' { cstring[1]; }; => nothing
-// a size that is no constant is told later
+// a size is tested here only if it is a constant
 type 'Test' { pstring[2 * 128]; }; => 238 BadWidth: 256
 type 'Test' { pstring[256 / 0]; }; => nothing
 type 'Test' { cstring[FALSE]; }; => 238 BadWidth: 0
 type 'Test' { cstring[$$ID]; }; => nothing
 // the first field counts
 type 'Test' { align byte; rect; cstring[0]; bitstring[33]; }; => 238 BadWidth: 0
-// a body without fields is a template
+// a body without fields
 type 'Test' { }; => nothing
 // stated rows are at most 1,048,576
 type 'Test' { array [0] { byte; }; }; => nothing
@@ -637,7 +637,8 @@ class Statements:
             return
         resources = resources_of(wanted)
         fork = image(resources)
-        self.book.case(text, words, [("s.r", source)] + files, (), 0, [("x", fork)])
+        room = ["room folder 1 10000000"] if len(fork) > 900000 else []
+        self.book.case(text, words, [("s.r", source)] + files, room, 0, [("x", fork)])
         if items:
             self.book.case("shown: " + text, "derez f s.r", [("f", fork), ("s.r", source)], (), 0, (), (),
                            shown_text(resources[0], items))

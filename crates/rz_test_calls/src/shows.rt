@@ -75,6 +75,7 @@ pub fn add_texts(rt: &(impl Abort + AllocGlobal), wrong: &mut String) {
     let text = show_row(rt.alloc(), &facts, fields, row.as_slice(), &hidden).expect(rt, "memory");
     drop(row);
     drop(template);
+    drop(hidden);
     add_if_wrong("the text by a row", BY_ROW, text.as_slice(), wrong).expect(rt, "memory");
     let text = show_bytes(rt.alloc(), &facts, BYTES).expect(rt, "memory");
     add_if_wrong("the text by bytes", BY_BYTES, text.as_slice(), wrong).expect(rt, "memory");
@@ -94,4 +95,5 @@ pub fn ask_names(rt: &(impl Abort + AllocGlobal)) {
     if hidden.has(rt.alloc(), long.as_slice()).expect(rt, "memory") {
         panic!(rt; "a long name is hidden");
     }
+    drop(hidden);
 }
