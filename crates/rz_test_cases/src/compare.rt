@@ -14,6 +14,22 @@ pub fn differences<'a>(
     ran: &'a Ran,
 ) -> Result<Vec<Difference<'a>>, Trouble> {
     let mut found = Vec::new(alloc);
+    match add_differences(alloc, case, ran, &mut found) {
+        Ok(()) => Ok(found),
+        Err(trouble) => {
+            drop(found);
+            Err(trouble)
+        }
+    }
+}
+
+/// Adds all that a run left or did otherwise than its case wants.
+fn add_differences<'a>(
+    alloc: Global,
+    case: &'a Case,
+    ran: &'a Ran,
+    found: &mut Vec<Difference<'a>>,
+) -> Result<(), Trouble> {
     if case.status != Some(ran.status) {
         found.push(Difference {
             what: What::Status,
@@ -21,17 +37,30 @@ pub fn differences<'a>(
             came: Found::Number(ran.status),
         })?;
     }
-    for name in &names_of(alloc, case, ran)? {
+    let names = names_of(alloc, case, ran)?;
+    let added = add_files(case, ran, &names, found);
+    drop(names);
+    added?;
+    let out = Found::Bytes(ran.world.out.sink.bytes());
+    add_difference(found, What::Out, stream_of(&case.out), out)?;
+    let err = Found::Bytes(ran.world.err.sink.bytes());
+    add_difference(found, What::Err, stream_of(&case.err), err)?;
+    add_calls(found, ran)
+}
+
+/// Adds the files of these names that a run left otherwise than its case wants.
+fn add_files<'a>(
+    case: &'a Case,
+    ran: &'a Ran,
+    names: &[&'a str],
+    found: &mut Vec<Difference<'a>>,
+) -> Result<(), Trouble> {
+    for name in names {
         let wanted = found_in(case.wanted(name));
         let came = found_in(ran.world.folder.folder.bytes(name));
-        add_difference(&mut found, What::File(name), wanted, came)?;
+        add_difference(found, What::File(name), wanted, came)?;
     }
-    let out = Found::Bytes(ran.world.out.sink.bytes());
-    add_difference(&mut found, What::Out, stream_of(&case.out), out)?;
-    let err = Found::Bytes(ran.world.err.sink.bytes());
-    add_difference(&mut found, What::Err, stream_of(&case.err), err)?;
-    add_calls(&mut found, ran)?;
-    Ok(found)
+    Ok(())
 }
 
 /// The names of the files that are looked at, each once.

@@ -27,24 +27,49 @@ impl Entry<'_> {
 /// The entries of a case file. Empty lines and lines that begin with `#` are comments.
 pub fn entries(alloc: Global, text: &str) -> Result<Vec<Entry<'_>>, Trouble> {
     let mut entries: Vec<Entry<'_>> = Vec::new(alloc);
-    for (place, line) in text.lines().enumerate() {
-        if line.is_empty() || line.starts_with('#') {
-            continue;
-        }
-        let number = place.saturating_add(1);
-        if let Some(content) = content_in(line) {
-            let Some(entry) = entries.last_mut() else {
-                return Err(Trouble::Malformed {
-                    line: number,
-                    what: "content before the first key",
-                });
-            };
-            entry.block.push(content)?;
-        } else {
-            entries.push(entry_in(alloc, number, line))?;
+    match add_entries(alloc, text, &mut entries) {
+        Ok(()) => Ok(entries),
+        Err(trouble) => {
+            drop(entries);
+            Err(trouble)
         }
     }
-    Ok(entries)
+}
+
+/// Adds the entries of a case file.
+fn add_entries<'a>(
+    alloc: Global,
+    text: &'a str,
+    entries: &mut Vec<Entry<'a>>,
+) -> Result<(), Trouble> {
+    for (place, line) in text.lines().enumerate() {
+        add_line(alloc, place.saturating_add(1), line, entries)?;
+    }
+    Ok(())
+}
+
+/// Adds what the line with this number says.
+fn add_line<'a>(
+    alloc: Global,
+    number: usize,
+    line: &'a str,
+    entries: &mut Vec<Entry<'a>>,
+) -> Result<(), Trouble> {
+    if line.is_empty() || line.starts_with('#') {
+        return Ok(());
+    }
+    let Some(content) = content_in(line) else {
+        entries.push(entry_in(alloc, number, line))?;
+        return Ok(());
+    };
+    let Some(entry) = entries.last_mut() else {
+        return Err(Trouble::Malformed {
+            line: number,
+            what: "content before the first key",
+        });
+    };
+    entry.block.push(content)?;
+    Ok(())
 }
 
 /// The content that a line gives: what follows `| `. A bar alone gives an empty line.

@@ -4,11 +4,12 @@ use crate::case::Case;
 use crate::compare::differences;
 use crate::difference::{Difference, What};
 use crate::reader::read_cases;
-use crate::runner::{Command, run_with};
+use crate::runner::{Command, Ran, run_with};
 use crate::swept::sweep_differs;
 use crate::tally::Tally;
 use crate::trouble::Trouble;
 use anyhow::Result;
+use std::alloc::Global;
 use std::fs;
 use std::process::ExitCode;
 use std::rt::Files;
@@ -24,25 +25,58 @@ pub fn run_cases<R: Files + AllocGlobal + Print + Clone + Drop, C: Command>(
     command: &C,
 ) -> Result<ExitCode> {
     let mut tally = Tally::default();
-    for file in &case_files(rt, folder)? {
-        run_group(rt, command, file.as_str(), &mut tally)?;
-    }
+    let files = case_files(rt, folder)?;
+    let ran = run_files(rt, command, &files, &mut tally);
+    drop(files);
+    ran?;
     println!(rt; "{tally}")?;
     Ok(tally.exit_code())
+}
+
+/// Runs the cases of files.
+fn run_files<R: Files + AllocGlobal + Print, C: Command>(
+    rt: &R,
+    command: &C,
+    files: &[String],
+    tally: &mut Tally,
+) -> Result<()> {
+    for file in files {
+        run_group(rt, command, file.as_str(), tally)?;
+    }
+    Ok(())
 }
 
 /// The paths of the case files in a folder, in order.
 fn case_files<R: Files + AllocGlobal + Clone + Drop>(rt: &R, folder: &str) -> Result<Vec<String>> {
     let mut names = Vec::new(rt.alloc());
-    for entry in fs::read_dir(rt, folder)? {
-        let entry = entry?;
-        let path = entry.path().as_str();
-        if path.ends_with(".cases") {
-            names.push(String::from_str(rt.alloc(), path)?)?;
+    match add_case_files(rt, folder, &mut names) {
+        Ok(()) => Ok(names),
+        Err(error) => {
+            drop(names);
+            Err(error)
         }
     }
+}
+
+/// Adds the paths of the case files in a folder, and puts all in order.
+fn add_case_files<R: Files + AllocGlobal + Clone + Drop>(
+    rt: &R,
+    folder: &str,
+    names: &mut Vec<String>,
+) -> Result<()> {
+    for entry in fs::read_dir(rt, folder)? {
+        add_path(rt.alloc(), entry?.path().as_str(), names)?;
+    }
     names.sort()?;
-    Ok(names)
+    Ok(())
+}
+
+/// Adds a path, if it is that of a case file.
+fn add_path(alloc: Global, path: &str, names: &mut Vec<String>) -> Result<()> {
+    if path.ends_with(".cases") {
+        names.push(String::from_str(alloc, path)?)?;
+    }
+    Ok(())
 }
 
 /// Runs the cases of a file, prints what differs, and counts the cases.
@@ -52,28 +86,53 @@ fn run_group<R: Files + AllocGlobal + Print, C: Command>(
     name: &str,
     tally: &mut Tally,
 ) -> Result<()> {
-    let cases = match cases_in(rt, name) {
-        Ok(cases) => cases,
+    match cases_in(rt, name) {
+        Ok(cases) => {
+            let ran = run_each(rt, command, name, &cases, tally);
+            drop(cases);
+            ran
+        }
         Err(trouble) => {
             tally.add_unread();
             println!(rt; "{name}:{trouble}")?;
-            return Ok(());
+            Ok(())
         }
-    };
-    for case in &cases {
-        let differs = match print_differences(rt, command, name, case) {
-            Ok(differs) => differs,
-            Err(error) => {
-                println!(rt; "{name}:{error}")?;
-                true
-            }
-        };
-        tally.add(differs);
+    }
+}
+
+/// Runs cases, prints what differs, and counts them.
+fn run_each<R: AllocGlobal + Print, C: Command>(
+    rt: &R,
+    command: &C,
+    name: &str,
+    cases: &[Case],
+    tally: &mut Tally,
+) -> Result<()> {
+    for case in cases {
+        tally.add(is_other(rt, command, name, case)?);
         if let Some(sweep) = &case.sweep {
             tally.add_sweep(sweep);
         }
     }
     Ok(())
+}
+
+/// Runs a case, and says whether it differs or can't be run. Why is printed.
+fn is_other<R: AllocGlobal + Print, C: Command>(
+    rt: &R,
+    command: &C,
+    name: &str,
+    case: &Case,
+) -> Result<bool> {
+    match print_differences(rt, command, name, case) {
+        Ok(differs) => Ok(differs),
+        Err(error) => {
+            let printed = println!(rt; "{name}:{error}");
+            drop(error);
+            printed?;
+            Ok(true)
+        }
+    }
 }
 
 /// The cases that a file has.
@@ -96,9 +155,28 @@ fn print_differences<R: AllocGlobal + Print, C: Command>(
         return sweep_differs(rt, command, name, case, sweep);
     }
     let ran = run_with(rt.alloc(), command, case, case.failures)?;
-    let found = differences(rt.alloc(), case, &ran)?;
-    let differs = print_unmeant(rt, name, case, &found)?;
-    Ok(print_missing(rt, name, case, &found)? || differs)
+    let differs = print_ran(rt, name, case, &ran);
+    drop(ran);
+    differs
+}
+
+/// Prints in what a run and its case differ, and says whether they do.
+fn print_ran<R: AllocGlobal + Print>(rt: &R, name: &str, case: &Case, ran: &Ran) -> Result<bool> {
+    let found = differences(rt.alloc(), case, ran)?;
+    let differs = print_found(rt, name, case, &found);
+    drop(found);
+    differs
+}
+
+/// Prints what differs and isn't on purpose, and what is on purpose and doesn't differ, and says whether there is any.
+fn print_found<R: Print>(
+    rt: &R,
+    name: &str,
+    case: &Case,
+    found: &[Difference<'_>],
+) -> Result<bool> {
+    let differs = print_unmeant(rt, name, case, found)?;
+    Ok(print_missing(rt, name, case, found)? || differs)
 }
 
 /// Prints the differences that aren't on purpose, and says whether there is one.

@@ -33,10 +33,7 @@ pub fn add_entry(alloc: Global, case: &mut Case, entry: &Entry<'_>) -> Result<()
 fn add_plain(alloc: Global, case: &mut Case, entry: &Entry<'_>) -> Result<(), Trouble> {
     match entry.key {
         "words" => add_words(alloc, case, entry),
-        "word" => {
-            case.words.push(String::from_str(alloc, entry.argument)?)?;
-            Ok(())
-        }
+        "word" => add_word(alloc, case, entry.argument),
         "word-bytes" => add_spelled_word(alloc, case, entry),
         "moment" => {
             let moment = given(entry.argument.parse::<i64>().ok(), entry)?;
@@ -59,8 +56,14 @@ fn add_plain(alloc: Global, case: &mut Case, entry: &Entry<'_>) -> Result<(), Tr
 /// Words between blanks.
 fn add_words(alloc: Global, case: &mut Case, entry: &Entry<'_>) -> Result<(), Trouble> {
     for word in entry.argument.split_whitespace() {
-        case.words.push(String::from_str(alloc, word)?)?;
+        add_word(alloc, case, word)?;
     }
+    Ok(())
+}
+
+/// A word as it stands.
+fn add_word(alloc: Global, case: &mut Case, word: &str) -> Result<(), Trouble> {
+    case.words.push(String::from_str(alloc, word)?)?;
     Ok(())
 }
 
@@ -127,16 +130,16 @@ fn kind_and_name<'a>(entry: &Entry<'a>) -> (&'a str, &'a str) {
 
 /// A call that is to fail: `folder CALL`, `out CALL TAKEN` or `err CALL TAKEN`.
 fn add_failure(case: &mut Case, entry: &Entry<'_>) -> Result<(), Trouble> {
-    let mut parts = entry.argument.split_whitespace();
-    let target = target_of(parts.next().unwrap_or(""), entry)?;
-    let call = parts.next().and_then(|text| text.parse::<u64>().ok());
+    let [target, call, taken, more] = parts_of(entry.argument);
+    let target = target_of(target.unwrap_or(""), entry)?;
+    let call = call.and_then(|text| text.parse::<u64>().ok());
     let call = given(call.filter(|call| *call > 0), entry)?;
     if target == Target::Folder {
         set_once(&mut case.failures.folder, call, entry)?;
-        return nothing_more(parts.next(), entry);
+        return nothing_more(taken, entry);
     }
-    let taken = next_number(parts.next(), entry)?;
-    nothing_more(parts.next(), entry)?;
+    let taken = next_number(taken, entry)?;
+    nothing_more(more, entry)?;
     let piece = Piece { call, taken };
     if target == Target::Out {
         set_once(&mut case.failures.out, piece, entry)
@@ -147,11 +150,11 @@ fn add_failure(case: &mut Case, entry: &Entry<'_>) -> Result<(), Trouble> {
 
 /// The calls that fail in turn: `folder READS WRITES`, `out PIECES TAKEN` or `err PIECES TAKEN`.
 fn set_sweep(case: &mut Case, entry: &Entry<'_>) -> Result<(), Trouble> {
-    let mut parts = entry.argument.split_whitespace();
-    let target = target_of(parts.next().unwrap_or(""), entry)?;
-    let first = next_number(parts.next(), entry)?;
-    let second = next_number(parts.next(), entry)?;
-    nothing_more(parts.next(), entry)?;
+    let [target, first, second, more] = parts_of(entry.argument);
+    let target = target_of(target.unwrap_or(""), entry)?;
+    let first = next_number(first, entry)?;
+    let second = next_number(second, entry)?;
+    nothing_more(more, entry)?;
     let (reads, puts, taken) = match target {
         Target::Folder => (first, second, 0),
         Target::Out | Target::Err => (0, first, second),
@@ -182,22 +185,27 @@ fn set_never(case: &mut Case, entry: &Entry<'_>) -> Result<(), Trouble> {
 
 /// The room: `folder WRITES BYTES`, `out BYTES` or `err BYTES`.
 fn add_room(case: &mut Case, entry: &Entry<'_>) -> Result<(), Trouble> {
-    let mut parts = entry.argument.split_whitespace();
-    let target = target_of(parts.next().unwrap_or(""), entry)?;
-    let number = next_number(parts.next(), entry)?;
+    let [target, number, bytes, more] = parts_of(entry.argument);
+    let target = target_of(target.unwrap_or(""), entry)?;
+    let number = next_number(number, entry)?;
     match target {
         Target::Folder => {
-            let bytes = next_number(parts.next(), entry)?;
             let room = FolderRoom {
                 writes: number,
-                bytes,
+                bytes: next_number(bytes, entry)?,
             };
             set_once(&mut case.room.folder, room, entry)?;
+            nothing_more(more, entry)
         }
-        Target::Out => set_once(&mut case.room.out, number, entry)?,
-        Target::Err => set_once(&mut case.room.err, number, entry)?,
+        Target::Out => {
+            set_once(&mut case.room.out, number, entry)?;
+            nothing_more(bytes, entry)
+        }
+        Target::Err => {
+            set_once(&mut case.room.err, number, entry)?;
+            nothing_more(bytes, entry)
+        }
     }
-    nothing_more(parts.next(), entry)
 }
 
 /// Places in which the case is wrong on purpose: `file NAME`, `fail PLACE`, or any of `status`, `out` and `err`.
@@ -212,31 +220,41 @@ fn add_wrong(alloc: Global, case: &mut Case, entry: &Entry<'_>) -> Result<(), Tr
     }
 }
 
+/// Places that are words.
 fn add_wrong_words(case: &mut Case, entry: &Entry<'_>) -> Result<(), Trouble> {
     if entry.argument.is_empty() {
         return Err(entry.flaw("no place is named"));
     }
     for word in entry.argument.split_whitespace() {
-        let place = match word {
-            "status" => Place::Status,
-            "out" => Place::Out,
-            "err" => Place::Err,
-            _ => return Err(entry.flaw(
-                "a place is none of status, out, err, file NAME and fail PLACE",
-            )),
-        };
-        push_wrong(case, place, entry)?;
+        add_wrong_word(case, word, entry)?;
     }
     Ok(())
+}
+
+/// The place that a word names.
+fn add_wrong_word(case: &mut Case, word: &str, entry: &Entry<'_>) -> Result<(), Trouble> {
+    match word {
+        "status" => push_wrong(case, Place::Status, entry),
+        "out" => push_wrong(case, Place::Out, entry),
+        "err" => push_wrong(case, Place::Err, entry),
+        _ => Err(entry.flaw("a place is none of status, out, err, file NAME and fail PLACE")),
+    }
 }
 
 /// A place in which the case is wrong on purpose, of which it must not have spoken yet.
 fn push_wrong(case: &mut Case, place: Place, entry: &Entry<'_>) -> Result<(), Trouble> {
     if case.is_wrong_in(What::of(&place)) {
+        drop(place);
         return Err(entry.flaw(TWICE));
     }
     case.wrong.push(place)?;
     Ok(())
+}
+
+/// The first four parts of an argument, with blanks between them.
+fn parts_of(argument: &str) -> [Option<&str>; 4] {
+    let mut parts = argument.split_whitespace();
+    [parts.next(), parts.next(), parts.next(), parts.next()]
 }
 
 /// What has calls and room, by its name.

@@ -1,26 +1,32 @@
 //! A case file, read as its cases.
 
 use crate::case::{Case, Target};
-use crate::entry::entries;
+use crate::entry::{Entry, entries};
 use crate::keys::add_entry;
 use crate::trouble::Trouble;
 use std::alloc::Global;
 
 /// The cases of a case file, or the first line that has another form than the format.
 pub fn read_cases(alloc: Global, text: &str) -> Result<Vec<Case>, Trouble> {
+    let entries = entries(alloc, text)?;
     let mut cases: Vec<Case> = Vec::new(alloc);
-    for entry in &entries(alloc, text)? {
-        if entry.key == "case" {
-            let name = String::from_str(alloc, entry.argument)?;
-            cases.push(Case::new(alloc, entry.line, name))?;
-        } else {
-            match cases.last_mut() {
-                Some(case) => add_entry(alloc, case, entry)?,
-                None => return Err(entry.flaw("no case begins before this line")),
-            }
+    let read = add_cases(alloc, &entries, &mut cases);
+    drop(entries);
+    match read {
+        Ok(()) => Ok(cases),
+        Err(trouble) => {
+            drop(cases);
+            Err(trouble)
         }
     }
-    for case in &cases {
+}
+
+/// Adds the cases that entries say, which are to have all that a case needs.
+fn add_cases(alloc: Global, entries: &[Entry<'_>], cases: &mut Vec<Case>) -> Result<(), Trouble> {
+    for entry in entries {
+        add_said(alloc, entry, cases)?;
+    }
+    for case in cases.as_slice() {
         if let Some(what) = flaw_of(case) {
             return Err(Trouble::Malformed {
                 line: case.line,
@@ -28,7 +34,20 @@ pub fn read_cases(alloc: Global, text: &str) -> Result<Vec<Case>, Trouble> {
             });
         }
     }
-    Ok(cases)
+    Ok(())
+}
+
+/// Begins a case, or adds what an entry says to the last one.
+fn add_said(alloc: Global, entry: &Entry<'_>, cases: &mut Vec<Case>) -> Result<(), Trouble> {
+    if entry.key == "case" {
+        let name = String::from_str(alloc, entry.argument)?;
+        cases.push(Case::new(alloc, entry.line, name))?;
+        return Ok(());
+    }
+    match cases.last_mut() {
+        Some(case) => add_entry(alloc, case, entry),
+        None => Err(entry.flaw("no case begins before this line")),
+    }
 }
 
 /// What a case leaves out, or says for nothing.

@@ -31,6 +31,7 @@ pub fn run_with<C: Command>(
     let mut world = World::before(alloc, case, failures)?;
     let status = command.run(alloc, &case.words, &mut world);
     if world.folder.is_short {
+        drop(world);
         return Err(Trouble::NoMemory);
     }
     Ok(Ran {

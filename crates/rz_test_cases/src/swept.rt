@@ -35,17 +35,55 @@ fn run_differs<R: AllocGlobal + Print, C: Command>(
     sweep: &Sweep,
     run: u64,
 ) -> Result<bool> {
-    let alloc = rt.alloc();
-    let ran = run_with(alloc, command, case, sweep.failures(run))?;
-    let demand = sweep.demand(alloc, case, run)?;
-    let found = if sweep.is_last(run) {
-        differences(alloc, case, &ran)?
-    } else {
-        unmet(alloc, case, &ran, &demand)?
-    };
+    let ran = run_with(rt.alloc(), command, case, sweep.failures(run))?;
+    let differs = print_run(rt, name, case, sweep, run, &ran);
+    drop(ran);
+    differs
+}
+
+/// Prints what the run of this number, which left this, left otherwise than it must, and says whether there is anything.
+fn print_run<R: AllocGlobal + Print>(
+    rt: &R,
+    name: &str,
+    case: &Case,
+    sweep: &Sweep,
+    run: u64,
+    ran: &Ran,
+) -> Result<bool> {
+    if sweep.is_last(run) {
+        let found = differences(rt.alloc(), case, ran)?;
+        return print_found(rt, name, case, run, &found);
+    }
+    let demand = sweep.demand(rt.alloc(), case, run)?;
+    let differs = print_unmet(rt, name, case, run, ran, &demand);
+    drop(demand);
+    differs
+}
+
+/// Prints what a run of which a call failed left otherwise than is demanded, and says whether there is anything.
+fn print_unmet<R: AllocGlobal + Print>(
+    rt: &R,
+    name: &str,
+    case: &Case,
+    run: u64,
+    ran: &Ran,
+    demand: &Demand,
+) -> Result<bool> {
+    let found = unmet(rt.alloc(), case, ran, demand)?;
+    print_found(rt, name, case, run, &found)
+}
+
+/// Prints the differences of a run, and says whether there are any.
+fn print_found<R: Print>(
+    rt: &R,
+    name: &str,
+    case: &Case,
+    run: u64,
+    found: &[Difference<'_>],
+) -> Result<bool> {
     let line = case.line;
     let title = case.name.as_str();
-    for difference in &found {
+    for difference in found {
         println!(rt; "{name}:{line}: {title}: run {run}: {difference}")?;
     }
     Ok(!found.is_empty())
@@ -59,6 +97,23 @@ fn unmet<'a>(
     demand: &'a Demand,
 ) -> Result<Vec<Difference<'a>>, Trouble> {
     let mut found = Vec::new(alloc);
+    match add_unmet(alloc, case, ran, demand, &mut found) {
+        Ok(()) => Ok(found),
+        Err(trouble) => {
+            drop(found);
+            Err(trouble)
+        }
+    }
+}
+
+/// Adds what a run of which a call failed left otherwise than is demanded.
+fn add_unmet<'a>(
+    alloc: Global,
+    case: &'a Case,
+    ran: &'a Ran,
+    demand: &'a Demand,
+    found: &mut Vec<Difference<'a>>,
+) -> Result<(), Trouble> {
     if demand.status != Some(ran.status) {
         found.push(Difference {
             what: What::Status,
@@ -66,25 +121,29 @@ fn unmet<'a>(
             came: Found::Number(ran.status),
         })?;
     }
-    for name in &names_of(alloc, case, ran)? {
-        let wanted = found_in(demanded_file(case, ran, demand.files, name));
+    let names = names_of(alloc, case, ran)?;
+    let added = add_files(case, ran, demand.files, &names, found);
+    drop(names);
+    added?;
+    add_stream(found, What::Out, &demand.out, ran.world.out.sink.bytes())?;
+    add_stream(found, What::Err, &demand.err, ran.world.err.sink.bytes())?;
+    add_calls(found, ran)
+}
+
+/// Adds the files of these names that hold something else than they must.
+fn add_files<'a>(
+    case: &'a Case,
+    ran: &'a Ran,
+    files: Files,
+    names: &[&'a str],
+    found: &mut Vec<Difference<'a>>,
+) -> Result<(), Trouble> {
+    for name in names {
+        let wanted = found_in(demanded_file(case, ran, files, name));
         let came = found_in(ran.world.folder.folder.bytes(name));
-        add_difference(&mut found, What::File(name), wanted, came)?;
+        add_difference(found, What::File(name), wanted, came)?;
     }
-    add_stream(
-        &mut found,
-        What::Out,
-        &demand.out,
-        ran.world.out.sink.bytes(),
-    )?;
-    add_stream(
-        &mut found,
-        What::Err,
-        &demand.err,
-        ran.world.err.sink.bytes(),
-    )?;
-    add_calls(&mut found, ran)?;
-    Ok(found)
+    Ok(())
 }
 
 /// What the name must hold after a run of which a call failed.

@@ -39,12 +39,27 @@ impl World {
         let Some(moment) = Moment::of_unix(case.moment.unwrap_or(0)) else {
             return Err(flaw(case, "the moment is outside 1904 to 2039"));
         };
-        Ok(World {
-            folder: WatchedFolder::over(alloc, folder_of(alloc, case, failures.folder)?),
-            out: sink_of(alloc, case.room.out.unwrap_or(AMPLE_OUT), failures.out)?,
-            err: sink_of(alloc, case.room.err.unwrap_or(AMPLE_ERR), failures.err)?,
-            moment,
-        })
+        let out = sink_of(alloc, case.room.out.unwrap_or(AMPLE_OUT), failures.out)?;
+        let err = match sink_of(alloc, case.room.err.unwrap_or(AMPLE_ERR), failures.err) {
+            Ok(err) => err,
+            Err(trouble) => {
+                drop(out);
+                return Err(trouble);
+            }
+        };
+        match folder_of(alloc, case, failures.folder) {
+            Ok(folder) => Ok(World {
+                folder: WatchedFolder::over(alloc, folder),
+                out,
+                err,
+                moment,
+            }),
+            Err(trouble) => {
+                drop(out);
+                drop(err);
+                Err(trouble)
+            }
+        }
     }
 
     /// How many calls there were so far of the folder or of a stream.
@@ -60,18 +75,29 @@ impl World {
 /// The folder before the run.
 fn folder_of(alloc: Global, case: &Case, failing: Option<u64>) -> Result<MemFolder, Trouble> {
     let mut folder = MemFolder::new(alloc);
-    let room = case.room.folder.unwrap_or(AMPLE_FOLDER);
-    folder.reserve(room.writes, room.bytes)?;
     if let Some(call) = failing {
         folder.fail_at(call);
     }
+    match fill(case, &mut folder) {
+        Ok(()) => Ok(folder),
+        Err(trouble) => {
+            drop(folder);
+            Err(trouble)
+        }
+    }
+}
+
+/// Gives a folder the room and the files of a case.
+fn fill(case: &Case, folder: &mut MemFolder) -> Result<(), Trouble> {
+    let room = case.room.folder.unwrap_or(AMPLE_FOLDER);
+    folder.reserve(room.writes, room.bytes)?;
     for stored in &case.files {
         if stored.bytes.len() > MOST_BYTES {
             return Err(flaw(case, "a file is too long"));
         }
         folder.insert(stored.name.as_str(), stored.bytes.as_slice())?;
     }
-    Ok(folder)
+    Ok(())
 }
 
 /// A stream before the run.
