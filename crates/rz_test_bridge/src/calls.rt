@@ -131,7 +131,10 @@ fn show_again(alloc: Global, form: Form, file: &MacFile, came: &mut Text) {
             came.number(bytes.len());
             came.put(b" ");
             match read(alloc, form, bytes.as_slice(), file.data_fork.as_slice()) {
-                Ok(file) => show_file(alloc, form, &file, came),
+                Ok(file) => {
+                    show_file(alloc, form, &file, came);
+                    drop(file);
+                }
                 Err(stop) => show_fault(stop, came),
             }
         }
@@ -188,8 +191,14 @@ fn show_read(
 ) {
     let bytes = bytes_in(rt, form, text);
     match read(rt.alloc(), form, bytes.as_slice(), b"data") {
-        Ok(file) if is_shown => show_file(rt.alloc(), form, &file, came),
-        Ok(_) => came.put(b"none"),
+        Ok(file) => {
+            if is_shown {
+                show_file(rt.alloc(), form, &file, came);
+            } else {
+                came.put(b"none");
+            }
+            drop(file);
+        }
         Err(stop) => show_fault(stop, came),
     }
 }
