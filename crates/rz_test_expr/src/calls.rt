@@ -63,6 +63,7 @@ fn show_value(rt: &(impl Abort + AllocGlobal), text: &str, start: u64, came: &mu
         came.put(b" to ");
         came.number(found.end);
     }
+    drop(found);
 }
 
 /// Shows the name of a fault and what it keeps.
@@ -102,7 +103,9 @@ fn show_constant(rt: &(impl Abort + AllocGlobal), text: &str, came: &mut Text) {
         return;
     };
     let copied = copy(rt.alloc(), &found.expr).expect(rt, "memory");
+    drop(found);
     let (is_constant, value) = (is_constant(&copied), constant_of(&copied));
+    drop(copied);
     came.put(
         format!(in rt.alloc(); "{is_constant} {value:?}")
             .expect(rt, "memory")
