@@ -40,3 +40,8 @@ def shown(data, script="roman"):
 def four(kind):
     """A type or a creator between its marks."""
     return "'%s'" % shown(kind).replace("'", "\\'")
+
+
+def quoted(name):
+    """A name of a file or a resource between its marks."""
+    return '"%s"' % shown(name).replace('"', '\\"')
