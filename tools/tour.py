@@ -6,9 +6,9 @@
 In the code blocks of WALKS a line that begins with `$ ` is a command, lines that begin with `> ` right after it go on
 with it, and what follows, up to the next command or the end of the block, is its output. The commands of the documents
 of one walk are run in their order, by `sh`, in a folder of their own that has `examples`, `types`, `tools` and, as `./rezkit`,
-the built program (crates/rezkit/out/rezkit unless another is named). A command that names a tool of TOOLS which isn't
+the built program (the one that ./rezkit runs unless another is named). A command that names a tool of TOOLS which isn't
 installed is skipped. What differs is printed, and with `--write` put into the document. The status is 1 if anything
-differs. The gate runs it after `rt ci`.
+differs. The quick checks run it.
 """
 import os
 import re
@@ -16,6 +16,8 @@ import shutil
 import subprocess
 import sys
 import tempfile
+
+from running import program_to_run
 
 TOP = os.path.abspath(os.path.join(os.path.dirname(os.path.abspath(__file__)), ".."))
 WALKS = (
@@ -103,7 +105,7 @@ def walk(documents, program, write):
 
 def main():
     arguments = [argument for argument in sys.argv[1:] if argument != "--write"]
-    program = os.path.abspath(arguments[0] if arguments else os.path.join(TOP, "crates", "rezkit", "out", "rezkit"))
+    program = os.path.abspath(arguments[0] if arguments else program_to_run())
     sums = [walk(documents, program, "--write" in sys.argv[1:]) for documents in WALKS]
     count, wrong, skipped = (sum(column) for column in zip(*sums))
     print("%d commands, %d print something else, %d skipped" % (count, wrong, skipped))
