@@ -5,7 +5,7 @@
 
 In the code blocks of WALKS a line that begins with `$ ` is a command, lines that begin with `> ` right after it go on
 with it, and what follows, up to the next command or the end of the block, is its output. The commands of the documents
-of one walk are run in their order, by `sh`, in a folder of their own that has `examples`, `types`, `tools` and, as `./rezkit`,
+of one walk are run in their order, by `sh`, in a folder of their own that has `examples`, `types`, `tools`, `workbench` and, as `./rezkit`,
 the built program (the one that ./rezkit runs unless another is named). A command that names a tool of TOOLS which isn't
 installed is skipped. What differs is printed, and with `--write` put into the document. The status is 1 if anything
 differs. The quick checks run it.
@@ -27,8 +27,9 @@ WALKS = (
     ("docs/TEMPLATES.md",),
     ("docs/TRANSLATING.md",),
     ("docs/PORTING.md",),
+    ("docs/ARCHIVING.md",),
 )
-TOOLS = ("cpp", "git", "make", "xxd")
+TOOLS = ("cpp", "git", "make", "parallel", "sqlite3", "xxd")
 
 
 def parts_of(text):
@@ -97,7 +98,7 @@ def walk_document(document, folder, write):
 def walk(documents, program, write):
     """The same of all documents of a walk, in one folder."""
     with tempfile.TemporaryDirectory(prefix="rezkit-tour-") as folder:
-        for name in ("examples", "types", "tools"):
+        for name in ("examples", "types", "tools", "workbench"):
             os.symlink(os.path.join(TOP, name), os.path.join(folder, name))
         os.symlink(program, os.path.join(folder, "rezkit"))
         return [sum(column) for column in zip(*(walk_document(document, folder, write) for document in documents))]

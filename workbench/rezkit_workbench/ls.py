@@ -149,7 +149,7 @@ def line_of(row):
         parts[0] += " %s %s" % (four(found.kind), four(found.creator))
     parts += sizes_of(found)
     resources = found.resources() if found else None
-    parts += ["%d resources" % len(resources)] if resources is not None else []
+    parts += ["resources %d" % len(resources)] if resources is not None else []
     parts += [row.fault] if row.fault else []
     return "%s: %s\n" % (printable(row.path), ", ".join(parts))
 

@@ -79,8 +79,8 @@ def test_rows_as_lines(tmp_path):
         write(tmp_path, name, data)
     status, output, _ = run("rezkit-ls", ".", folder=str(tmp_path))
     assert output.decode() == (
-        "./a.bin: MacBinary 'APPL' 'CAF ', data 5, fork 347, 2 resources\n"
-        "./b.rsrc: resource fork, fork 347, 2 resources\n"
+        "./a.bin: MacBinary 'APPL' 'CAF ', data 5, fork 347, resources 2\n"
+        "./b.rsrc: resource fork, fork 347, resources 2\n"
         "./c.rsrc: resource fork, fork 346, 403 MapOutside offset 4 value 75\n"
         "./d.png: PNG\n"
         "./e: empty\n")
@@ -236,14 +236,14 @@ def test_no_control_byte_is_printed_raw(tmp_path):
         output = run("rezkit-ls", *words, ".", folder=str(tmp_path))[1]
         assert not [byte for byte in output.replace(b"\n", b"") if byte < 32 or byte == 127]
     assert run("rezkit-ls", ".", folder=str(tmp_path))[1].decode() == (
-        "./\\x1b[31m\\x7f: MacBinary 'õ\\x0d\\x0a\\x00' 'CAF ', data 5, fork 347, 2 resources\n")
+        "./\\x1b[31m\\x7f: MacBinary 'õ\\x0d\\x0a\\x00' 'CAF ', data 5, fork 347, resources 2\n")
 
 
 def test_standard_input(tmp_path):
-    assert run("rezkit-ls", "-", given=hqx(WHOLE))[:2] == (0, b"-: BinHex 4.0 'APPL' 'CAF ', data 5, fork 347, 2 resources\n")
+    assert run("rezkit-ls", "-", given=hqx(WHOLE))[:2] == (0, b"-: BinHex 4.0 'APPL' 'CAF ', data 5, fork 347, resources 2\n")
     with open(write(tmp_path, "f", FORK), "rb") as file:
         ran = subprocess.run([os.path.join(WORKBENCH, "rezkit-ls"), "-"], stdin=file, stdout=subprocess.PIPE)
-    assert ran.stdout == b"-: resource fork, fork 347, 2 resources\n"
+    assert ran.stdout == b"-: resource fork, fork 347, resources 2\n"
 
 
 def test_a_deep_and_a_large_folder(tmp_path):
