@@ -4,7 +4,8 @@
     python3 tools/share.py [OPTION..] FORK..
 
     --program NAME   the program (the one that ./rezkit runs unless stated)
-    --types NAME     the type file (types/Types.r of the repository unless stated); also of `rez`, by -i of its folder
+    --types NAME     the type file (types/Types.r of the repository unless stated; types/Texts.r for a translation); also
+                     of `rez`, by -i of its folder
     --define MACRO   a macro of -d, for both commands; as often as you like
     --changed N      looks at N more forks for each FORK, in which some bytes of each resource were changed by chance
     --seed N         where chance begins (1 unless stated)
@@ -16,7 +17,7 @@ layout, other reserved bytes or attributes of its map, which text doesn't keep, 
 
     no declaration   `rez` says 202 of an empty `resource` statement with the type and id
     don't fit        the type can be read, since a resource of it was shown: one of the forks, or one that is tried,
-                     of zero bytes alone or behind the first bytes of one of those that weren't shown. So the bytes
+                     of zero bytes alone or after the first bytes of one of those that weren't shown. So the bytes
                      are of no plain row of the fields, or a case of the row has the name of a macro
     not readable?    nothing of the type was shown. The type can't be read, or no bytes that were tried fit it: the
                      program doesn't say which
@@ -35,9 +36,9 @@ from casefile import admitted, image
 from forms import Refused
 from running import program_to_run
 
-TOP = os.path.join(os.path.dirname(os.path.abspath(__file__)), "..")
+TOP = os.path.dirname(os.path.dirname(os.path.realpath(__file__)))
 HEAD = re.compile(rb"^(data|resource) '((?:\\0x..|\\.|[^'\\])*)' \((-?\d+)", re.M)
-ZEROS, FRONT, FRONTS = 601, 48, 4  # so many zero bytes are tried, and so many behind as many bytes of so many resources
+ZEROS, FRONT, FRONTS = 601, 48, 4  # so many zero bytes are tried, and so many after as many bytes of so many resources
 
 
 class Failed(Exception):

@@ -25,6 +25,7 @@ WALKS = (
     ("docs/MESSAGES.md",),
     ("docs/DAMAGED.md",),
     ("docs/TEMPLATES.md",),
+    ("docs/TYPES.md",),
     ("docs/TRANSLATING.md",),
     ("docs/PORTING.md",),
     ("docs/ARCHIVING.md",),
@@ -62,7 +63,7 @@ def missing_tool(command):
 
 
 def printed(command, folder):
-    """What a command prints, as lines, and anything behind the last line end as a line that no document has."""
+    """What a command prints, as lines, and anything after the last line end as a line that no document has."""
     ran = subprocess.run(["sh", "-c", command], cwd=folder, stdout=subprocess.PIPE, stderr=subprocess.STDOUT)
     lines = ran.stdout.decode("utf-8", "replace").split("\n")
     return lines[:-1] if not lines[-1] else lines[:-1] + [lines[-1] + " (without a line end)"]
