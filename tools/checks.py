@@ -7,10 +7,10 @@ The files of cases that a script writes are what it would write now, and a secon
 documents name what is there; docs/MESSAGES.md has each message; the help text describes each option; the edits of
 wrong-bodies/ and must-fail/ apply, and tools/wrong_bodies.py finds those that don't. With the program that ./rezkit runs:
 ./test finds programs that are wrong; ./rezkit tells why it runs no program; tools/install installs it; the commands that
-README.md, docs/TOUR.md, docs/MESSAGES.md, docs/DAMAGED.md, docs/TEMPLATES.md, docs/TYPES.md, docs/TRANSLATING.md and
-docs/PORTING.md show print what stands there; SOURCE_DATE_EPOCH is the moment of a run; odd words, names and limits of the host are met. With the
-case runner that `rt ci` built, case files that are broken or differ are told. Without `rt` that check is skipped, as is any
-check whose program isn't there, and the line of the check says so.
+README.md, docs/TOUR.md, docs/MESSAGES.md, docs/DAMAGED.md, docs/TEMPLATES.md, docs/TYPES.md, docs/TRANSLATING.md,
+docs/PORTING.md and docs/ARCHIVING.md show print what stands there; SOURCE_DATE_EPOCH is the moment of a run; odd words,
+names and limits of the host are met. With the case runner that `rt ci` built, case files that are broken or differ are told.
+Without `rt` that check is skipped, as is any check whose program isn't there, and the line of the check says so.
 
 The checks run side by side, as many as there are cores. The last line is `quick checks: N passed, N failed, N skipped`.
 The status is 1 if one fails.

@@ -1,0 +1,9 @@
+"""What the programs of the workbench share, and a module for each of them.
+
+    errors     what is refused, and with which status
+    program    where rezkit is, and calls of it
+    roman      letters of the Macintosh, and what may be printed
+    facts      what a file is: its form, what the Finder keeps, its forks and resources
+    writing    files and folders that are written without overwriting any
+    command    the frame of a program: options, messages, statuses
+"""
