@@ -73,21 +73,22 @@ class Macros:
         """The macro of a name that is expanded, or None."""
         return None if name in self.twice else self.found.get(name)
 
-    def call_at(self, tokens, at):
+    def call_at(self, tokens, at, pairs):
         """The macro that is called at a token, its arguments, and the token after the call; or None."""
         macro = self.get(tokens[at].text) if tokens[at].kind == "word" else None
         if not macro:
             return None
         opening = next((place for place in range(at + 1, len(tokens)) if not is_gap(tokens[place])), None)
-        if opening is None or tokens[opening].text != b"(":
+        if opening not in pairs:
             return None
-        read = arguments(tokens, opening + 1)
-        if not read:
+        closing, commas = pairs[opening]
+        if len(commas) + 1 != max(len(macro.parameters), 1):
             return None
-        given, after = read
-        if not macro.parameters and len(given) == 1 and not given[0]:
-            given = []
-        return (macro, given, after) if len(given) == len(macro.parameters) else None
+        ends = [opening] + commas + [closing]
+        given = [tokens[first + 1:last] for first, last in zip(ends, ends[1:])]
+        if not macro.parameters and any(not is_gap(token) for token in given.pop()):
+            return None
+        return macro, given, closing + 1
 
     def expansion(self, macro, given):
         """The bytes that a call means."""
@@ -111,8 +112,9 @@ class Macros:
         if depth > DEEPEST:
             raise TooLong("calls of macros stand more than %d deep" % DEEPEST)
         tokens, made, at = [token for token in tokens if not is_gap(token)], [], 0
+        pairs = brackets(tokens)
         while at < len(tokens):
-            call = None if tokens[at].text in hidden else self.call_at(tokens, at)
+            call = None if tokens[at].text in hidden else self.call_at(tokens, at, pairs)
             if call:
                 macro, given, at = call
                 made.extend(as_tokens(self.replaced(macro, given, hidden, room, depth + 1)))
@@ -144,17 +146,15 @@ def as_tokens(texts):
     return [Replaced(text) for text in texts]
 
 
-def arguments(tokens, at):
-    """The arguments from after an opening bracket, each a list of tokens, and the place after the closing one; or None."""
-    given, depth = [[]], 1
-    while at < len(tokens):
-        text = tokens[at].text
-        depth += (text == b"(") - (text == b")")
-        if depth == 0:
-            return given, at + 1
-        if text == b"," and depth == 1:
-            given.append([])
-        elif given[-1] or not is_gap(tokens[at]):
-            given[-1].append(tokens[at])
-        at += 1
-    return None
+def brackets(tokens):
+    """The pairs of brackets ( and ): for the first of each the place of the second, and those of the commas between."""
+    pairs, waiting = {}, []
+    for at, token in enumerate(tokens):
+        if token.text == b"(":
+            waiting.append((at, []))
+        elif token.text == b"," and waiting:
+            waiting[-1][1].append(at)
+        elif token.text == b")" and waiting:
+            opening, commas = waiting.pop()
+            pairs[opening] = at, commas
+    return pairs

@@ -185,10 +185,10 @@ class Mending:
 
     def marked(self, tail, word):
         """The tokens of a directive, without those names of macros that stand for the macro itself, as in `#ifdef Text`."""
-        rest = []
+        rest, pairs = [], macros.brackets(tail)
         for at, token in enumerate(tail):
             macro = self.known.get(token.text) if token.kind == "word" and word in TESTS else None
-            if macro and not self.known.call_at(tail, at):
+            if macro and not self.known.call_at(tail, at, pairs):
                 self.edit(token, macro.mark)
             else:
                 rest.append(token)
@@ -207,9 +207,9 @@ class Mending:
 
     def expand_part(self, part, names):
         """The same of tokens between two directives: no call goes over a directive."""
-        at = 0
+        at, pairs = 0, macros.brackets(part)
         while at < len(part):
-            call = self.known.call_at(part, at)
+            call = self.known.call_at(part, at, pairs)
             if not call:
                 self.plain(part[at:at + 1], names)
                 at += 1
@@ -228,6 +228,14 @@ class Mending:
             raise macros.TooLong("%d: %s" % (self.source.line_of(first.start), fault)) from None
         inner = Mending(tokens.Source(made), self.find, self.is_there, macros.Macros())
         self.edits.append((first.start, last.start + len(last.text), b" " + inner.run() + b" "))
+
+
+def value(data):
+    """The value of a macro that the arguments define, mended."""
+    source = tokens.Source(data)
+    mending = Mending(source, None, lambda written: True, macros.Macros())
+    mending.plain(source.tokens(), Names())
+    return source.rebuilt(mending.edits)
 
 
 def told(text):

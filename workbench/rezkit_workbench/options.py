@@ -3,9 +3,10 @@
 A word after an option that takes a value is its value, whatever it begins with. `--name=VALUE` is taken, and for options
 of one letter that stand in JOINED also `-IPATH`.
 """
+import os
 import textwrap
 
-from . import program
+from . import mend, program
 from .errors import Refused
 
 
@@ -159,7 +160,8 @@ def definitions(pairs):
             continue
         if used in ("-D", "--define") and "=" not in value:
             value += "=1"
-        made += [("-d", used), (value, value)]
+        name, equals, text = value.partition("=")
+        made += [("-d", used), (name + equals + os.fsdecode(mend.value(os.fsencode(text))), value)]
     return made
 
 

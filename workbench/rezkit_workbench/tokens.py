@@ -13,13 +13,13 @@ LINE_END = re.compile(rb"\r\n|\r|\n")
 TOKEN = re.compile(rb"""
     (?P<end>\r\n|\r|\n)
     | (?P<blank>[ \t\v\f]+)
-    | (?P<comment>/\*.*?(?:\*/|\Z)|//[^\r\n]*)
-    | (?P<text>\$?"(?:\\[^\r\n]|[^"\\\r\n])*(?:"|\\?(?=[\r\n]|\Z))|'(?:\\[^\r\n]|[^'\\\r\n])*(?:'|\\?(?=[\r\n]|\Z)))
+    | (?P<comment>/\*|//[^\r\n]*)
+    | (?P<text>\$?"|')
     | (?P<word>(?:\$\$(?=[A-Za-z]))?[A-Za-z_][A-Za-z0-9_]*)
     | (?P<number>(?:[0-9]|\$[0-9A-Fa-f])[A-Za-z0-9_]*)
     | (?P<other>.)
     """, re.X | re.S)
-WHOLE = re.compile(rb"""(?:\$?"(?:\\.|[^"\\])*"|'(?:\\.|[^'\\])*')\Z""", re.S)
+STOP = {mark: re.compile(b"[\\\\\r\n%s]" % mark) for mark in (b'"', b"'")}
 ANGLE = re.compile(rb"<[^>\r\n]*>")
 
 # kind: the name of a group of TOKEN, or "angle" for the name between < and > of a directive #include.
@@ -54,12 +54,22 @@ class Source:
             angle = ahead == [b"#", b"include"] and ANGLE.match(self.text, at)
             found = angle or TOKEN.match(self.text, at)
             kind = "angle" if angle else found.lastgroup
-            yield Token(kind, at, found[0])
-            at = found.end()
+            after = self.end_of(kind, found)
+            yield Token(kind, at, self.text[at:after])
+            at = after
             if kind == "end":
                 ahead = []
             elif kind not in ("blank", "comment") and len(ahead) < 3:
                 ahead.append(found[0].lower())
+
+    def end_of(self, kind, found):
+        """The place after a token, of which the first bytes are found."""
+        if kind == "text":
+            return end_of_quotes(self.text, found.end(), found[0][-1:])
+        if kind == "comment" and found[0] == b"/*":
+            closing = self.text.find(b"*/", found.end())
+            return closing + 2 if closing >= 0 else len(self.text)
+        return found.end()
 
     def lines(self):
         """The tokens of each logical line, its line end among them."""
@@ -85,6 +95,30 @@ class Source:
         return b"".join(made)
 
 
+def end_of_quotes(text, at, mark):
+    """The place after a quoted part, from after its first mark on: it ends at the same mark, or at the line's end."""
+    while True:
+        found = STOP[mark].search(text, at)
+        if not found:
+            return len(text)
+        if found[0] == mark:
+            return found.end()
+        if found[0] != b"\\":
+            return found.start()
+        at = found.end() + 1
+        if at > len(text):
+            return len(text)
+
+
 def is_whole(token):
     """Whether a string or a literal ends on its line."""
-    return bool(WHOLE.match(token.text))
+    body = token.text[1:] if token.text[:1] == b"$" else token.text
+    mark = body[:1]
+    at = 1
+    while True:
+        found = STOP[mark].search(body, at)
+        if not found:
+            return False
+        if found[0] == mark:
+            return True
+        at = found.end() + 1
