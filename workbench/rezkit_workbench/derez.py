@@ -206,6 +206,7 @@ def body(words):
         raise
     except OSError as fault:
         command.say("DeRez", "%s: %s" % (printable(os.fsdecode(fault.filename or "standard output")), fault.strerror))
+        command.drop_out()
         return CANT
 
 

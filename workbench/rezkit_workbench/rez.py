@@ -160,6 +160,7 @@ def body(words):
             return compile_all(asked, folder)
     except OSError as fault:
         command.say("Rez", "%s: %s" % (printable(os.fsdecode(fault.filename or "a file")), fault.strerror))
+        command.drop_out()
         return CANT
 
 

@@ -43,10 +43,9 @@ def forked(name, words, folder, streams, limits, environment):
     try:
         status = begun(name, words, folder, streams, limits, environment)
     except BaseException:  # whatever came out of the program is a fault of it
-        traceback.print_exc()
+        os.write(2, traceback.format_exc().encode("utf-8", "replace"))
     finally:
-        sys.stderr.flush()
-        os._exit(status)
+        os._exit(status)  # whatever happens, the fork goes no further in the tests
 
 
 def begun(name, words, folder, streams, limits, environment):
@@ -61,6 +60,7 @@ def begun(name, words, folder, streams, limits, environment):
     sys.argv = [name, *words]
     status = MODULES[name].main()
     sys.stdout.flush()
+    sys.stderr.flush()
     return status
 
 
