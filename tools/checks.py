@@ -1,60 +1,89 @@
 #!/usr/bin/env python3
-"""The repository's own quick checks, which the gate runs after `rt ci`.
+"""The repository's own quick checks, which ./test runs after the cases.
 
     python3 tools/checks.py
 
 The files of cases that a script writes are what it would write now, and a second reading shows what they show; the
-documents name what is there; docs/MESSAGES.md has each message; the help text describes each option; and, with the
-programs that the gate built, the commands that README.md, docs/TOUR.md, docs/MESSAGES.md, docs/DAMAGED.md,
-docs/TEMPLATES.md, docs/TRANSLATING.md and docs/PORTING.md show print what stands there, SOURCE_DATE_EPOCH is the moment of
-a run, odd words, names and limits of the host are met, and case files that are broken or differ are told. A check whose
-program isn't there is skipped and says so. The status is 1 if one fails.
+documents name what is there; docs/MESSAGES.md has each message; the help text describes each option; the edits of
+wrong-bodies/ and must-fail/ apply; ./test finds programs that are wrong; ./rezkit tells why it runs no program. With the
+program that ./rezkit runs, the commands that README.md, docs/TOUR.md, docs/MESSAGES.md, docs/DAMAGED.md, docs/TEMPLATES.md,
+docs/TYPES.md, docs/TRANSLATING.md, docs/PORTING.md and docs/ARCHIVING.md show print what stands there, SOURCE_DATE_EPOCH is
+the moment of a run, and odd words, names and limits of the host are met. With the case runner that `rt ci` built, case files that are broken or differ
+are told. Without `rt` that check is skipped, as is any check whose program isn't there, and the line of the check says so.
+
+The checks run side by side, as many as there are cores. The last line is `quick checks: N passed, N failed, N skipped`.
+The status is 1 if one fails.
 """
+import concurrent.futures
 import glob
 import os
 import subprocess
 import sys
 
-TOP = os.path.join(os.path.dirname(os.path.abspath(__file__)), "..")
-PROGRAM = os.path.join("crates", "rezkit", "out", "rezkit")
+TOP = os.path.abspath(os.path.join(os.path.dirname(os.path.abspath(__file__)), ".."))
 HARNESS = os.path.join("crates", "rezkit_cases", "out", "rezkit_cases")
+PARTS = 8  # into so many checks the longest one is cut
 
 
-def checks():
-    """Each check: its name, its command, and a file without which it is skipped."""
+def checks(program):
+    """Each check: its name, its command, and the file that it needs, or None."""
+    found = []
+    cases = sorted(glob.glob("crates/rezkit_cases/data/*.cases"), key=os.path.getsize, reverse=True)
+    for part in range(PARTS):
+        found.append(("tools/shown.py (part %d of %d)" % (part + 1, PARTS), ["tools/shown.py", *cases[part::PARTS]], None))
+    for name in ("tour", "epoch", "edge", "first_answer", "wrong_programs"):
+        found.append(("tools/%s.py" % name, ["tools/%s.py" % name, program], program))
     scripts = sorted(glob.glob("tools/*_cases.py"))
-    found = [(script, [script, "--check"], None) for script in scripts if "--check" in open(script, encoding="utf-8").read()]
-    cases = sorted(glob.glob("crates/rezkit_cases/data/*.cases"))
-    found.append(("tools/fork.py", ["tools/fork.py", "--check", *cases], None))
-    found.append(("tools/shown.py", ["tools/shown.py", *cases], None))
-    found.append(("tools/calls.py", ["tools/calls.py", "--check"], None))
-    found.append(("tools/links.py", ["tools/links.py"], None))
-    found.append(("tools/messages.py", ["tools/messages.py"], None))
-    found.append(("tools/help.py", ["tools/help.py", "--check"], None))
-    found.append(("tools/tour.py", ["tools/tour.py"], PROGRAM))
-    found.append(("tools/epoch.py", ["tools/epoch.py"], PROGRAM))
-    found.append(("tools/edge.py", ["tools/edge.py"], PROGRAM))
+    found += [(script, [script, "--check"], None) for script in scripts if "--check" in text_of(script)]
+    found.append(("tools/fork.py", ["tools/fork.py", "--check", *sorted(cases)], None))
+    for name in ("calls", "help", "wrong_bodies"):
+        found.append(("tools/%s.py" % name, ["tools/%s.py" % name, "--check"], None))
+    for name in ("links", "messages"):
+        found.append(("tools/%s.py" % name, ["tools/%s.py" % name], None))
     found.append(("tools/harness.py", ["tools/harness.py"], HARNESS))
     return found
 
 
+def text_of(path):
+    with open(path, encoding="utf-8") as file:
+        return file.read()
+
+
+def outcome(check):
+    """Runs a check. Gives its line, and whether it failed; None if it is skipped."""
+    name, command, needed = check
+    if needed is not None and not os.path.exists(needed):
+        return "%s: skipped, for there is no %s" % (name, needed or "program that ./rezkit can run"), None
+    ran = subprocess.run([sys.executable, *command], stdin=subprocess.DEVNULL, stdout=subprocess.PIPE, stderr=subprocess.STDOUT)
+    if ran.returncode:
+        return "%s: FAILED\n%s" % (name, ran.stdout.decode("utf-8", "replace")), True
+    last = ran.stdout.decode("utf-8", "replace").strip().split("\n")[-1]
+    return "%s: ok%s" % (name, ", " + last if last else ""), False
+
+
+def program_or_none():
+    """The program that ./rezkit runs, or an empty name. tools/program says why there is none."""
+    ran = subprocess.run(["/bin/sh", os.path.join(TOP, "tools", "program")], stdin=subprocess.DEVNULL, stdout=subprocess.PIPE)
+    return "" if ran.returncode else os.fsdecode(ran.stdout).rstrip("\n")
+
+
+def run_checks(program):
+    """Runs all checks and prints a line for each. Gives how many passed, failed and were skipped."""
+    os.chdir(TOP)
+    ends = []
+    with concurrent.futures.ThreadPoolExecutor(len(os.sched_getaffinity(0))) as pool:
+        for line, failed in pool.map(outcome, checks(program)):
+            print(line, flush=True)
+            ends.append(failed)
+    return ends.count(False), ends.count(True), ends.count(None)
+
+
 def main():
     os.chdir(TOP)
-    failed = skipped = 0
-    for name, command, needed in checks():
-        if needed and not os.path.exists(needed):
-            skipped += 1
-            print("%s: skipped, for there is no %s" % (name, needed), flush=True)
-            continue
-        ran = subprocess.run([sys.executable, *command], stdout=subprocess.PIPE, stderr=subprocess.STDOUT)
-        if ran.returncode:
-            failed += 1
-            print("%s: FAILED\n%s" % (name, ran.stdout.decode("utf-8", "replace")), flush=True)
-        else:
-            print("%s: ok" % name, flush=True)
-    print("quick checks: %d failed, %d skipped" % (failed, skipped))
-    sys.exit(1 if failed else 0)
+    counts = run_checks(program_or_none())
+    print("quick checks: %d passed, %d failed, %d skipped" % counts)
+    return 1 if counts[1] else 0
 
 
 if __name__ == "__main__":
-    main()
+    sys.exit(main())

@@ -3,10 +3,10 @@
 
     python3 tools/edge.py [PROGRAM]
 
-PROGRAM is crates/rezkit/out/rezkit unless another is named. A run has the words after the program's name, and none begins
+PROGRAM is the one that ./rezkit runs unless another is named. A run has the words after the program's name, and none begins
 if one of them isn't UTF-8. Names at which no file can stand are missing files; files that have the names of temporary ones
 hinder no write; and a file that is longer than the process may write is a write fault that leaves what was there. What
-comes otherwise than it stands here, by hand, is printed. The status is 1 if anything does. The gate runs it after `rt ci`.
+comes otherwise than it stands here, by hand, is printed. The status is 1 if anything does. The quick checks run it.
 """
 import os
 import resource
@@ -17,8 +17,8 @@ import tempfile
 
 from casefile import image
 from forms import File, double, macbin
+from running import program_to_run
 
-TOP = os.path.join(os.path.dirname(os.path.abspath(__file__)), "..")
 ONE = image([(b"Test", 128, b"", 0, bytes.fromhex("0102"))])
 SOURCE = b"data 'Test' (128) { $\"0102\" };\n"
 SHOWN = b"data 'Test' (128) {\n    $\"0102\"\n};\n\n"
@@ -165,7 +165,7 @@ def limits(edge):
 
 
 def main():
-    edge = Edge(os.path.abspath(sys.argv[1] if len(sys.argv) > 1 else os.path.join(TOP, "crates", "rezkit", "out", "rezkit")))
+    edge = Edge(os.path.abspath(sys.argv[1] if len(sys.argv) > 1 else program_to_run()))
     words(edge)
     places(edge)
     leftovers(edge)

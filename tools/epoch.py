@@ -3,10 +3,10 @@
 
     python3 tools/epoch.py [PROGRAM]
 
-PROGRAM is crates/rezkit/out/rezkit unless another is named. A value that is the decimal of a number of seconds up to the
+PROGRAM is the one that ./rezkit runs unless another is named. A value that is the decimal of a number of seconds up to the
 end of 2039 is the moment of the run: `$$Date` and `$$Time` tell it, and a file of MacBinary has it as its dates. Any other
 value ends the program with status 5 before it does anything. Without the variable the date is that of the clock.
-What differs is printed. The status is 1 if anything does. The gate runs it after `rt ci`.
+What differs is printed. The status is 1 if anything does. The quick checks run it.
 """
 import datetime
 import os
@@ -14,7 +14,8 @@ import subprocess
 import sys
 import tempfile
 
-TOP = os.path.join(os.path.dirname(os.path.abspath(__file__)), "..")
+from running import program_to_run
+
 NAME = "SOURCE_DATE_EPOCH"
 SOURCE = b"data 'Date' (128) { $$Date $$Time };\n"
 LINE = b"rezkit: SOURCE_DATE_EPOCH isn't a decimal number from 0 to 2208988799\n"
@@ -77,7 +78,7 @@ def differences(program, folder):
 
 
 def main():
-    program = os.path.abspath(sys.argv[1] if len(sys.argv) > 1 else os.path.join(TOP, "crates", "rezkit", "out", "rezkit"))
+    program = os.path.abspath(sys.argv[1] if len(sys.argv) > 1 else program_to_run())
     with tempfile.TemporaryDirectory(prefix="rezkit-epoch-") as folder:
         with open(os.path.join(folder, "date.r"), "wb") as file:
             file.write(SOURCE)

@@ -3,7 +3,7 @@
 
     python3 tools/mutated.py [PROGRAM [COUNT [SEED]]]
 
-PROGRAM is crates/rezkit/out/rezkit, COUNT 4,000 and SEED 1 unless others are named. Each file is a fork of resources of the
+PROGRAM is the one that ./rezkit runs, COUNT 4,000 and SEED 1 unless others are named. Each file is a fork of resources of the
 cases in crates/rezkit_cases/data, in one of the forms raw, AppleDouble, AppleSingle, MacBinary and BinHex, of which something is changed:
 fields of the fork, bits, bytes, or how long it is, before or after it is put into its form, with check sums that are
 computed again or not. `derez` shows it, `det` tells what is broken, and `bridge` carries it to a form. What comes has to be
@@ -24,6 +24,7 @@ import tempfile
 from breaks import breaks, text_of
 from casefile import DATA, admitted, image
 from forms import ALPHABET, MAGICS, File, Refused, checked, crc, form_of, hqx_head, hqx_text, macbin, read_form, written
+from running import program_to_run
 from shown import cases_of, content_of, resource_text
 
 TOP = os.path.join(os.path.dirname(os.path.abspath(__file__)), "..")
@@ -232,7 +233,7 @@ class Runs:
 
 def main():
     arguments = sys.argv[1:] + [None] * 3
-    program = os.path.abspath(arguments[0] or os.path.join(TOP, "crates", "rezkit", "out", "rezkit"))
+    program = os.path.abspath(arguments[0] or program_to_run())
     count, maker = int(arguments[1] or 4000), Maker(int(arguments[2] or 1))
     with tempfile.TemporaryDirectory(prefix="rezkit-mutated-") as folder:
         runs = Runs(program, folder)

@@ -3,7 +3,7 @@
 
     python3 tools/random_catalogues.py [PROGRAM [COUNT [SEED]]]
 
-PROGRAM is crates/rezkit/out/rezkit, COUNT 2,000 and SEED 1 unless others are named. Each fork has resources of one random
+PROGRAM is the one that ./rezkit runs, COUNT 2,000 and SEED 1 unless others are named. Each fork has resources of one random
 type, as random_rows.py makes them, in one of the forms raw, AppleDouble, AppleSingle, MacBinary and BinHex. `strings` has to
 write the catalogue that catalogues.py tells, and `restring` has to write the same file, or the same message, for five
 catalogues: that of the fork itself, and others with changed texts, in another order, with an entry too many, or with
@@ -22,9 +22,9 @@ from casefile import image
 from catalogues import entries_in, entry_text, message, restring, strings
 from forms import File, Refused, written
 from random_rows import labelled, unlabelled
+from running import program_to_run
 from shown import declarations_of, tokens_of
 
-TOP = os.path.join(os.path.dirname(os.path.abspath(__file__)), "..")
 FORMS = ("raw", "double", "single", "macbin", "hqx")
 LETTERS = [0, 34, 39, 92, 97, 98, 99, 233, 255]
 SECONDS = 60
@@ -126,7 +126,7 @@ class Runs:
 
 def main():
     arguments = sys.argv[1:] + [None] * 3
-    program = os.path.abspath(arguments[0] or os.path.join(TOP, "crates", "rezkit", "out", "rezkit"))
+    program = os.path.abspath(arguments[0] or program_to_run())
     count = int(arguments[1] or 2000)
     random.seed(int(arguments[2] or 1))
     with tempfile.TemporaryDirectory(prefix="rezkit-catalogues-") as folder:

@@ -3,7 +3,7 @@
 
     python3 tools/random_templates.py [PROGRAM [COUNT [SEED]]]
 
-PROGRAM is crates/rezkit/out/rezkit, COUNT 10,000 and SEED 1 unless others are named. Each list of entries is one that
+PROGRAM is the one that ./rezkit runs, COUNT 10,000 and SEED 1 unless others are named. Each list of entries is one that
 declares fields, or such a one that is changed or cut, or lists about as deep as may be, or entries by chance. It stands in
 a file of templates, beside others, in one of the forms. `derez` shows a fork of resources under it, whose bytes are of its
 fields, or nearly, or by chance; each text with a `resource` statement is compiled again, which must give the fork. What
@@ -19,10 +19,10 @@ import tempfile
 
 from casefile import image
 from forms import File, Refused, written
+from running import program_to_run
 from shown import Reader, derez, tokens_of
 from templates import COUNTS, FIELDS, LISTS, NAMES, types_of
 
-TOP = os.path.join(os.path.dirname(os.path.abspath(__file__)), "..")
 CODES = [*FIELDS, *COUNTS, *LISTS, "LSTE"]
 OTHERS = ["BOOL", "BBIT", "LSTZ", "H010", "dbyt", "\0\0\0\0"]
 
@@ -184,7 +184,7 @@ def run(program, folder, *words):
 
 
 def main():
-    program = os.path.abspath(sys.argv[1] if sys.argv[1:] else os.path.join(TOP, "crates", "rezkit", "out", "rezkit"))
+    program = os.path.abspath(sys.argv[1] if sys.argv[1:] else program_to_run())
     count, seed = int((sys.argv[2:] + ["10000"])[0]), int((sys.argv[3:] + ["1"])[0])
     make, seen, wrong = Maker(seed), collections.Counter(), 0
     with tempfile.TemporaryDirectory(prefix="rezkit-templates-") as folder:

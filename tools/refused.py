@@ -3,7 +3,7 @@
 
     python3 tools/refused.py [PROGRAM]
 
-PROGRAM is crates/rezkit/out/rezkit unless another is named. A library that `cc` makes stands before the C library's
+PROGRAM is the one that ./rezkit runs unless another is named. A library that `cc` makes stands before the C library's
 `malloc` and `realloc` (LD_PRELOAD) and refuses the call of one number; it tells whether that call came. Each command is
 run with the first call refused, then the second, and so on, until a run in which none was. It is a case of
 crates/rezkit_cases/data, over files of the host in a folder of its own. A run of which a call was refused ends as its case
@@ -21,6 +21,7 @@ import sys
 import tempfile
 import time
 
+from running import program_to_run
 from shown import cases_of, content_of
 
 TOP = os.path.join(os.path.dirname(os.path.abspath(__file__)), "..")
@@ -189,7 +190,7 @@ class Refuser:
 
 
 def main():
-    program = os.path.abspath(sys.argv[1] if len(sys.argv) > 1 else os.path.join(TOP, "crates", "rezkit", "out", "rezkit"))
+    program = os.path.abspath(sys.argv[1] if len(sys.argv) > 1 else program_to_run())
     with tempfile.TemporaryDirectory(prefix="rezkit-refuser-") as folder:
         source, library = os.path.join(folder, "refuser.c"), os.path.join(folder, "refuser.so")
         with open(source, "w") as file:

@@ -3,8 +3,9 @@
 
     python3 tools/share.py [OPTION..] FORK..
 
-    --program NAME   the program (crates/rezkit/out/rezkit of the repository unless stated)
-    --types NAME     the type file (types/Types.r of the repository unless stated); also of `rez`, by -i of its folder
+    --program NAME   the program (the one that ./rezkit runs unless stated)
+    --types NAME     the type file (types/Types.r of the repository unless stated; types/Texts.r for a translation); also
+                     of `rez`, by -i of its folder
     --define MACRO   a macro of -d, for both commands; as often as you like
     --changed N      looks at N more forks for each FORK, in which some bytes of each resource were changed by chance
     --seed N         where chance begins (1 unless stated)
@@ -16,7 +17,7 @@ layout, other reserved bytes or attributes of its map, which text doesn't keep, 
 
     no declaration   `rez` says 202 of an empty `resource` statement with the type and id
     don't fit        the type can be read, since a resource of it was shown: one of the forks, or one that is tried,
-                     of zero bytes alone or behind the first bytes of one of those that weren't shown. So the bytes
+                     of zero bytes alone or after the first bytes of one of those that weren't shown. So the bytes
                      are of no plain row of the fields, or a case of the row has the name of a macro
     not readable?    nothing of the type was shown. The type can't be read, or no bytes that were tried fit it: the
                      program doesn't say which
@@ -33,10 +34,11 @@ import tempfile
 
 from casefile import admitted, image
 from forms import Refused
+from running import program_to_run
 
-TOP = os.path.join(os.path.dirname(os.path.abspath(__file__)), "..")
+TOP = os.path.dirname(os.path.dirname(os.path.realpath(__file__)))
 HEAD = re.compile(rb"^(data|resource) '((?:\\0x..|\\.|[^'\\])*)' \((-?\d+)", re.M)
-ZEROS, FRONT, FRONTS = 601, 48, 4  # so many zero bytes are tried, and so many behind as many bytes of so many resources
+ZEROS, FRONT, FRONTS = 601, 48, 4  # so many zero bytes are tried, and so many after as many bytes of so many resources
 
 
 class Failed(Exception):
@@ -164,7 +166,7 @@ def print_table(program, table):
 
 def arguments():
     parser = argparse.ArgumentParser(description=__doc__.splitlines()[0])
-    parser.add_argument("--program", default=os.path.join(TOP, "crates", "rezkit", "out", "rezkit"))
+    parser.add_argument("--program")
     parser.add_argument("--types", default=os.path.join(TOP, "types", "Types.r"))
     parser.add_argument("--define", action="append", default=[])
     parser.add_argument("--changed", type=int, default=0)
@@ -175,12 +177,13 @@ def arguments():
 
 def main():
     options = arguments()
-    for wanted in (options.program, options.types):
+    name = options.program or program_to_run()
+    for wanted in (name, options.types):
         if not os.path.isfile(wanted):
-            sys.exit("no %s: build the program by ./rezkit, or name both by --program and --types" % wanted)
+            sys.exit("there is no %s: name the program by --program and the types by --types" % wanted)
     chance, table, failed = random.Random(options.seed), {}, 0
     with tempfile.TemporaryDirectory() as folder:
-        program = Program(options.program, options.types, options.define, folder)
+        program = Program(name, options.types, options.define, folder)
         for name in options.forks:
             for turn in range(options.changed + 1):
                 try:

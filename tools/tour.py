@@ -5,10 +5,10 @@
 
 In the code blocks of WALKS a line that begins with `$ ` is a command, lines that begin with `> ` right after it go on
 with it, and what follows, up to the next command or the end of the block, is its output. The commands of the documents
-of one walk are run in their order, by `sh`, in a folder of their own that has `examples`, `types`, `tools` and, as `./rezkit`,
-the built program (crates/rezkit/out/rezkit unless another is named). A command that names a tool of TOOLS which isn't
+of one walk are run in their order, by `sh`, in a folder of their own that has `examples`, `types`, `tools`, `workbench` and, as `./rezkit`,
+the built program (the one that ./rezkit runs unless another is named). A command that names a tool of TOOLS which isn't
 installed is skipped. What differs is printed, and with `--write` put into the document. The status is 1 if anything
-differs. The gate runs it after `rt ci`.
+differs. The quick checks run it.
 """
 import os
 import re
@@ -17,16 +17,20 @@ import subprocess
 import sys
 import tempfile
 
+from running import program_to_run
+
 TOP = os.path.abspath(os.path.join(os.path.dirname(os.path.abspath(__file__)), ".."))
 WALKS = (
     ("README.md", "docs/TOUR.md"),
     ("docs/MESSAGES.md",),
     ("docs/DAMAGED.md",),
     ("docs/TEMPLATES.md",),
+    ("docs/TYPES.md",),
     ("docs/TRANSLATING.md",),
     ("docs/PORTING.md",),
+    ("docs/ARCHIVING.md",),
 )
-TOOLS = ("cpp", "git", "make", "xxd")
+TOOLS = ("cpp", "git", "make", "parallel", "sqlite3", "xxd")
 
 
 def parts_of(text):
@@ -59,7 +63,7 @@ def missing_tool(command):
 
 
 def printed(command, folder):
-    """What a command prints, as lines, and anything behind the last line end as a line that no document has."""
+    """What a command prints, as lines, and anything after the last line end as a line that no document has."""
     ran = subprocess.run(["sh", "-c", command], cwd=folder, stdout=subprocess.PIPE, stderr=subprocess.STDOUT)
     lines = ran.stdout.decode("utf-8", "replace").split("\n")
     return lines[:-1] if not lines[-1] else lines[:-1] + [lines[-1] + " (without a line end)"]
@@ -95,7 +99,7 @@ def walk_document(document, folder, write):
 def walk(documents, program, write):
     """The same of all documents of a walk, in one folder."""
     with tempfile.TemporaryDirectory(prefix="rezkit-tour-") as folder:
-        for name in ("examples", "types", "tools"):
+        for name in ("examples", "types", "tools", "workbench"):
             os.symlink(os.path.join(TOP, name), os.path.join(folder, name))
         os.symlink(program, os.path.join(folder, "rezkit"))
         return [sum(column) for column in zip(*(walk_document(document, folder, write) for document in documents))]
@@ -103,7 +107,7 @@ def walk(documents, program, write):
 
 def main():
     arguments = [argument for argument in sys.argv[1:] if argument != "--write"]
-    program = os.path.abspath(arguments[0] if arguments else os.path.join(TOP, "crates", "rezkit", "out", "rezkit"))
+    program = os.path.abspath(arguments[0] if arguments else program_to_run())
     sums = [walk(documents, program, "--write" in sys.argv[1:]) for documents in WALKS]
     count, wrong, skipped = (sum(column) for column in zip(*sums))
     print("%d commands, %d print something else, %d skipped" % (count, wrong, skipped))

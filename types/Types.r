@@ -11,9 +11,9 @@
    SystemSevenOrLater   1 unless stated: the items of WIND, DLOG and ALRT end in a position on the screen. 0 is the
                         form of before System 7, without it.
    EitherSystem         For derez of a fork of any age, and for rez of its text; not for other sources. The position
-                        of WIND, DLOG and ALRT is a list of none or one, the width and height of a MENU are items,
-                        each item of a DITL has a string of the padding behind it, and what stands behind the short
-                        form of a thng is a string.
+                        of WIND, DLOG and ALRT is a list of none or one, and in those of WIND and DLOG a string of the
+                        padding stands before it. The width and height of a MENU are items, each item of a DITL has a
+                        string of the padding after it, and what stands after the short form of a thng is a string.
    thng_RezTemplateVersion, UseExtendedThingTemplate
                         which form of thng: 0 (the short one, unless stated), 1 (also by UseExtendedThingTemplate) or 2.
 
@@ -34,16 +34,16 @@
    help        hwin hrct hfdr
    tools       DRVW TMPL MPSR Estr
 
-   Macros that stay, for sources: apple, Untitled, those of pop-up menus (popupTitleLeftJust and so on), Reserved8,
-   Reserved9, Reserved12 and Reserved13.
+   Macros that stay, for sources: apple, Untitled, kHMHelpID, those of pop-up menus (popupTitleLeftJust and so on),
+   Reserved8, Reserved9, Reserved12 and Reserved13.
 
-   Each comment says behind "Items:" what a source writes, in order, where [..] is an item that not all forms have, and
+   Each comment says after "Items:" what a source writes, in order, where [..] is an item that not all forms have, and
    then the book of Inside Macintosh that has the layout, and its chapter: Essentials is Macintosh Toolbox Essentials,
    More is More Macintosh Toolbox, Imaging is Imaging With QuickDraw, and the others have their own names. Types
    without a book are of Mac OS 8 or of a tool.
 
    Not here yet: hmnu, hdlg and hovr, whose parts begin with their length as those of hfdr do, and ictb. Of snd and FOND
-   the parts behind the fields that stand here are one string, and so are the pixels of what has some. */
+   the parts after the fields here are one string, and so are pixels. Texts.r has the types of a translation alone. */
 #ifndef __TYPES_R__
 #define __TYPES_R__
 
@@ -214,7 +214,8 @@ type 'xmnu' {
 #define Untitled "Untitled"
 
 /* A window. Items: {top, left, bottom, right}, procID, visible or not, goAway or not, refCon, "title", [position].
-   Essentials, Window Manager. */
+   With EitherSystem the position is { padding, position } or { }: the padding makes the length before it even. Essentials,
+   Window Manager. */
 type 'WIND' {
     rect;
     integer types_window_procs;
@@ -226,7 +227,8 @@ type 'WIND' {
     pstring;                                            // title
 #ifdef EitherSystem
     array {
-        align word;
+    padding:
+        hex string[padding / 8 % 2];
         unsigned hex integer types_positions;
     };
 #elif SystemSevenOrLater
@@ -263,7 +265,8 @@ type 'DLOG' {
     pstring;                                            // title
 #ifdef EitherSystem
     array {
-        align word;
+    padding:
+        hex string[padding / 8 % 2];
         unsigned hex integer types_positions;
     };
 #elif SystemSevenOrLater
@@ -292,7 +295,7 @@ type 'ALRT' {
 };
 
 /* The items of a dialog or an alert. Items: { {top, left, bottom, right}, Button { enabled, "OK" } [, padding]; .. }. The
-   padding behind an odd text is zero, or else, as ResEdit leaves it now and then, a string of EitherSystem. Essentials,
+   padding after an odd text is zero, or else, as ResEdit leaves it now and then, a string of EitherSystem. Essentials,
    Dialog Manager; HelpItem: More, Help Manager. */
 type 'DITL' {
     integer = $$CountOf(DITLarray) - 1;
@@ -554,7 +557,7 @@ type 'SICN' {
 
 /* A pixel map, as it stands in cicn, crsr and ppat: where its pixels are, 8000 and the bytes of a row, bounds, version,
    packing and packed size, pixels to the inch (across and down), kind, bits of a pixel, components, bits of one,
-   distance of planes. Where its colour table is and what is reserved stand behind. Imaging, Color QuickDraw. */
+   distance of planes. Where its colour table is and what is reserved stand after them. Imaging, Color QuickDraw. */
 #define types_pixmap unsigned hex longint; unsigned hex integer; rect; integer; integer unpacked = 0; unsigned longint; \
     unsigned hex longint; unsigned hex longint; integer chunky, chunkyPlanar, planar; integer; integer; integer; \
     unsigned longint
@@ -705,7 +708,7 @@ type 'pltt' {
 /* A font of bits. Items: kind, first and last character, widest width, kerning, 0 less the descent, width and height of
    the box, ascent, descent, leading, words of a row, $".." (the rows of bits), { where each character begins in a row;
    .. }, { offset and width of each; .. }. Both lists have one character more, which stands for those that are missing, and
-   the first one has its end too; a missing character has -1, -1. Tables that a kind has behind them go on in the second
+   the first one has its end too; a missing character has -1, -1. Tables that a kind has after them go on in the second
    list. Text, Font Manager. */
 type 'NFNT' {
     unsigned hex integer propFont = 0x9000, prpFntH = 0x9001, prpFntW = 0x9002, prpFntHW = 0x9003,
@@ -835,7 +838,7 @@ type 'FREF' {
 /* A version: 1 of the file, 2 of what it belongs to. Items: 0x01, 0x00, release, 0x00, verUS, "1.0", "1.0, a name". */
 type 'vers' {
     hex byte;                                           // before the point, in decimal digits
-    hex byte;                                           // behind it, a digit for each half
+    hex byte;                                           // after it, a digit for each half
     hex byte development = 0x20, alpha = 0x40, beta = 0x60, final = 0x80, release = 0x80;
     hex byte;                                           // number of a version that isn't released
     integer verUS = 0, verFrance = 1, verBritain = 2, verGermany = 3, verItaly = 4, verNetherlands = 5,
@@ -886,7 +889,7 @@ type 'SIZE' {
 
 /* The code fragments of a file (id 0). Items: { kPowerPCCFragArch, kIsCompleteCFrag, version, oldest version that it can
    stand for, kDefaultStackSize, kNoAppSubFolder, kApplicationCFrag, kDataForkCFragLocator, kZeroOffset, kCFragGoesToEOF,
-   "name"; .. }. One with extensions of Mac OS 8 behind its names is shown as data. PowerPC System Software, Code Fragment
+   "name"; .. }. One with extensions of Mac OS 8 after its names is shown as data. PowerPC System Software, Code Fragment
    Manager. */
 type 'cfrg' {
     fill long[2];
@@ -1175,11 +1178,17 @@ type 'hrct' {
             point;
             rect;
             integer;                                    // id of the STR
+        case HMSkipItem:
+            integer = 4;
+            key integer = 256;
         };
     };
 };
 
-/* The help of an icon of the Finder, with the id -5696. Items: HelpMgrVersion, hmDefaultOptions, 0, 0,
+/* The id of the help of an application's icon. */
+#define kHMHelpID (-5696)
+
+/* The help of an icon of the Finder, with the id kHMHelpID. Items: HelpMgrVersion, hmDefaultOptions, 0, 0,
    { HMSTRResItem { id } }. More, Help Manager. */
 type 'hfdr' {
     integer HelpMgrVersion = 2;

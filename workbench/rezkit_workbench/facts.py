@@ -23,7 +23,8 @@ BY_HEAD, HEAD = 128 << 20, 4096  # a longer file is told by its first bytes alon
 FIRST_OF_2000, NO_DATE = 3029529600, -1 << 31  # in seconds since 1904; as AppleSingle has it
 LAST_DATE = 4291833600  # the first second of 2040
 FORK_TOO_LONG = "428 "
-ATTRIBUTES = ((64, "sysheap"), (32, "purgeable"), (16, "locked"), (8, "protected"), (4, "preload"), (2, "changed"), (1, "compressed"))
+ATTRIBUTES = ((64, "sysheap"), (32, "purgeable"), (16, "locked"), (8, "protected"), (4, "preload"), (2, "changed"))
+WITHOUT_WORD = 0x81
 
 
 class Opened:
@@ -127,7 +128,9 @@ class Resource:
         return bytes(fork[self.place:self.place + self.length])
 
     def words(self):
-        """The words of its attributes."""
+        """Its attributes as `derez` has them: words, or a number where a bit has no word."""
+        if self.attributes & WITHOUT_WORD:
+            return ["$%02X" % self.attributes]
         return [word for bit, word in ATTRIBUTES if self.attributes & bit]
 
 

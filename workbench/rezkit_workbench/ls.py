@@ -107,7 +107,7 @@ def has_binhex(file):
 
 
 def data_length(path):
-    """The length of the data file beside a header of AppleDouble; a link there isn't followed."""
+    """The length of the data file beside a header of AppleDouble, 0 if no regular file is there."""
     try:
         found = os.lstat(facts.data_file_of(path))
     except OSError:
@@ -132,7 +132,7 @@ def sums_of(file, row):
 def data_file_sum(path):
     """The sum of the data file beside a header of AppleDouble, of no bytes if there is none."""
     whole = hashlib.sha256()
-    if os.path.lexists(facts.data_file_of(path)):
+    if data_length(path):
         with facts.Opened(facts.data_file_of(path), only_regular=True) as file:
             for piece in file.pieces():
                 whole.update(piece)
@@ -149,7 +149,7 @@ def line_of(row):
         parts[0] += " %s %s" % (four(found.kind), four(found.creator))
     parts += sizes_of(found)
     resources = found.resources() if found else None
-    parts += ["%d resources" % len(resources)] if resources is not None else []
+    parts += ["resources %d" % len(resources)] if resources is not None else []
     parts += [row.fault] if row.fault else []
     return "%s: %s\n" % (printable(row.path), ", ".join(parts))
 

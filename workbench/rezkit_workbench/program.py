@@ -1,8 +1,7 @@
 """Where rezkit is, and calls of it.
 
-In a checkout the script `rezkit` at its top is asked for its version once, which builds the program if need be; later
-calls run the program itself, as the script would. Installed in PREFIX/share/rezkit/workbench, the program is
-PREFIX/bin/rezkit. If neither is there, it is the one on the path.
+In a checkout it is the program that the script `rezkit` at its top runs: tools/program says which, once. Installed in
+PREFIX/share/rezkit/workbench, it is PREFIX/bin/rezkit. If neither is there, it is the one on the path.
 """
 import functools
 import os
@@ -18,7 +17,7 @@ REFUSED, OUT_OF_MEMORY = 2, 4
 def checkout():
     """The top of the checkout that this package stands in, or None."""
     top = os.path.dirname(FOLDER)
-    return top if os.path.isfile(os.path.join(top, "crates.txt")) and os.path.isfile(os.path.join(top, "rezkit")) else None
+    return top if os.path.isfile(os.path.join(top, "tools", "program")) else None
 
 
 def prefix():
@@ -40,16 +39,11 @@ def path():
 
 
 def path_in_checkout(top):
-    """The program that the script of a checkout runs, after the script has run once."""
-    script = os.path.join(top, "rezkit")
-    ran = subprocess.run([script, "--version"], stdout=subprocess.PIPE)
+    """The program that the script of a checkout runs; tools/program says which, and builds it if need be."""
+    ran = subprocess.run(["/bin/sh", os.path.join(top, "tools", "program")], stdout=subprocess.PIPE)
     if ran.returncode:
-        raise Refused("%s ended with %d" % (script, ran.returncode))
-    for name in ("crates/rezkit/out/rezkit",):
-        built = os.path.join(top, name)
-        if os.access(built, os.X_OK):
-            return built
-    return script
+        raise Refused("there is no rezkit: tools/program ended with %d" % ran.returncode)
+    return os.fsdecode(ran.stdout.rstrip(b"\n"))
 
 
 def types_folder():
