@@ -1,9 +1,11 @@
 """Rez as a program: its options, the files that it writes, its messages and statuses, and hostile input."""
 import os
 import random
+import re
 
 import pytest
-from rez_running import FILE, MEMORY, REZKIT, SECONDS, bytes_shown, read, run, write
+from rez_running import FILE, MEMORY, REZKIT, SECONDS, TOP, bytes_shown, read, run, write
+from rezkit_workbench import options
 
 ONE = "data 'TEXT' (1, \"one\") { \"1\" };\n"
 ONE_SHOWN = "data 'TEXT' (1, \"one\") {\n    $\"31\"\n};\n\n"
@@ -276,3 +278,12 @@ def test_extreme_sources_end_in_time(tmp_path, text, wanted):
     write(tmp_path, {"a.r": text})
     status, _, messages = rez(["a.r", "-o", "out"], tmp_path, limits=[(MEMORY, 1 << 29), (SECONDS, 10)])
     assert status == wanted and "Traceback" not in messages, messages[-300:]
+
+
+def test_porting_tells_each_option():
+    with open(os.path.join(TOP, "docs", "PORTING.md"), encoding="utf-8") as file:
+        told = file.read().split("## `Rez` and `DeRez` of the workbench")[1]
+    named = set(re.findall(r"(?<![\w-])(--?[A-Za-z]+)", " ".join(re.findall(r"`([^`]*)`", told))))
+    known = {name for option in options.REZ + options.DEREZ for name in option.names}
+    assert known - named <= {"-noresolve", "--sysroot"}  # other spellings of options that are told
+    assert named - known <= {"-IPATH", "-iPATH", "-DNAME", "-dNAME", "-FPATH", "-tTYPE", "-cCREATOR", "--name", "-"}
