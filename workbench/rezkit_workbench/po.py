@@ -341,7 +341,7 @@ class Output:
         name = last if is_file and is_utf8(last) else "new"
         self.folder_number = os.open(self.folder, os.O_RDONLY)
         self.path, self.word = os.path.join(self.folder, name), "/dev/fd/%d/%s" % (self.folder_number, name)
-        self.copy = os.path.join(self.folder, ".data")
+        self.copy = os.path.join(self.folder, "data" if name != "data" else "copy")
         return self
 
     def finish(self):
