@@ -7,10 +7,12 @@ import os
 import re
 import subprocess
 import sys
+import tempfile
 
 from . import command, options, program
 from .roman import printable
-from .rez import CANT, is_utf8, spawn, tell, tell_notes, work_folder
+from .outputs import is_plain
+from .rez import CANT, in_utf8, spawn, tell, tell_notes, work_folder
 from .sources import Sources
 
 USAGE = "DeRez [OPTION].. FORK [TYPE FILE].."
@@ -128,17 +130,18 @@ class Filter:
 
 def filtered(words, filter_lines, files):
     """Runs rezkit and passes on a part of its text: its status and its messages."""
-    with subprocess.Popen([program.path()] + words, stdout=subprocess.PIPE, stderr=subprocess.PIPE, pass_fds=files,
-                          restore_signals=False) as ran:
-        try:
-            for line in ran.stdout:
-                for out in filter_lines.lines(line):
-                    sys.stdout.buffer.write(out)
-            sys.stdout.buffer.flush()
-        except OSError:
-            ran.kill()
-            raise
-        messages = ran.stderr.read().decode("utf-8", "replace")
+    with tempfile.TemporaryFile() as told:
+        with subprocess.Popen([program.path()] + words, stdout=subprocess.PIPE, stderr=told, pass_fds=files, restore_signals=False) as ran:
+            try:
+                for line in ran.stdout:
+                    for out in filter_lines.lines(line):
+                        sys.stdout.buffer.write(out)
+                sys.stdout.buffer.flush()
+            except OSError:
+                ran.kill()
+                raise
+        told.seek(0)
+        messages = told.read().decode("utf-8", "replace")
     return (ran.returncode if ran.returncode >= 0 else 128 - ran.returncode), messages
 
 
@@ -146,22 +149,22 @@ def fork_word(name):
     """The word for the fork's file, and the descriptors that rezkit needs for it."""
     if name == "-":
         return "/dev/stdin", ()
-    if is_utf8(name):
+    if is_plain(name):
         return program.word_of(name), ()
     opened = os.open(name, os.O_RDONLY)
     return "/dev/fd/%d" % opened, (opened,)
 
 
-def words_of(asked, sources):
+def words_of(asked, sources, folder):
     """The words for rezkit behind the fork: each, and what the person wrote."""
     words = [(sources.add(name), name) for name in asked.files[1:]]
     sources.write([])
     words += options.definitions(asked.macros)
-    for _, value in asked.includes + [("", value) for value in options.types_path()]:
-        words += [("-i", "-i"), (value, value)] if is_utf8(value) else []
+    for value in [value for _, value in asked.includes] + [sources.types]:
+        words += [("-i", "-i"), (in_utf8(value, folder), value)]
     words += [("-rd", "-rd")] if asked.redeclare else []
     for used, value in (("-tmpl", asked.templates), ("-from", asked.__dict__["from"])):
-        words += [(used, used), (value, value)] if value else []
+        words += [(used, used), (in_utf8(value, folder), value)] if value else []
     return words
 
 
@@ -171,7 +174,7 @@ def show(asked, folder):
     skipped = [Pick(*pair) for pair in asked.skip]
     sources = Sources(folder, [value for _, value in asked.includes], options.frameworks(asked))
     fork, files = fork_word(asked.files[0])
-    words = [("derez", "derez"), (fork, asked.files[0])] + words_of(asked, sources)
+    words = [("derez", "derez"), (fork, asked.files[0])] + words_of(asked, sources, folder)
     for used, kinds in (("-only", [pick.kind for pick in only]), ("-skip", [pick.kind for pick in skipped if pick.is_whole()])):
         words += [(word, word) for kind in dict.fromkeys(kinds) for word in (used, kind)]
     tell_notes(sources, asked.told, "DeRez")

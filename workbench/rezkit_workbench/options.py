@@ -6,7 +6,7 @@ of one letter that stand in JOINED also `-IPATH`.
 import os
 import textwrap
 
-from . import mend, program
+from . import mend
 from .errors import Refused
 
 
@@ -187,9 +187,3 @@ def said_by_rezkit(messages, words, name):
             line = "%s: usage: %s" % (name, wrong or "a file is missing")
         lines.append(line)
     return lines
-
-
-def types_path():
-    """The folder of rezkit's types, as rezkit is told it, or nothing where its name isn't UTF-8."""
-    folder = program.types_folder()
-    return [folder] if folder.isprintable() else []

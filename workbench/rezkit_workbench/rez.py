@@ -10,7 +10,8 @@ import sys
 import tempfile
 
 from . import command, options, outputs, program
-from .errors import Refused
+from .errors import Refused, RezkitRefused
+from .outputs import is_plain
 from .roman import printable
 from .sources import Sources
 
@@ -59,14 +60,24 @@ def include_all(name, folder, number):
     try:
         written = name.encode("mac_roman")
     except UnicodeEncodeError:  # the name can't stand in a source
-        link = os.path.join(folder, "copy%d" % number)
-        os.symlink(os.path.abspath(name), link)
-        written = link.encode("ascii")
+        written = link_to(name, folder).encode("ascii")
     plain = "".join(chr(byte) if 32 <= byte < 127 and byte not in b'"\\' else "\\0x%02X" % byte for byte in written)
     path = os.path.join(folder, "copy%d.r" % number)
     with open(path, "xb") as file:
         file.write(b'include "%s";\n' % plain.encode("ascii"))
     return path
+
+
+def link_to(name, folder):
+    """A link to a file or a folder, among the copies."""
+    link = os.path.join(folder, "link%d" % len(os.listdir(folder)))
+    os.symlink(os.path.abspath(name), link)
+    return link
+
+
+def in_utf8(name, folder):
+    """A name, or a link to what has it, where it isn't UTF-8: rezkit doesn't take such an argument."""
+    return name if is_plain(name) else link_to(name, folder)
 
 
 class Run:
@@ -93,14 +104,14 @@ class Run:
         """The words for the options that hold for each file that is written."""
         asked = self.asked
         words = options.definitions(asked.macros)
-        for key, used, values in (("includes", "-i", self.includes + options.types_path()), ("searched", "-s", self.searched)):
-            words += [(word, value) for value in values if is_utf8(value) for word in (used, value)]
+        for used, values in (("-i", self.includes + [self.sources.types]), ("-s", self.searched)):
+            words += [(word, value) for value in values for word in (used, in_utf8(value, self.folder))]
         for used, value in (("-t", asked.type), ("-c", asked.creator)):
             if value is not None:
                 words += [(used, used), (options.four(used, value), value)]
         words += [(used, used) for used, is_set in (("-ov", asked.override), ("-ro", asked.read_only), ("-rd", asked.redeclare)) if is_set]
         if asked.templates:
-            words += [("-tmpl", "-tmpl"), (asked.templates, asked.templates)]
+            words += [("-tmpl", "-tmpl"), (in_utf8(asked.templates, self.folder), asked.templates)]
         return words
 
     def rez(self, words, target, form, append=False, quiet=False):
@@ -113,15 +124,6 @@ class Run:
         if status or not quiet:
             tell(messages, words, self.sources, "Rez")
         return status
-
-
-def is_utf8(name):
-    """Whether rezkit takes a name as an argument."""
-    try:
-        name.encode("utf-8")
-    except UnicodeEncodeError:
-        return False
-    return True
 
 
 def compile_all(asked, folder):
@@ -158,6 +160,9 @@ def body(words):
     try:
         with work_folder() as folder:
             return compile_all(asked, folder)
+    except RezkitRefused as fault:
+        command.say("Rez", fault)
+        return fault.ended
     except OSError as fault:
         command.say("Rez", "%s: %s" % (printable(os.fsdecode(fault.filename or "a file")), fault.strerror))
         command.drop_out()

@@ -63,7 +63,7 @@ class Sources:
         self.folder, self.includes, self.frameworks = folder, includes, frameworks
         self.types = program.types_folder()
         self.copies, self.order, self.macros = {}, [], macros.Macros()
-        self.notes = []
+        self.notes, self.found = [], {}
 
     def add(self, name):
         """Takes a file of the command line, and all that it reaches; gives the name that rezkit is told."""
@@ -141,8 +141,14 @@ class Sources:
 
     def find(self, copy, written, is_angle):
         """The file that a name of `#include` means, or None."""
-        names = names_of(written.decode(copy.encoding, "surrogateescape"), is_angle)
-        beside = os.path.dirname(copy.name) or "."
+        name, beside = written.decode(copy.encoding, "surrogateescape"), os.path.dirname(copy.name) or "."
+        if (name, is_angle, beside) not in self.found:
+            self.found[name, is_angle, beside] = self.look_for(name, is_angle, beside)
+        return self.found[name, is_angle, beside]
+
+    def look_for(self, name, is_angle, beside):
+        """The same of a name in a source of the folder `beside`."""
+        names = names_of(name, is_angle)
         places = [""] + self.includes + [beside, self.types]
         found = (is_file_in(place, name) for name in names for place in places)
         framed = (is_file_in(place, inside) for place in self.frameworks for inside in framed_names(names[0]) if is_angle)
@@ -244,10 +250,17 @@ def alike_in(place, name):
 
 def alike(folder, name):
     """The first entry of a folder that has a name but for capital and small letters, or None."""
+    entries = entries_of(folder)
+    return name if name in entries.get(name.casefold(), ()) else min(entries.get(name.casefold(), ()), default=None)
+
+
+@functools.lru_cache(maxsize=64)
+def entries_of(folder):
+    """The entries of a folder, by their names without regard to capital and small letters."""
+    found = {}
     try:
-        entries = os.listdir(folder)
+        for entry in os.listdir(folder):
+            found.setdefault(entry.casefold(), []).append(entry)
     except (OSError, ValueError):
-        return None
-    if name in entries:
-        return name
-    return min((entry for entry in entries if entry.casefold() == name.casefold()), default=None)
+        pass
+    return found

@@ -166,3 +166,10 @@ def test_changed_forks_end_in_time(folder):
         words = ["b", "Types.r", "-e", "-skip", "'STR ' (1:2)"]
         status, _, messages = derez(words, folder, limits=[(MEMORY, 1 << 29), (SECONDS, 10)])
         assert status in (0, 2) and "Traceback" not in messages, messages
+
+
+def test_many_warnings_beside_the_text(folder):
+    write(folder, {"many.r": "type 'STR ' { pstring; };\n" * 5000})
+    status, text, messages = derez(["App", "many.r", "-only", "'STR ' (-5)"], folder)
+    assert (status, text, messages.count("\n")) == (0, shown(-5), 4999)
+    assert messages.startswith("rezkit: many.r:2: warning 240 Redeclared: 'STR ' 0\n")

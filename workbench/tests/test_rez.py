@@ -2,10 +2,12 @@
 import os
 import random
 import re
+import shutil
+import subprocess
 
 import pytest
 from rez_running import FILE, MEMORY, REZKIT, SECONDS, TOP, bytes_shown, read, run, write
-from rezkit_workbench import options
+from rezkit_workbench import options, program
 
 ONE = "data 'TEXT' (1, \"one\") { \"1\" };\n"
 ONE_SHOWN = "data 'TEXT' (1, \"one\") {\n    $\"31\"\n};\n\n"
@@ -287,3 +289,77 @@ def test_porting_tells_each_option():
     known = {name for option in options.REZ + options.DEREZ for name in option.names}
     assert known - named <= {"-noresolve", "--sysroot"}  # other spellings of options that are told
     assert named - known <= {"-IPATH", "-iPATH", "-DNAME", "-dNAME", "-FPATH", "-tTYPE", "-cCREATOR", "--name", "-"}
+
+
+@pytest.mark.parametrize("status", [0, 1, 2, 3, 4, 5, 6])
+def test_each_status_is_handed_on(tmp_path, monkeypatch, status):
+    write(tmp_path, {"a.r": ONE, "rezkit": "#!/bin/sh\necho 'rezkit: said' >&2\nexit %d\n" % status})
+    os.chmod(tmp_path / "rezkit", 0o755)
+    monkeypatch.setattr(program, "path", lambda: str(tmp_path / "rezkit"))
+    assert rez(["a.r"], tmp_path) == (status, b"", "rezkit: said\n")
+    assert run("DeRez", ["a"], tmp_path) == (status, b"", "rezkit: said\n")
+    assert run("DeRez", ["a", "-e"], tmp_path) == (status, b"", "rezkit: said\n")
+
+
+def test_a_program_that_is_killed_or_missing(tmp_path, monkeypatch):
+    write(tmp_path, {"a.r": ONE, "rezkit": "#!/bin/sh\nkill -9 $$\n"})
+    os.chmod(tmp_path / "rezkit", 0o755)
+    monkeypatch.setattr(program, "path", lambda: str(tmp_path / "rezkit"))
+    assert rez(["a.r"], tmp_path) == (137, b"", "")
+    monkeypatch.setattr(program, "path", lambda: str(tmp_path / "nix"))
+    status, output, messages = rez(["a.r"], tmp_path)
+    assert (status, output) == (1, b"") and "nix can't be run" in messages
+
+
+@pytest.mark.parametrize("folder", ["a b", "-x", "é", b"\xff", "a\"b"])
+def test_odd_names_of_folders(tmp_path, folder):
+    name = os.fsdecode(folder)
+    write(tmp_path, {"a.r": "#include \"b.r\"\nread 'TEXT' (2) \"two\";\n", os.path.join(os.fsencode(folder), b"b.r"): ONE,
+                     os.path.join(os.fsencode(folder), b"two"): "2"})
+    assert rez(["a.r", "-i", name, "-s", name, "-o", "a"], tmp_path) == (0, b"", "")
+    assert bytes_shown(tmp_path, "a") == ONE_SHOWN + TWO_SHOWN
+    assert rez(["-o", name + "/a.bin", "--", name + "/b.r"], tmp_path) == (0, b"", "")
+    assert read(tmp_path, os.path.join(os.fsencode(folder), b"a.bin"))[1:7] == b"\x05a.bin"
+
+
+def test_a_line_of_a_makefile_of_retro68(tmp_path):
+    write(tmp_path, {"RIncludes/Retro68APPL.r": "#include \"Processes.r\"\nread 'CODE' (1) FLT_FILE_NAME;\n", "app.flt": b"\x4e\x75", "a.r": ONE})
+    assert rez(["a.r", "-o", "app.rsrc.bin"], tmp_path) == (0, b"", "")
+    words = ["RIncludes/Retro68APPL.r", "-IRIncludes", "-DFLT_FILE_NAME=\"app.flt\"", "-t", "APPL", "-c", "????",
+             "-o", "app.bin", "--cc", "app.APPL", "--cc", "%app.ad", "--copy", "app.rsrc.bin"]
+    status, output, messages = rez(words, tmp_path)
+    assert (status, output, messages.count("\n")) == (0, b"", 1)
+    shown = ONE_SHOWN + "data 'CODE' (1) {\n    $\"4E75\"\n};\n\n"
+    assert bytes_shown(tmp_path, "app.bin") == bytes_shown(tmp_path, "%app.ad") == shown
+
+
+def test_a_data_fork_that_is_too_long(tmp_path):
+    write(tmp_path, {"a.r": ONE, "big": b""})
+    os.truncate(tmp_path / "big", 33554433)
+    assert rez(["a.r", "--data", "big", "-o", "a.bin"], tmp_path) == (2, b"", "Rez: 428 ForkTooLong: 33554433\n")
+    assert not os.path.exists(tmp_path / "a.bin")
+
+
+def test_many_names_in_a_folder_of_many_files(tmp_path):
+    write(tmp_path, {"inc/file%d.r" % number: "" for number in range(10000)})
+    write(tmp_path, {"a.r": "".join("#include \"FILE%d.r\"\n" % number for number in range(0, 10000, 20)) + ONE})
+    assert rez(["a.r", "-i", "inc", "-o", "a"], tmp_path, limits=[(SECONDS, 10)]) == (0, b"", "")
+    assert bytes_shown(tmp_path, "a") == ONE_SHOWN
+
+
+def test_a_disk_image(tmp_path):
+    write(tmp_path, {"a.r": ONE, "code": b"CODE"})
+    words = ["a.r", "-t", "APPL", "-c", "Samp", "--data", "code", "-o", "My App.dsk"]
+    if not shutil.which("hformat"):
+        assert rez(words, tmp_path) == (1, b"", "Rez: My App.dsk isn't written: a disk image needs the programs of hfsutils\n"
+                                        "Rez: no file is written\n")
+        return
+    assert rez(words, tmp_path) == (0, b"", "")
+    assert os.path.getsize(tmp_path / "My App.dsk") == 819200
+    assert read(tmp_path, "My App.dsk")[1024:1026] == b"BD"
+    steps = "export HOME=$PWD; hmount 'My App.dsk' && hcopy -m ':My App' back.bin && humount"
+    assert subprocess.run(["sh", "-c", steps], cwd=tmp_path, stdout=subprocess.DEVNULL).returncode == 0
+    back = read(tmp_path, "back.bin")
+    assert back[1:8] == b"\x06My App" and back[65:73] == b"APPLSamp" and back[128:132] == b"CODE"
+    assert bytes_shown(tmp_path, "back.bin") == ONE_SHOWN
+    assert rez(words + ["-a"], tmp_path) == (1, b"", "Rez: -a: nothing can be added to a disk image\n")
