@@ -2,7 +2,6 @@
 
 The status is rezkit's, 1 where the arguments are no command, and 3 where a file can't be read or written.
 """
-import functools
 import os
 import re
 import subprocess
@@ -12,7 +11,7 @@ import tempfile
 from . import command, options, program
 from .roman import printable
 from .outputs import is_plain
-from .rez import CANT, in_utf8, spawn, tell, tell_notes, work_folder
+from .rez import CANT, in_utf8, open_streams, spawn, tell, tell_notes, work_folder
 from .sources import Sources
 
 USAGE = "DeRez [OPTION].. FORK [TYPE FILE].."
@@ -215,4 +214,5 @@ def body(words):
 
 def main():
     """Runs the program."""
-    return command.ended("DeRez", functools.partial(body), sys.argv[1:])
+    open_streams()
+    return command.ended("DeRez", body, sys.argv[1:])

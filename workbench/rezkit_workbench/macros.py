@@ -15,7 +15,9 @@ MOST_TOKENS, DEEPEST = 65536, 64
 
 
 class TooLong(Refused):
-    """Too many tokens are handled for a call, or too many calls stand within each other."""
+    """Too many tokens are handled for a call, or too many calls stand within each other. The program ends with 2."""
+
+    status = 2
 
 
 class Macro:

@@ -3,7 +3,6 @@
 The status is rezkit's, 1 where the arguments are no command, 2 where an expansion of a macro is too long, and 3 where a
 file can't be read or written.
 """
-import functools
 import os
 import subprocess
 import sys
@@ -169,6 +168,15 @@ def body(words):
         return CANT
 
 
+def open_streams():
+    """Opens the standard streams that the caller has closed, as rezkit does: nothing comes in, and nothing goes out."""
+    for number, name, mode in ((0, "stdin", "r"), (1, "stdout", "w"), (2, "stderr", "w")):
+        if getattr(sys, name) is None:
+            os.dup2(os.open(os.devnull, os.O_RDWR), number)
+            setattr(sys, name, open(number, mode, closefd=False))
+
+
 def main():
     """Runs the program."""
-    return command.ended("Rez", functools.partial(body), sys.argv[1:])
+    open_streams()
+    return command.ended("Rez", body, sys.argv[1:])

@@ -17,6 +17,12 @@ from .roman import printable
 from .writing import cant
 
 
+class CantRead(Refused):
+    """A source can't be read. The program ends with 3, as rezkit does."""
+
+    status = 3
+
+
 class Copy:
     """A source and its copy: the name that the person knows, the name of the copy, its bytes, and how they are read."""
 
@@ -99,7 +105,7 @@ class Sources:
                 with open(name, "rb") as file:
                     data = file.read()
             except OSError as fault:
-                raise cant("be read", name, fault) from None
+                raise CantRead(str(cant("be read", name, fault))) from None
             self.copies[key] = self.take(name, data)
         return self.copies[key]
 
@@ -188,7 +194,7 @@ class Sources:
         try:
             made = mending.run()
         except macros.TooLong as fault:
-            raise Refused("%s:%s" % (printable(copy.name), fault)) from None
+            raise macros.TooLong("%s:%s" % (printable(copy.name), fault)) from None
         for start, said in sorted(mending.mended):
             self.notes.append((False, "%s:%d: %s" % (printable(copy.name), copy.source.line_of(start), said)))
         return made

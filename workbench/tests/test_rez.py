@@ -195,6 +195,12 @@ def test_a_macro_with_two_definitions_is_refused(tmp_path):
                         "rezkit: a.r:1: error 104 BadDirective: \"define\"\n")
 
 
+def test_macros_that_grow_are_refused(tmp_path):
+    write(tmp_path, {"a.r": "#define F(a) a\n\n" + "F(" * 100 + "1" + ")" * 100, "b.r": "#include \"a.r\"\n"})
+    assert rez(["b.r"], tmp_path) == (2, b"", "Rez: a.r:3: calls of macros stand more than 64 deep\n")
+    assert not os.path.exists(tmp_path / "Rez.Out")
+
+
 @pytest.mark.parametrize("words, wanted", [
     (["-q"], "Rez: -q isn't an option; Rez --help tells them\n"),
     (["-o"], "Rez: -o: its value is missing\n"),
@@ -245,6 +251,17 @@ def test_statuses_of_rezkit(tmp_path):
     status, output, _ = rez(["--version"], tmp_path)
     assert (status, output) == (0, run(REZKIT, ["--version"], tmp_path)[1])
     assert rez(["-h"], tmp_path)[1].startswith(b"usage: Rez [OPTION].. [SOURCE]..\n")
+
+
+def test_a_source_that_cant_be_read(tmp_path):
+    assert rez(["/proc/self/mem"], tmp_path) == (3, b"", "Rez: /proc/self/mem: can't be read: Input/output error\n")
+
+
+def test_closed_streams(tmp_path):
+    write(tmp_path, {"a.r": ONE})
+    for program, words in (("Rez", "- -o a"), ("Rez", "a.r -o a"), ("DeRez", "a -e"), ("DeRez", "nix"), ("DeRez", "-h")):
+        steps = "'%s' %s <&- >&- 2>&-" % (os.path.join(TOP, "workbench", program), words)
+        assert subprocess.run(["sh", "-c", steps], cwd=tmp_path).returncode == (2 if "nix" in words else 0)
 
 
 def test_a_full_disk_leaves_the_old_files(tmp_path):
