@@ -19,8 +19,8 @@ ENDINGS = {".bin": "macbin", ".as": "single", ".hqx": "hqx", ".dsk": DISK, ".app
 FORMS = ("raw", "double", "single", "macbin", "hqx")
 LEAST_DISK, ROUND = 800 * 1024, 64 * 1024
 
-# A file to write: its name as it was given, and its form; None where the form is that of -a's file, or raw.
-Target = collections.namedtuple("Target", "name form")
+# A file to write: its name as it was given, its form, or None for raw, and whether an option states the form.
+Target = collections.namedtuple("Target", "name form is_stated")
 
 
 class CantWrite(Refused):
@@ -49,7 +49,12 @@ def asked_form(asked):
 
 def target(name, form):
     """The file of a name, in a form that is stated, or that its ending tells."""
-    return Target(name, form or form_of(name))
+    return Target(name, form or form_of(name), form is not None)
+
+
+def form_beside(it, append, name):
+    """The form that rezkit is told: none where it adds to a file, which keeps its form unless an option states another."""
+    return None if append and os.path.exists(name) and not it.is_stated else it.form
 
 
 def can_be_written(it):
@@ -81,8 +86,8 @@ def check(asked, it):
 def note(asked, it):
     """Tells what is asked for and has no effect."""
     name = printable(it.name)
-    is_new = not (asked.append and os.path.exists(it.name))
-    if (asked.type or asked.creator) and it.form in (None, "raw") and is_new:
+    is_kept = asked.append and os.path.exists(it.name) and not it.is_stated
+    if (asked.type or asked.creator) and it.form in (None, "raw") and not is_kept:
         command.say("Rez", "%s: a resource fork alone has no type and no creator; the ending .bin, .as or .hqx, or ._NAME, has" % name)
     if asked.align:
         command.say("Rez", "-align has no effect: rezkit lays a fork out without gaps")
@@ -103,7 +108,7 @@ def write(run, words, it, append, quiet=False):
     elif run.asked.data is not None:
         status = write_both(run, words, it, append, quiet)
     elif is_plain(it.name):
-        status = run.rez(words, program.word_of(it.name), None if append and os.path.exists(it.name) else it.form, append, quiet)
+        status = run.rez(words, program.word_of(it.name), form_beside(it, append, it.name), append, quiet)
     else:
         status = write_odd(run, words, it, append, quiet)
     if before and status == 0:
@@ -150,7 +155,7 @@ def write_odd(run, words, it, append, quiet):
     made = os.path.join(new_folder(run), last_of(it.name))
     if append and os.path.exists(it.name):
         shutil.copyfile(it.name, made)
-    status = run.rez(words, made, None if append and os.path.exists(made) else it.form, append, quiet)
+    status = run.rez(words, made, form_beside(it, append, made), append, quiet)
     if status == 0:
         put_file(it.name, made)
     return status
@@ -241,7 +246,7 @@ def write_disk(run, words, it, quiet):
     """Writes a disk image with the file on it, by the programs of hfsutils."""
     folder = new_folder(run)
     title = os.path.splitext(last_of(it.name))[0] or "Disk"
-    file = Target(os.path.join(folder, title), "macbin")
+    file = Target(os.path.join(folder, title), "macbin", True)
     status = write_both(run, words, file, False, quiet) if run.asked.data is not None else run.rez(words, file.name, "macbin", False, quiet)
     if status:
         return status

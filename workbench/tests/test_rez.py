@@ -52,6 +52,8 @@ def test_append_keeps_the_form(tmp_path):
     assert rez(["b.r", "-append", "-o", "App"], tmp_path) == (0, b"", "")
     assert bytes_shown(tmp_path, "App") == ONE_SHOWN + TWO_SHOWN
     assert read(tmp_path, "App")[1:5] == b"\x03App"
+    assert rez(["b.r", "-a", "-o", "App", "-form", "raw"], tmp_path) == (0, b"", "")
+    assert read(tmp_path, "App").startswith(b"\0\0\1\0") and bytes_shown(tmp_path, "App") == ONE_SHOWN + TWO_SHOWN
     assert rez(["b.r", "-a", "-o", "new.bin"], tmp_path) == (0, b"", "")
     assert bytes_shown(tmp_path, "new.bin") == TWO_SHOWN
 
