@@ -5,11 +5,12 @@
 
 In the code blocks of WALKS a line that begins with `$ ` is a command, lines that begin with `> ` right after it go on
 with it, and what follows, up to the next command or the end of the block, is its output. The commands of the documents
-of one walk are run in their order, by `sh`, in a folder of their own that has `examples`, `types`, `tools`, `workbench` and, as `./rezkit`,
-the built program (the one that ./rezkit runs unless another is named). A command that names a tool of TOOLS which isn't
-installed is skipped. What differs is printed, and with `--write` put into the document. The status is 1 if anything
-differs. The quick checks run it.
+of one walk are run in their order, by `sh`, in a folder of their own that has `examples`, `types`, `tools`, `workbench`
+and, as `./rezkit`, the built program (the one that ./rezkit runs unless another is named). A command is skipped if it
+names a tool of TOOLS that isn't installed, or a program of MODULES whose module isn't. What differs is printed, and with
+`--write` put into the document. The status is 1 if anything differs. The quick checks run it.
 """
+import functools
 import os
 import re
 import shutil
@@ -30,7 +31,8 @@ WALKS = (
     ("docs/PORTING.md",),
     ("docs/ARCHIVING.md",),
 )
-TOOLS = ("cpp", "git", "make", "parallel", "sqlite3", "xxd")
+MODULES, PYTHON = (("workbench/rezkit-po", "polib"),), "/usr/bin/python3"
+TOOLS = ("cpp", "git", "make", "msgmerge", "parallel", "sqlite3", "xxd")
 
 
 def parts_of(text):
@@ -58,8 +60,16 @@ def text_of(parts):
 
 
 def missing_tool(command):
+    """A tool that a command needs and that isn't there, or None."""
     words = re.findall(r"[\w./-]+", command)
-    return next((tool for tool in TOOLS if tool in words and not shutil.which(tool)), None)
+    module = next((module for program, module in MODULES if program in words and not has_module(module)), None)
+    return module or next((tool for tool in TOOLS if tool in words and not shutil.which(tool)), None)
+
+
+@functools.lru_cache(maxsize=None)
+def has_module(name):
+    """Whether the Python of the workbench has a module."""
+    return subprocess.run([PYTHON, "-c", "import " + name], stderr=subprocess.DEVNULL).returncode == 0
 
 
 def printed(command, folder):

@@ -21,7 +21,7 @@ except ImportError:
 
 from . import catalogue, command, facts, program
 from .errors import Refused, RezkitRefused, Usage
-from .roman import SCRIPTS, four, printable, quoted
+from .roman import SCRIPTS, four, printable, quoted, text_of
 from .writing import cant, check_free, give_name, is_stream, write_file, write_out
 
 NAME = "rezkit-po"
@@ -71,9 +71,20 @@ class Texts:
         types = options.types or os.path.join(program.types_folder(), "Texts.r")
         self.words = [program.word_of(types), "-d", "EitherSystem", "-i", os.path.dirname(types) or "."]
         entries = catalogue.entries_of(file.rezkit(["strings", file.word, "-from", self.form] + self.words))
-        self.statements = catalogue.statements_of(file.rezkit(["derez", file.word, "-from", self.form] + self.words))
+        self.facts = facts.facts_of(file, self.form)
+        only = self.only({entry[0] for entry in entries})
+        shown = b"" if only is None else file.rezkit(["derez", file.word, "-from", self.form] + self.words + only)
+        self.statements = catalogue.statements_of(shown)
         self.all = self.texts_of(entries)
         self.give_contexts()
+
+    def only(self, with_texts):
+        """The words of `derez` by which it shows the types that have texts or fields, or None if there are none of them."""
+        kinds = collections.OrderedDict((one.kind, one.ident) for one in reversed(self.facts.resources() or []))
+        kinds = [kind for kind, ident in reversed(kinds.items()) if kind in with_texts or is_declared(kind, ident, self.words)]
+        if any(b"\0" in kind for kind in kinds):
+            return []  # no argument can have a zero: all types are shown
+        return [word for kind in kinds for word in ("-only", text_of(kind))] or None
 
     def texts_of(self, entries):
         """The texts, each with what `derez` shows of it."""
@@ -118,9 +129,8 @@ def comment_of(text, dialogs, is_usual):
     return ", ".join(about)
 
 
-def dialogs_of(file):
-    """For each id of a list of items the dialogs and alerts that have it."""
-    found = facts.facts_of(file)
+def dialogs_of(found):
+    """For each id of a list of items the dialogs and alerts that have it, by the facts of the file."""
     dialogs = collections.defaultdict(list)
     for one in found.resources() or []:
         place = PLACES_OF_ITEMS.get(one.kind)
@@ -151,9 +161,9 @@ def po_of(texts, dialogs, title, options):
     return str(po)
 
 
-def is_declared(statement, words):
-    """Whether a type file declares fields for a resource that `derez` shows as `data`: rez says 202 if none does."""
-    source = b"resource %s (%d) {};" % (catalogue.marked(statement.kind, b"'"), statement.ident)
+def is_declared(kind, ident, words):
+    """Whether a type file declares fields for a resource: rez says 202 of a `resource` statement if none does."""
+    source = b"resource %s (%d) {};" % (catalogue.marked(kind, b"'"), ident)
     with tempfile.TemporaryFile() as file:
         file.write(source)
         file.flush()
@@ -171,11 +181,10 @@ def report(texts):
         yield "left out: %s: %s: %s" % (resource_name(kind, ident), reason, ", ".join(leaves))
     declared = {}
     for one in texts.statements:
-        if one.word == "data":
-            if one.kind not in declared:
-                declared[one.kind] = is_declared(one, texts.words)
-            if declared[one.kind]:
-                yield "left out: %s: no row: its bytes don't fit the fields of its type" % resource_name(one.kind, one.ident)
+        if one.word == "data" and one.kind not in declared:
+            declared[one.kind] = is_declared(one.kind, one.ident, texts.words)
+        if one.word == "data" and declared[one.kind]:
+            yield "left out: %s: no row: its bytes don't fit the fields of its type" % resource_name(one.kind, one.ident)
 
 
 def out(options):
@@ -185,7 +194,7 @@ def out(options):
     with facts.Opened(options.file) as file:
         texts = Texts(file, options)
         title = printable(os.path.basename(options.file)) if options.file != "-" else "standard input"
-        made = po_of(texts, dialogs_of(file), title, options)
+        made = po_of(texts, dialogs_of(texts.facts), title, options)
     for line in report(texts):
         command.say(NAME, line)
     write_file(options.output, made.encode("utf-8"), options.force)
