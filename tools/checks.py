@@ -9,8 +9,8 @@ wrong-bodies/ and must-fail/ apply, and tools/wrong_bodies.py finds those that d
 ./test finds programs that are wrong; ./rezkit tells why it runs no program; tools/install installs it; the commands that
 README.md, docs/TOUR.md, docs/MESSAGES.md, docs/DAMAGED.md, docs/TEMPLATES.md, docs/TYPES.md, docs/TRANSLATING.md,
 docs/PORTING.md and docs/ARCHIVING.md show print what stands there; SOURCE_DATE_EPOCH is the moment of a run; odd words,
-names and limits of the host are met. With the case runner that `rt ci` built, case files that are broken or differ are told.
-Without `rt` that check is skipped, as is any check whose program isn't there, and the line of the check says so.
+names and limits of the host are met; editors/ has each word of the language and shows sources and errors as it should. With
+the case runner that `rt ci` built, case files that are broken or differ are told. Without `rt` that check is skipped, as is any check whose program isn't there, and the line of the check says so.
 
 The checks run side by side, as many as there are cores. The last line is `quick checks: N passed, N failed, N skipped`.
 The status is 1 if one fails.
@@ -33,7 +33,7 @@ def checks(program):
     cases = sorted(glob.glob("crates/rezkit_cases/data/*.cases"), key=os.path.getsize, reverse=True)
     for part in range(PARTS):
         found.append(("tools/shown.py (part %d of %d)" % (part + 1, PARTS), ["tools/shown.py", *cases[part::PARTS]], None))
-    for name in ("tour", "epoch", "edge", "first_answer", "wrong_programs", "installed"):
+    for name in ("tour", "epoch", "edge", "editors", "first_answer", "wrong_programs", "installed"):
         found.append(("tools/%s.py" % name, ["tools/%s.py" % name, program], program))
     scripts = sorted(glob.glob("tools/*_cases.py"))
     found += [(script, [script, "--check"], None) for script in scripts if "--check" in text_of(script)]
