@@ -155,7 +155,7 @@ def fork_word(name):
 
 
 def words_of(asked, sources, folder):
-    """The words for rezkit behind the fork: each, and what the person wrote."""
+    """The words for rezkit after the fork: each, and what the person wrote."""
     words = [(sources.add(name), name) for name in asked.files[1:]]
     sources.write([])
     words += options.definitions(asked.macros)
