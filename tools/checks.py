@@ -5,11 +5,12 @@
 
 The files of cases that a script writes are what it would write now, and a second reading shows what they show; the
 documents name what is there; docs/MESSAGES.md has each message; the help text describes each option; the edits of
-wrong-bodies/ and must-fail/ apply; ./test finds programs that are wrong; ./rezkit tells why it runs no program. With the
-program that ./rezkit runs, the commands that README.md, docs/TOUR.md, docs/MESSAGES.md, docs/DAMAGED.md, docs/TEMPLATES.md,
-docs/TYPES.md, docs/TRANSLATING.md, docs/PORTING.md and docs/ARCHIVING.md show print what stands there, SOURCE_DATE_EPOCH is
-the moment of a run, and odd words, names and limits of the host are met. With the case runner that `rt ci` built, case files that are broken or differ
-are told. Without `rt` that check is skipped, as is any check whose program isn't there, and the line of the check says so.
+wrong-bodies/ and must-fail/ apply, and tools/wrong_bodies.py finds those that don't. With the program that ./rezkit runs:
+./test finds programs that are wrong; ./rezkit tells why it runs no program; tools/install installs it; the commands that
+README.md, docs/TOUR.md, docs/MESSAGES.md, docs/DAMAGED.md, docs/TEMPLATES.md, docs/TYPES.md, docs/TRANSLATING.md,
+docs/PORTING.md and docs/ARCHIVING.md show print what stands there; SOURCE_DATE_EPOCH is the moment of a run; odd words,
+names and limits of the host are met. With the case runner that `rt ci` built, case files that are broken or differ are
+told. Without `rt` that check is skipped, as is any check whose program isn't there, and the line of the check says so.
 
 The checks run side by side, as many as there are cores. The last line is `quick checks: N passed, N failed, N skipped`.
 The status is 1 if one fails.
@@ -22,7 +23,8 @@ import sys
 
 TOP = os.path.abspath(os.path.join(os.path.dirname(os.path.abspath(__file__)), ".."))
 HARNESS = os.path.join("crates", "rezkit_cases", "out", "rezkit_cases")
-PARTS = 8  # into so many checks the longest one is cut
+PARTS = 8  # into so many checks the one of all cases is cut
+LONGEST = "tools/carried_cases.py"  # it is begun first
 
 
 def checks(program):
@@ -31,17 +33,17 @@ def checks(program):
     cases = sorted(glob.glob("crates/rezkit_cases/data/*.cases"), key=os.path.getsize, reverse=True)
     for part in range(PARTS):
         found.append(("tools/shown.py (part %d of %d)" % (part + 1, PARTS), ["tools/shown.py", *cases[part::PARTS]], None))
-    for name in ("tour", "epoch", "edge", "first_answer", "wrong_programs"):
+    for name in ("tour", "epoch", "edge", "first_answer", "wrong_programs", "installed"):
         found.append(("tools/%s.py" % name, ["tools/%s.py" % name, program], program))
     scripts = sorted(glob.glob("tools/*_cases.py"))
     found += [(script, [script, "--check"], None) for script in scripts if "--check" in text_of(script)]
     found.append(("tools/fork.py", ["tools/fork.py", "--check", *sorted(cases)], None))
     for name in ("calls", "help", "wrong_bodies"):
         found.append(("tools/%s.py" % name, ["tools/%s.py" % name, "--check"], None))
-    for name in ("links", "messages"):
+    for name in ("links", "messages", "tried_edits"):
         found.append(("tools/%s.py" % name, ["tools/%s.py" % name], None))
     found.append(("tools/harness.py", ["tools/harness.py"], HARNESS))
-    return found
+    return sorted(found, key=lambda check: check[0] != LONGEST)
 
 
 def text_of(path):
