@@ -241,6 +241,8 @@ def test_no_control_byte_is_printed_raw(tmp_path):
 
 def test_standard_input(tmp_path):
     assert run("rezkit-ls", "-", given=hqx(WHOLE))[:2] == (0, b"-: BinHex 4.0 'APPL' 'CAF ', data 5, fork 347, resources 2\n")
+    status, output, _ = run("rezkit-ls", "-j", "4", "-", write(tmp_path, "a", PNG), write(tmp_path, "b", PNG), str(tmp_path), given=FORK)
+    assert status == 0 and output.startswith(b"-: resource fork, fork 347, resources 2\n") and output.count(b": PNG\n") == 4
     with open(write(tmp_path, "f", FORK), "rb") as file:
         ran = subprocess.run([os.path.join(WORKBENCH, "rezkit-ls"), "-"], stdin=file, stdout=subprocess.PIPE)
     assert ran.stdout == b"-: resource fork, fork 347, resources 2\n"
