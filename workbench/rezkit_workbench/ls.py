@@ -382,14 +382,14 @@ def worked_together(files, asked, jobs):
 
 def show_rows(rows):
     """Writes the rows; whether all is well, and how many there are."""
-    well, count, shown_at = True, 0, 0
+    well, count, shown_at, is_shown = True, 0, 0, sys.stdout is not None and not sys.stdout.isatty()
     for data, fine in rows:
         write_out(data)
         well, count = well and fine, count + 1
-        if time.monotonic() - shown_at > 0.5 and not sys.stdout.isatty():
+        if is_shown and time.monotonic() - shown_at > 0.5:
             shown_at = time.monotonic()
             command.progress("%s: %d files" % (NAME, count))
-    if not sys.stdout.isatty():
+    if is_shown:
         command.progress("")
     return well
 

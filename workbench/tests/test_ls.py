@@ -334,6 +334,20 @@ def test_an_output_that_is_full_or_gone(tmp_path):
     assert (ran.stdout, ran.stderr) == (b"{", b"")
 
 
+def test_closed_streams(tmp_path):
+    path = write(tmp_path, "a", macbin(WHOLE))
+    for program, words, message in (
+            ("rezkit-ls", "- <&-", "standard input: can't be read: it is closed"),
+            ("rezkit-ls", "'%s' >&-" % path, "standard output: can't be written: it is closed"),
+            ("rezkit-po", "out '%s' >&-" % path, "standard output: can't be written: it is closed"),
+            ("rezkit-salvage", "- -o x <&-", "standard input: can't be read: it is closed")):
+        ran = subprocess.run(["sh", "-c", "'%s' %s" % (os.path.join(WORKBENCH, program), words)], stdout=subprocess.PIPE, stderr=subprocess.PIPE)
+        said = ran.stderr.decode() + ran.stdout.decode()
+        assert ran.returncode == 1 and message in said and "Traceback" not in said
+    ran = subprocess.run(["sh", "-c", "'%s' '%s' <&- 2>&-" % (os.path.join(WORKBENCH, "rezkit-ls"), path)], stdout=subprocess.PIPE)
+    assert ran.returncode == 0 and ran.stdout.endswith(b": MacBinary 'APPL' 'CAF ', data 5, fork 347, resources 2\n")
+
+
 def test_a_terminal_sees_the_progress_and_a_file_doesnt(tmp_path):
     for number in range(40):
         write(tmp_path, "%02d" % number, FORK)
