@@ -157,7 +157,7 @@ def test_500_mutated_files_in_little_memory(tmp_path):
 def test_a_damaged_file_alone_takes_little_time(tmp_path):
     for number, data in enumerate(mutants(2, 20)):
         path = write(tmp_path, "%03d" % number, data)
-        assert run("rezkit-ls", "--resources", path, memory=MEMORY, seconds=SECONDS)[0] in (0, 1)
+        assert run("rezkit-ls", "--resources", path, memory=MEMORY, cpu=SECONDS)[0] in (0, 1)
 
 
 def test_the_largest_forks_in_little_memory(tmp_path):
@@ -195,7 +195,7 @@ def test_a_header_whose_data_file_is_a_link_or_a_pipe(tmp_path):
     os.symlink("/etc/passwd", str(tmp_path / "a"))
     write(tmp_path, "._b", double(WHOLE))
     os.mkfifo(str(tmp_path / "b"))
-    found, status, messages = rows("--sha256", ".", folder=str(tmp_path), seconds=SECONDS)
+    found, status, messages = rows("--sha256", ".", folder=str(tmp_path), cpu=SECONDS)
     assert [(each["path"], each["data"], each["fault"]) for each in found] == [("./._a", 0, None), ("./._b", 0, None)]
     assert status == 0 and messages == "rezkit-ls: links, devices and pipes in folders that weren't looked at: 2\n"
 
@@ -206,7 +206,7 @@ def test_links_and_pipes_in_folders_are_not_opened(tmp_path):
     os.symlink("/etc/passwd", str(tmp_path / "d" / "link"))
     os.mkfifo(str(tmp_path / "d" / "pipe"))
     write(tmp_path / "d", "plain", b"text")
-    found, status, messages = rows("d", folder=str(tmp_path), seconds=SECONDS)
+    found, status, messages = rows("d", folder=str(tmp_path), cpu=SECONDS)
     assert [each["path"] for each in found] == ["d/plain"] and status == 0
     assert messages == "rezkit-ls: links, devices and pipes in folders that weren't looked at: 3\n"
     os.symlink("d/plain", str(tmp_path / "named"))
