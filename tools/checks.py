@@ -10,7 +10,8 @@ wrong-bodies/ and must-fail/ apply, and tools/wrong_bodies.py finds those that d
 README.md, docs/TOUR.md, docs/MESSAGES.md, docs/DAMAGED.md, docs/TEMPLATES.md, docs/TYPES.md, docs/TRANSLATING.md,
 docs/PORTING.md and docs/ARCHIVING.md show print what stands there; SOURCE_DATE_EPOCH is the moment of a run; odd words,
 names and limits of the host are met; editors/ has each word of the language and shows sources and errors as it should. With
-the case runner that `rt ci` built, case files that are broken or differ are told. Without `rt` that check is skipped, as is any check whose program isn't there, and the line of the check says so.
+the case runner that `rt ci` built, case files that are broken or differ are told. Without `rt` that check is skipped, as is
+any check whose program isn't there, and the line of the check says so.
 
 The checks run side by side, as many as there are cores. The last line is `quick checks: N passed, N failed, N skipped`.
 The status is 1 if one fails.

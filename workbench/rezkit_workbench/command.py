@@ -32,26 +32,40 @@ def parser(name, about, more=None):
 
 
 def say(name, text):
-    """Prints a message."""
+    """Prints a message, if standard error is open."""
+    if sys.stderr is None:
+        return
     sys.stderr.write("%s: %s\n" % (name, text))
     sys.stderr.flush()
 
 
 def progress(text):
     """Shows how far long work has come, on one line, if standard error is a terminal."""
-    if sys.stderr.isatty():
+    if sys.stderr is not None and sys.stderr.isatty():
         sys.stderr.write("\r\x1b[K" + text)
         sys.stderr.flush()
 
 
 def drop_out():
     """Lets nothing more go to a standard output that has gone, also not at the end."""
-    os.dup2(os.open(os.devnull, os.O_WRONLY), sys.stdout.fileno())
+    if sys.stdout is not None:
+        os.dup2(os.open(os.devnull, os.O_WRONLY), sys.stdout.fileno())
+
+
+def fill_closed():
+    """Opens the null device where a standard stream is closed, so that no file gets its number."""
+    for number in range(3):
+        try:
+            os.fstat(number)
+        except OSError:
+            os.open(os.devnull, os.O_RDWR)
 
 
 def ended(name, body, words=None):
     """Runs a program's body and gives its status; what it refuses is told in a line."""
-    sys.stderr.reconfigure(errors="backslashreplace")
+    fill_closed()
+    if sys.stderr is not None:
+        sys.stderr.reconfigure(errors="backslashreplace")
     try:
         return body(words)
     except BrokenPipeError:

@@ -32,6 +32,8 @@ class Opened:
 
     def __init__(self, name, only_regular=False):
         self.name, self.told = name, "standard input" if name == "-" else printable(os.fsdecode(name))
+        if name == "-" and sys.stdin is None:
+            raise Refused("standard input: can't be read: it is closed")
         try:
             self.number = copied(sys.stdin.fileno(), self.told) if name == "-" else opened(name, only_regular, self.told)
             self.size = os.fstat(self.number).st_size

@@ -382,14 +382,14 @@ def worked_together(files, asked, jobs):
 
 def show_rows(rows):
     """Writes the rows; whether all is well, and how many there are."""
-    well, count, shown_at = True, 0, 0
+    well, count, shown_at, is_shown = True, 0, 0, sys.stdout is not None and not sys.stdout.isatty()
     for data, fine in rows:
         write_out(data)
         well, count = well and fine, count + 1
-        if time.monotonic() - shown_at > 0.5 and not sys.stdout.isatty():
+        if is_shown and time.monotonic() - shown_at > 0.5:
             shown_at = time.monotonic()
             command.progress("%s: %d files" % (NAME, count))
-    if not sys.stdout.isatty():
+    if is_shown:
         command.progress("")
     return well
 
@@ -421,17 +421,17 @@ def processors():
     return len(os.sched_getaffinity(0)) if hasattr(os, "sched_getaffinity") else os.cpu_count() or 1
 
 
-def are_few(names):
-    """Whether so few files are named that one process does them."""
-    return len(names) < 3 and not any(os.path.isdir(name) for name in names)
+def is_done_alone(options):
+    """Whether one process does all: of few files, and where standard input is among them, which no other process has."""
+    few = len(options.names) < 3 and not any(os.path.isdir(name) for name in options.names)
+    return options.jobs == 1 or few or "-" in options.names
 
 
 def body(words):
     options = options_of(words)
     program.path()
     walk, asked = Walk(options.names, options.once), Asked(options)
-    alone = options.jobs == 1 or are_few(options.names)
-    rows = worked_alone(walk.files(), asked) if alone else worked_together(walk.files(), asked, options.jobs)
+    rows = worked_alone(walk.files(), asked) if is_done_alone(options) else worked_together(walk.files(), asked, options.jobs)
     well = show_rows(rows)
     for folder, reason in walk.faults:
         command.say(NAME, "%s: can't be read: %s" % (printable(folder), reason))

@@ -109,6 +109,8 @@ def write_all(file, data):
 
 def write_out(data):
     """Writes to standard output."""
+    if sys.stdout is None:
+        raise Refused("standard output: can't be written: it is closed")
     try:
         sys.stdout.buffer.write(data)
         sys.stdout.buffer.flush()

@@ -18,14 +18,17 @@ MEMORY = 524288 << 10  # bytes that a program may use where a test says so
 SECONDS = 10
 
 
-def run(program, *words, given=None, folder=None, memory=None, largest=None, seconds=120, to=None, **more):
+def run(program, *words, given=None, folder=None, memory=None, largest=None, cpu=None, seconds=300, to=None, **more):
     """Runs a program of the workbench: its status, its output and its messages.
 
-    `memory` and `largest` are as those of `ulimit -v` and `ulimit -f`, in bytes. `to` is a file for its output.
+    `memory` and `largest` are as those of `ulimit -v` and `ulimit -f`, in bytes, and `cpu` are the seconds of `ulimit -t`:
+    they don't depend on what else the machine does. `to` is a file for its output.
     """
     def limit():
         if memory:
             resource.setrlimit(resource.RLIMIT_AS, (memory, memory))
+        if cpu:
+            resource.setrlimit(resource.RLIMIT_CPU, (cpu, cpu))
         if largest:
             resource.setrlimit(resource.RLIMIT_FSIZE, (largest, largest))
 

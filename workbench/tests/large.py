@@ -1,12 +1,13 @@
 #!/usr/bin/python3
 """Measures rezkit-ls over a large tree: one process against several, memory, and the same rows by GNU parallel.
 
-    /usr/bin/python3 workbench/tests/large.py FOLDER [FILES]
+    /usr/bin/python3 workbench/tests/large.py FOLDER [FILES [SSH]]
 
 FOLDER is made, and has FILES files (100,000 unless stated) in folders of 20: the examples, and forks of them in each form.
 Printed are the times of `-j 1` and `-j 4`, how many times faster the second is, and the most memory that a process took
-in the first and in the last tenth of the rows. GNU parallel then makes the rows of a part of the tree on this machine,
-by ssh if this machine takes it, is broken off and goes on. The status is 1 if rows differ. Nothing is compared with a limit.
+in the first and in the last tenth of the rows. GNU parallel then makes the rows of a part of the tree, is broken off and
+goes on: on this machine, by the command SSH and this machine's own address if one is named, as 'ssh -p 2222 -i KEY'. The
+status is 1 if rows differ. Nothing is compared with a limit.
 """
 import glob
 import os
@@ -79,11 +80,9 @@ def timed(folder, jobs, rows):
     return taken
 
 
-def by_parallel(folder, rows):
+def by_parallel(folder, rows, ssh):
     """The rows of a folder by GNU parallel, which is broken off once and goes on."""
-    ssh = subprocess.run(["ssh", "-o", "BatchMode=yes", "-o", "StrictHostKeyChecking=no", "localhost", "true"],
-                         stderr=subprocess.DEVNULL).returncode == 0 if shutil.which("ssh") else False
-    where = "-S 4/localhost" if ssh else "-j4"
+    where = "--ssh '%s' -S 4/127.0.0.1 --wd '%s'" % (ssh, os.getcwd()) if ssh else "-j4"
     command = "find '%s' -type f -print0 | sort -z | parallel --will-cite -0 %s --joblog '%s.log' --resume -n 50 '%s' --json --once >> '%s'" % (
         folder, where, rows, LS, rows)
     for last in (False, True):
@@ -96,13 +95,13 @@ def by_parallel(folder, rows):
 
 
 def main():
-    folder, count = sys.argv[1], int(sys.argv[2]) if len(sys.argv) > 2 else 100000
+    folder, count = os.path.abspath(sys.argv[1]), int(sys.argv[2]) if len(sys.argv) > 2 else 100000
     make_tree(os.path.join(folder, "tree"), count)
     os.chdir(folder)
     many = timed("tree", 4, "rows4")
     alone = timed("tree", 1, "rows1")
     print("-j 4 is %.2f times as fast as -j 1" % (alone / many))
-    by_parallel("tree/000", "pieces")
+    by_parallel("tree/000", "pieces", sys.argv[3] if len(sys.argv) > 3 else None)
     part = [line for line in read("rows1").splitlines() if line.startswith(b'{"schema":1,"path":"tree/000/')]
     same = read("rows1") == read("rows4") and sorted(set(read("pieces").splitlines())) == sorted(part)
     print("the rows are the same" if same else "ROWS DIFFER")

@@ -67,10 +67,12 @@ def main():
         for data in [*mutants(seed, forks), *large_files(seed, files)]:
             with open(name, "wb") as file:
                 file.write(data)
-            signal.alarm(SECONDS)  # ends the process with SIGALRM
+            signal.setitimer(signal.ITIMER_PROF, SECONDS)  # ends the process with SIGPROF after so much of its time
+            signal.alarm(6 * SECONDS)  # ends the process with SIGALRM, whatever else the machine does
             with contextlib.redirect_stdout(io.TextIOWrapper(told)), contextlib.redirect_stderr(io.TextIOWrapper(io.BytesIO())):
                 counts[run(name)] += 1
             told = io.BytesIO()
+            signal.setitimer(signal.ITIMER_PROF, 0)
             signal.alarm(0)
     print("%s: %s" % (which, ", ".join("status %d: %d" % each for each in sorted(counts.items()))))
     return 0 if set(counts) <= {0, 1} and sum(counts.values()) == forks + files else 1

@@ -157,7 +157,7 @@ def test_500_mutated_files_in_little_memory(tmp_path):
 def test_a_damaged_file_alone_takes_little_time(tmp_path):
     for number, data in enumerate(mutants(2, 20)):
         path = write(tmp_path, "%03d" % number, data)
-        assert run("rezkit-ls", "--resources", path, memory=MEMORY, seconds=SECONDS)[0] in (0, 1)
+        assert run("rezkit-ls", "--resources", path, memory=MEMORY, cpu=SECONDS)[0] in (0, 1)
 
 
 def test_the_largest_forks_in_little_memory(tmp_path):
@@ -195,7 +195,7 @@ def test_a_header_whose_data_file_is_a_link_or_a_pipe(tmp_path):
     os.symlink("/etc/passwd", str(tmp_path / "a"))
     write(tmp_path, "._b", double(WHOLE))
     os.mkfifo(str(tmp_path / "b"))
-    found, status, messages = rows("--sha256", ".", folder=str(tmp_path), seconds=SECONDS)
+    found, status, messages = rows("--sha256", ".", folder=str(tmp_path), cpu=SECONDS)
     assert [(each["path"], each["data"], each["fault"]) for each in found] == [("./._a", 0, None), ("./._b", 0, None)]
     assert status == 0 and messages == "rezkit-ls: links, devices and pipes in folders that weren't looked at: 2\n"
 
@@ -206,7 +206,7 @@ def test_links_and_pipes_in_folders_are_not_opened(tmp_path):
     os.symlink("/etc/passwd", str(tmp_path / "d" / "link"))
     os.mkfifo(str(tmp_path / "d" / "pipe"))
     write(tmp_path / "d", "plain", b"text")
-    found, status, messages = rows("d", folder=str(tmp_path), seconds=SECONDS)
+    found, status, messages = rows("d", folder=str(tmp_path), cpu=SECONDS)
     assert [each["path"] for each in found] == ["d/plain"] and status == 0
     assert messages == "rezkit-ls: links, devices and pipes in folders that weren't looked at: 3\n"
     os.symlink("d/plain", str(tmp_path / "named"))
@@ -241,6 +241,8 @@ def test_no_control_byte_is_printed_raw(tmp_path):
 
 def test_standard_input(tmp_path):
     assert run("rezkit-ls", "-", given=hqx(WHOLE))[:2] == (0, b"-: BinHex 4.0 'APPL' 'CAF ', data 5, fork 347, resources 2\n")
+    status, output, _ = run("rezkit-ls", "-j", "4", "-", write(tmp_path, "a", PNG), write(tmp_path, "b", PNG), str(tmp_path), given=FORK)
+    assert status == 0 and output.startswith(b"-: resource fork, fork 347, resources 2\n") and output.count(b": PNG\n") == 4
     with open(write(tmp_path, "f", FORK), "rb") as file:
         ran = subprocess.run([os.path.join(WORKBENCH, "rezkit-ls"), "-"], stdin=file, stdout=subprocess.PIPE)
     assert ran.stdout == b"-: resource fork, fork 347, resources 2\n"
@@ -330,6 +332,20 @@ def test_an_output_that_is_full_or_gone(tmp_path):
     ran = subprocess.run(["sh", "-c", '"$1" --json "$2" "$2" "$3" | head -c 1', "sh", os.path.join(WORKBENCH, "rezkit-ls"), path, str(tmp_path)],
                          stdout=subprocess.PIPE, stderr=subprocess.PIPE)
     assert (ran.stdout, ran.stderr) == (b"{", b"")
+
+
+def test_closed_streams(tmp_path):
+    path = write(tmp_path, "a", macbin(WHOLE))
+    for program, words, message in (
+            ("rezkit-ls", "- <&-", "standard input: can't be read: it is closed"),
+            ("rezkit-ls", "'%s' >&-" % path, "standard output: can't be written: it is closed"),
+            ("rezkit-po", "out '%s' >&-" % path, "standard output: can't be written: it is closed"),
+            ("rezkit-salvage", "- -o x <&-", "standard input: can't be read: it is closed")):
+        ran = subprocess.run(["sh", "-c", "'%s' %s" % (os.path.join(WORKBENCH, program), words)], stdout=subprocess.PIPE, stderr=subprocess.PIPE)
+        said = ran.stderr.decode() + ran.stdout.decode()
+        assert ran.returncode == 1 and message in said and "Traceback" not in said
+    ran = subprocess.run(["sh", "-c", "'%s' '%s' <&- 2>&-" % (os.path.join(WORKBENCH, "rezkit-ls"), path)], stdout=subprocess.PIPE)
+    assert ran.returncode == 0 and ran.stdout.endswith(b": MacBinary 'APPL' 'CAF ', data 5, fork 347, resources 2\n")
 
 
 def test_a_terminal_sees_the_progress_and_a_file_doesnt(tmp_path):

@@ -3,7 +3,6 @@ import os
 import random
 import re
 import subprocess
-import time
 
 import pytest
 from fork import fork_of
@@ -473,6 +472,5 @@ def test_300_damaged_po_files(tmp_path):
 def test_a_large_fork_in_little_memory_and_time(tmp_path):
     """16 MB of resources without texts, and 4,000 texts."""
     fork = fork_of([(b"STR ", number, b"", 0, b"\4File") for number in range(4000)] + [(b"Data", 1, b"", 0, bytes(15 << 20))])
-    begun = time.monotonic()
-    status, output, _ = run("rezkit-po", "out", write(tmp_path, "a", fork), memory=MEMORY, seconds=6 * SECONDS)
-    assert status == 0 and output.count(b'msgid "File"') == 4000 and time.monotonic() - begun < 6 * SECONDS
+    status, output, _ = run("rezkit-po", "out", write(tmp_path, "a", fork), memory=MEMORY, cpu=SECONDS)
+    assert status == 0 and output.count(b'msgid "File"') == 4000

@@ -202,10 +202,10 @@ def is_found(tmp_path, data):
 
 def test_many_lengths_of_zero_take_little_time_and_memory(tmp_path):
     path = write(tmp_path, "zeros", bytes(64 << 20))
-    status, _, messages = run("rezkit-salvage", path, "-o", str(tmp_path / "out"), memory=MEMORY, seconds=SECONDS)
+    status, _, messages = run("rezkit-salvage", path, "-o", str(tmp_path / "out"), memory=MEMORY, cpu=SECONDS)
     assert status == 1 and messages.endswith(": no resource was found\n")
     path = write(tmp_path, "ones", bytes(256) + b"\0\0\0\1x" * 3000000)
-    status, _, messages = run("rezkit-salvage", path, "-o", str(tmp_path / "out"), memory=MEMORY, seconds=SECONDS)
+    status, _, messages = run("rezkit-salvage", path, "-o", str(tmp_path / "out"), memory=MEMORY, cpu=SECONDS)
     assert status == 1 and "has more than 16384 resources" in messages
 
 
