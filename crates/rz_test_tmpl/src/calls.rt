@@ -71,10 +71,7 @@ fn show_call(rt: &(impl Abort + AllocGlobal), call: Call, text: &str, came: &mut
 /// Shows how many entries words say.
 fn show_entries(rt: &(impl Abort + AllocGlobal), words: &str, came: &mut Text) {
     match entries(rt.alloc(), bytes_of(rt, words).as_slice()) {
-        Ok(entries) => {
-            came.number(entries.len());
-            drop(entries);
-        }
+        Ok(entries) => came.number(entries.len()),
         Err(stop) => show_fault(stop, came),
     }
 }
@@ -82,10 +79,7 @@ fn show_entries(rt: &(impl Abort + AllocGlobal), words: &str, came: &mut Text) {
 /// Shows the fields of the template of the entries that words say.
 fn show_template(rt: &(impl Abort + AllocGlobal), words: &str, came: &mut Text) {
     match template_of(rt.alloc(), bytes_of(rt, words).as_slice()) {
-        Ok(template) => {
-            show_fields(rt.alloc(), template.body().as_slice(), came);
-            drop(template);
-        }
+        Ok(template) => show_fields(rt.alloc(), template.body().as_slice(), came),
         Err(stop) => show_fault(stop, came),
     }
 }
@@ -111,10 +105,7 @@ fn show_read(rt: &(impl Abort + AllocGlobal), text: &str, came: &mut Text) {
     let mut bytes = Bytes::new(rt.alloc());
     append_digits(rt, digits, &mut bytes);
     match tmpl_read(rt.alloc(), tmpl.as_slice(), bytes.as_slice(), &facts_of(rt)) {
-        Ok(Reading::Tree(row)) => {
-            show_row(rt.alloc(), row.as_slice(), came);
-            drop(row);
-        }
+        Ok(Reading::Tree(row)) => show_row(rt.alloc(), row.as_slice(), came),
         Ok(Reading::NoTree) => came.put(b"none"),
         Err(stop) => show_fault(stop, came),
     }
