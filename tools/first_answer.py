@@ -277,7 +277,7 @@ def proving(copy):
     """With `rt` the program of changed sources is proved and built; here by an `rt` that only seems to do so."""
     write(copy.path("crates/rz_lex/src/lexer.rt"), "another\n")
     built = copy.path("crates/rezkit/out/rezkit")
-    said = (SOURCE[:-len(NO_RT)] + "rezkit: proving and building the program; this is done once, and takes about 30 minutes on "
+    said = (SOURCE[:-len(NO_RT)] + "rezkit: proving and building the program; this is done once, and takes about 50 minutes on "
             "four cores\n")
     check = "#!/bin/sh\ncase $1 in\nall) seq -f '== rz_%g' 55; exec sleep 100 ;;\nesac\n"
     fails = copy.tools("fails", rt=check + "echo 'rz_lex: not proved'\nexit 1\n")
