@@ -20,6 +20,7 @@ CATALOGUE = b"'MENU' 128 1 \"Qu\\0x8Ebec\";\n"
 LEGIBLE = "\ufeff'MENU' 128 1\n    \"Qu\u00e9bec\";\n".encode()
 MADE = ["share/bash-completion/completions/rezkit", "share/fish/vendor_completions.d/rezkit.fish", "share/man/man1/rezkit.1",
         "share/zsh/site-functions/_rezkit"]
+WORKBENCH = {"workbench/rezkit-*": "bin/", "workbench/Rez": "lib/rezkit/bin/", "workbench/DeRez": "lib/rezkit/bin/"}
 
 
 def run(words, folder, path=None):
@@ -31,9 +32,16 @@ def run(words, folder, path=None):
 
 def wanted_files():
     """The files that have to be below PREFIX, but for the scripts."""
-    kinds = ("docs/*.md", "examples/*", "types/*.r")
+    kinds = ("docs/*.md", "examples/*", "types/*.r", "workbench/rezkit_workbench/*.py", *WORKBENCH)
     shared = ["README.md"] + [os.path.relpath(path, TOP) for kind in kinds for path in glob.glob(os.path.join(glob.escape(TOP), kind))]
-    return sorted(["bin/rezkit", *MADE, *("share/rezkit/" + path for path in shared)])
+    return sorted(["bin/rezkit", *MADE, *("share/rezkit/" + path for path in shared), *links_of_workbench()])
+
+
+def links_of_workbench():
+    """The links to the programs of the workbench."""
+    for kind, folder in WORKBENCH.items():
+        for path in glob.glob(os.path.join(glob.escape(TOP), kind)):
+            yield folder + os.path.basename(path)
 
 
 def found_files(prefix):
@@ -58,6 +66,8 @@ def looks(room, prefix, program):
     yield "the man page", b".TH REZKIT 1", read(prefix, "share/man/man1/rezkit.1")[:12]
     here = [os.path.join(prefix, "bin", "rezkit"), "rez", os.path.join(share, "examples", "App.r"), "-i", os.path.join(share, "types")]
     yield "an example", (0, b""), run([*here, "-o", "App.rsrc"], room)
+    ls = os.path.join(prefix, "bin", "rezkit-ls")
+    yield "rezkit-ls", (0, b"App.rsrc: resource fork, fork 779, resources 6\n"), run([ls, "App.rsrc"], room)
     with open(os.path.join(room, "a.texts"), "wb") as file:
         file.write(CATALOGUE)
     script = os.path.join(share, "tools", "catalog.py")

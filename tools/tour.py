@@ -5,12 +5,13 @@
 
 In the code blocks of WALKS a line that begins with `$ ` is a command, lines that begin with `> ` right after it go on
 with it, and what follows, up to the next command or the end of the block, is its output. The commands of the documents
-of one walk are run in their order, by `sh`, in a folder of their own that has `examples`, `types`, `tools` and, as `./rezkit`,
-the built program (the one that ./rezkit runs unless another is named). A command that names a tool of TOOLS which isn't
-installed is skipped. What differs is printed, and with `--write` put into the document. The examples of the man page
-(tools/help.py) are run too: each has to end with the status 0 and to print what EXAMPLES_PRINT says. The status is 1 if
-anything differs. The quick checks run it.
+of one walk are run in their order, by `sh`, in a folder of their own that has `examples`, `types`, `tools`, `workbench`
+and, as `./rezkit`, the built program (the one that ./rezkit runs unless another is named). A command is skipped if it
+names a tool of TOOLS that isn't installed, or a program of MODULES whose module isn't. What differs is printed, and with
+`--write` put into the document. The examples of the man page (tools/help.py) are run too: each has to end with the status 0
+and to print what EXAMPLES_PRINT says. The status is 1 if anything differs. The quick checks run it.
 """
+import functools
 import os
 import re
 import shutil
@@ -30,8 +31,10 @@ WALKS = (
     ("docs/TYPES.md",),
     ("docs/TRANSLATING.md",),
     ("docs/PORTING.md",),
+    ("docs/ARCHIVING.md",),
 )
-TOOLS = ("cpp", "git", "make", "unar", "xxd")
+MODULES, PYTHON = (("workbench/rezkit-po", "polib"),), "/usr/bin/python3"
+TOOLS = ("cpp", "git", "make", "msgmerge", "parallel", "sqlite3", "unar", "xxd")
 # Files that the examples of the man page begin with, by a command that makes them, and what an example prints.
 EXAMPLE_FILES = """cp examples/App.r App.r && cp examples/patch.r Changes.r && mkdir Includes
 rezkit rez App.r -i types -form hqx -o Old.hqx && echo '#define kTitle "Old"' > Includes/Title.r
@@ -65,8 +68,16 @@ def text_of(parts):
 
 
 def missing_tool(command):
+    """A tool that a command needs and that isn't there, or None."""
     words = re.findall(r"[\w./-]+", command)
-    return next((tool for tool in TOOLS if tool in words and not shutil.which(tool)), None)
+    module = next((module for program, module in MODULES if program in words and not has_module(module)), None)
+    return module or next((tool for tool in TOOLS if tool in words and not shutil.which(tool)), None)
+
+
+@functools.lru_cache(maxsize=None)
+def has_module(name):
+    """Whether the Python of the workbench has a module."""
+    return subprocess.run([PYTHON, "-c", "import " + name], stderr=subprocess.DEVNULL).returncode == 0
 
 
 def missing_tools():
@@ -112,7 +123,7 @@ def walk_document(document, folder, write):
 def walk(documents, program, write):
     """The same of all documents of a walk, in one folder."""
     with tempfile.TemporaryDirectory(prefix="rezkit-tour-") as folder:
-        for name in ("examples", "types", "tools"):
+        for name in ("examples", "types", "tools", "workbench"):
             os.symlink(os.path.join(TOP, name), os.path.join(folder, name))
         os.symlink(program, os.path.join(folder, "rezkit"))
         return [sum(column) for column in zip(*(walk_document(document, folder, write) for document in documents))]

@@ -1,0 +1,18 @@
+"""What the programs of the workbench share, and a module for each of them.
+
+    errors     what is refused, and with which status
+    program    where rezkit is, and calls of it
+    roman      letters of the Macintosh, and what may be printed
+    facts      what a file is: its form, what the Finder keeps, its forks and resources
+    writing    files and folders that are written without overwriting any
+    command    the frame of a program: options, messages, statuses
+
+Of Rez and DeRez:
+
+    options    the options of other Rezes, in one table
+    sources    the sources that are reached, and their copies
+    tokens     a source cut into tokens, and put together again
+    mend       what is mended in a source, by tokens
+    macros     macros with parameters
+    outputs    the files that are written, in the form of their ending
+"""
