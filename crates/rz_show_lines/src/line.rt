@@ -74,10 +74,10 @@ impl Line {
     }
 
     /// Writes a comma, where something stands after it.
-    pub fn comma(&mut self, behind: bool)
-        ensures { self.new ≡ cut (self.old ++ (if behind then 44 ∷ [] else [])) }
+    pub fn comma(&mut self, followed: bool)
+        ensures { self.new ≡ cut (self.old ++ (if followed then 44 ∷ [] else [])) }
     {
-        self.append(if behind { b"," } else { b"" });
+        self.append(if followed { b"," } else { b"" });
     }
 
     /// The bytes of the line.

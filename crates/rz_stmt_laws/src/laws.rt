@@ -12,6 +12,6 @@ ghost use Rattle.rz_stmt_brackets.specs.Statements.{has_end, AreStatements};
 /// if each is a statement.
 pub fn statements_go_on()
     ensures ended { (tokens : List Token) (statement : Statement) → Parses tokens (Ok statement) → has_end 0 tokens ≡ true }
-    ensures behind { (front back : List Token) (statements others : List (List Token)) → AreStatements front statements → AreStatements back others
+    ensures appended { (front back : List Token) (statements others : List (List Token)) → AreStatements front statements → AreStatements back others
         → AllByRecursion (λ tokens. has_end 0 tokens ≡ true) statements → AreStatements (front ++ back) (statements ++ others) }
 {}
