@@ -14,7 +14,8 @@ The script needs `rt`, Rattle's command. It copies the crates, names the folders
 `rt must-fail` try them there, over what `rt` kept of the proofs in `out/`. So it takes about a minute for a crate whose
 libraries are built (`rt lib` in the crate's folder builds them), and else as long as these take to be proved. What is tried
 is told a line each. Of each edit that was refused it writes the line in tools/wrong_bodies.txt: the name, and the sum of the
-crate's src/ and specs/ and of the edit, for which it was refused. It removes the line of an edit that wasn't. The status is 1 if an edit isn't refused, or can't be tried.
+crate's src/ and specs/, without the lines that are comments, and of the edit, for which it was refused. It removes the line
+of an edit that wasn't. The status is 1 if an edit isn't refused, or can't be tried.
 
 With --check it needs no `rt` and changes nothing. The status is 1 if an edit of wrong-bodies/ or must-fail/ doesn't apply
 (the text after each `old:` stands in its file exactly once, where the pairs before it have been applied), or if one of
@@ -32,6 +33,7 @@ import tempfile
 TOP = os.path.abspath(os.path.join(os.path.dirname(__file__), ".."))
 RECORD = os.path.join(TOP, "tools", "wrong_bodies.txt")
 ABOUT = "# Of each wrong body the sum for which it was last refused; tools/wrong_bodies.py says what is summed, and writes this file.\n"
+COMMENT = re.compile(rb"^[ \t]*(//|--).*\n?", re.MULTILINE)
 TRIED = re.compile(r"must-fail (\w+/[\w.-]+\.edit): (refused, as it must be|NOT REFUSED)")
 
 
@@ -115,14 +117,15 @@ def flaw_of(crate, path):
 
 
 def sum_of(top, crate, path):
-    """The sum of the src/ and specs/ of a crate and of an edit of it."""
+    """The sum of the src/ and specs/ of a crate, without the lines that are comments, and of an edit of it."""
     whole = hashlib.sha256()
     for part in ("src", "specs"):
         for folder, folders, names in os.walk(os.path.join(top, "crates", crate, part)):
             folders.sort()
             for name in sorted(names):
                 with open(os.path.join(folder, name), "rb") as file:
-                    whole.update(b"%s\0%s\0" % (name.encode(), hashlib.sha256(file.read()).digest()))
+                    code = COMMENT.sub(b"", file.read())
+                whole.update(b"%s\0%s\0" % (name.encode(), hashlib.sha256(code).digest()))
     with open(path, "rb") as file:
         whole.update(file.read())
     return whole.hexdigest()

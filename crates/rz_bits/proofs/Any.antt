@@ -38,7 +38,7 @@ any_there bits place there width number is read =
     ∙ ap (λ (n : ℕ). any_set (take n (drop place bits))) (is ∙ ap (λ (n : ℕ). min n width) (sym long))
     ∙ ap any_set (cut_width (drop place bits) width)
 
--- behind the last bit none is
+-- after the last bit none is
 pub none_there : (bits : List Bool) (place width : ℕ) → length bits ≤ place → false ≡ any_set (take width (drop place bits))
 none_there bits place width behind =
     sym (ap (λ (rest : List Bool). any_set (take width rest)) (drop_all place bits behind) ∙ ap any_set (take-nil width))

@@ -226,7 +226,7 @@ zeros_over bits a n le some =
     let more : 0 < number_of (take n bits) = omega (arith, whole, positive) in
     grind (arith, nat_tests, more)
 
--- behind zeros the rest decides
+-- after zeros the rest decides
 pub zeros_more : (bits : List Bool) (a n : ℕ) (test : Bool) → a ≤ n → number_of (take a bits) ≡ 0 → (number_of (take n bits) == 0) ≡ test
     → (number_of (take (n - a) (drop a bits)) == 0) ≡ test
 zeros_more bits a n test le none is =

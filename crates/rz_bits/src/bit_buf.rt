@@ -98,7 +98,7 @@ impl BitBuf {
         Some(number_in(&self.bytes, place, width))
     }
 
-    /// Whether one of so many bits from a place on, counted from 0, is set; behind the last bit none is. It looks at five
+    /// Whether one of so many bits from a place on, counted from 0, is set; after the last bit none is. It looks at five
     /// bytes at most.
     pub fn any(&self, place: u32, width: u8) -> bool
         requires { width ≤ 32 }

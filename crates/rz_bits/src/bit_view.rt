@@ -1,4 +1,4 @@
-//! The bits of bytes, read in place from any bit on, by place or one number behind another. What they are is in
+//! The bits of bytes, read in place from any bit on, by place or one number after another. What they are is in
 //! `specs/Bits` and `specs/View`.
 
 ghost use Rattle.std.specs.Prelude.{◌≡◌, ◌+◌, ◌*◌, ◌^◌, ◌==◌, ◌<◌, ◌≤◌, length, take, drop, IfOk, IfSome, IfNone};
@@ -47,7 +47,7 @@ impl<'a> BitView<'a> {
         self.place
     }
 
-    /// The number in the next so many bits, the highest bit first; the place then stands behind them. `None` exactly where
+    /// The number in the next so many bits, the highest bit first; the place then stands after them. `None` exactly where
     /// so many bits are not left, and then the view is unchanged. It looks at five bytes at most.
     #[tactic(auto, using(crate::proofs::Windows::bits_length))]
     pub fn take(&mut self, width: u8) -> Option<u32>

@@ -198,7 +198,7 @@ module _ (form : AppleForm) (file : MacFile) (stored : IsStored file.finder) (da
   abbrev name : Part
   name = record { id = 3; bytes = short_name file }
 
-  -- the parts behind the name
+  -- the parts after the name
   abbrev rest : List Part
   rest = record { id = 8; bytes = dates_bytes file } ∷ record { id = 9; bytes = finder_bytes file.finder } ∷ forks form file.data_fork file.res_fork
 

@@ -51,7 +51,7 @@ length-image_of form parts =
 
 -- Entries.
 
--- the entry of a part at a place, among so many and behind those before it
+-- the entry of a part at a place, among so many and after those before it
 abbrev pub read_entry : ℕ → ℕ → List Part → Part → Entry
 read_entry count place before p =
     record { place = place; id = p.id; offset = 26 + 12 * count + length (bytes_of before); length = length p.bytes }

@@ -1,4 +1,4 @@
--- Pieces that stand one behind the other at a place of some bytes, and what is read of them.
+-- Pieces that stand one after the other at a place of some bytes, and what is read of them.
 use Rattle.std.proofs.Common.{◌≡◌, ℕ, ◌+◌, List, [], ◌∷◌, ◌++◌, length, take, refl, ap, subst, ◌∙◌, arith, length-append, ℤ, FitsSigned}
 use Rattle.std.proofs.lemmas.Int.{to_z-of_z}
 use Rattle.std.proofs.lemmas.List.{take_at}
@@ -7,12 +7,12 @@ use Rattle.rz_core.proofs.Placed.{Has, has_left, has_right, number_is, bits_smal
 use Rattle.rz_core.specs.Numbers.{be}
 use Rattle.rz_bridge.specs.Places.{signed, piece}
 
--- pieces put behind a first one
+-- pieces put after a first one
 abbrev pub joined : List ℕ → List (List ℕ) → List ℕ
 joined front [] = front
 joined front (p ∷ ps) = joined (front ++ p) ps
 
--- each of the pieces stands behind those before it
+-- each of the pieces stands after those before it
 abbrev pub AreAt : List ℕ → ℕ → List (List ℕ) → Type 0
 AreAt bytes place [] = Unit {0}
 AreAt bytes place (p ∷ ps) = Has bytes place p × AreAt bytes (place + length p) ps

@@ -204,7 +204,7 @@ part_shown p = record { id = p.id; bytes = p.bytes.now }
 abbrev pub parts_shown : List PartRef → List Part
 parts_shown parts = map part_shown parts
 
--- the bytes of parts, one behind the other
+-- the bytes of parts, one after the other
 abbrev pub bytes_of : List Part → List ℕ
 bytes_of parts = flat_map (λ p. p.bytes) parts
 
@@ -212,7 +212,7 @@ bytes_of parts = flat_map (λ p. p.bytes) parts
 unfoldable pub entry_of : ℕ → ℕ → ℕ → List ℕ
 entry_of id offset count = be 4 id ++ be 4 offset ++ be 4 count
 
--- the entry of a part, among so many and behind those before it
+-- the entry of a part, among so many and after those before it
 abbrev pub part_entry : ℕ → List Part → Part → List ℕ
 part_entry count before p = entry_of p.id (26 + 12 * count + length (bytes_of before)) (length p.bytes)
 

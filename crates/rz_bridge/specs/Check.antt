@@ -16,6 +16,6 @@ bits_more (suc count) crc = bits_more count (bit_more crc)
 unfoldable pub byte_more : ℕ → ℕ → ℕ
 byte_more crc byte = bits_more 8 (bit_xor crc (256 * byte))
 
--- the check of the bytes behind those whose check is `start`; the check of no bytes is 0
+-- the check of the bytes after those whose check is `start`; the check of no bytes is 0
 abbrev pub crc_of : ℕ → List ℕ → ℕ
 crc_of start bytes = fold byte_more start bytes

@@ -17,7 +17,7 @@ use Rattle.rz_bridge.specs.declared.file.MacFile.{MacFile}
 
 -- Where the forks stand.
 
--- the data fork begins behind the header and the secondary header, whose length stands at 120
+-- the data fork begins after the header and the secondary header, whose length stands at 120
 unfoldable pub data_place : List ℕ → ℕ
 data_place bytes = 128 + filled (number 2 bytes 120)
 
@@ -25,7 +25,7 @@ data_place bytes = 128 + filled (number 2 bytes 120)
 unfoldable pub data_length : List ℕ → ℕ
 data_length bytes = number 4 bytes 83
 
--- the resource fork begins behind the data fork
+-- the resource fork begins after the data fork
 unfoldable pub resource_place : List ℕ → ℕ
 resource_place bytes = data_place bytes + filled (data_length bytes)
 

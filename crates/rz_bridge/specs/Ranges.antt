@@ -4,7 +4,7 @@ use Rattle.std.specs.Int.{w16}
 use Rattle.rz_bridge.specs.declared.file.Finder.{Finder}
 use Rattle.rz_bridge.specs.declared.file.MacFile.{MacFile}
 
--- the numbers of the Finder's fields have 32 and 16 bits, and 16 bytes stand behind them
+-- the numbers of the Finder's fields have 32 and 16 bits, and 16 bytes stand after them
 pub record IsStored (finder : Finder) : Type 0 where
   pub kind : finder.kind.code < 2 ^ 32
   pub creator : finder.creator.code < 2 ^ 32

@@ -29,7 +29,7 @@ const TO_STORED: u32 = 1_265_437_696;
 const LONGEST_NAME: usize = 255;
 
 /// The one AppleDouble header file of a file: the entries of the name, where it isn't empty, of the dates, of the
-/// Finder's fields and of the resource fork, and their bytes behind them. Of the name the first 255 bytes are written.
+/// Finder's fields and of the resource fork, and their bytes after them. Of the name the first 255 bytes are written.
 /// A date before 882,045,953 is written as none, and so are those of a copy and of the last reading. The data fork is a
 /// file of its own. [`double_read`](crate::double_read) of the header and the data fork gives the file again, with its
 /// name cut to 255 bytes, with 0 for dates before 882,045,953, and without its lock. The time is linear in the resource
@@ -49,7 +49,7 @@ pub fn double_write(alloc: Global, file: &MacFile) -> Result<Bytes, Stop<BridgeF
 }
 
 /// The one AppleSingle of a file: the entries of the name, where it isn't empty, of the dates, of the Finder's fields, of
-/// the data fork and of the resource fork, and their bytes behind them, each as [`double_write`] writes it.
+/// the data fork and of the resource fork, and their bytes after them, each as [`double_write`] writes it.
 /// [`single_read`](crate::single_read) gives the file again, with its name cut to 255 bytes, with 0 for dates before
 /// 882,045,953, and without its lock. The time is linear in both forks.
 ///
@@ -146,7 +146,7 @@ fn append_image(out: &mut Bytes, form: AppleForm, parts: &[PartRef<'_>]) -> Resu
     Ok(())
 }
 
-/// Appends the entries of parts whose bytes stand behind them.
+/// Appends the entries of parts whose bytes stand after them.
 fn append_entries(out: &mut Bytes, parts: &[PartRef<'_>]) -> Result<(), NoMemory>
     requires { 26 + 12 * length parts.now + length (bytes_of (parts_shown parts.now)) < 2 ^ 32 }
     ensures { OnOk result

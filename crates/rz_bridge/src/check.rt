@@ -40,7 +40,7 @@ const TABLE: [u16; 256] = [
     0x6E17, 0x7E36, 0x4E55, 0x5E74, 0x2E93, 0x3EB2, 0x0ED1, 0x1EF0,
 ];
 
-/// The CRC of 16 bits with the polynomial 0x1021, the highest bit first, of bytes behind others whose CRC is
+/// The CRC of 16 bits with the polynomial 0x1021, the highest bit first, of bytes after others whose CRC is
 /// `start`; the CRC of no bytes is 0. It takes no memory. (MacBinary II; RFC 1741.)
 pub fn crc(start: u16, bytes: &[u8]) -> u16
     ensures { result ≡ crc_of start bytes.now }

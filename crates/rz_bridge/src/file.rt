@@ -19,7 +19,7 @@ pub struct Finder {
     pub horizontal: i16,
     /// The number of the window or folder.
     pub folder: i16,
-    /// The 16 bytes behind these fields. AppleDouble and AppleSingle carry them; MacBinary carries the bytes 8 and 9, the
+    /// The 16 bytes after these fields. AppleDouble and AppleSingle carry them; MacBinary carries the bytes 8 and 9, the
     /// script and further flags.
     pub extra: [u8; 16],
 }
@@ -44,7 +44,7 @@ pub struct MacFile {
 }
 
 /// A law, which reads the numbers of the Finder's fields and does nothing with them: they have 32 and 16 bits, and 16
-/// bytes stand behind them.
+/// bytes stand after them.
 pub fn finder_is_stored(finder: &Finder)
     ensures { IsStored finder.now }
 {

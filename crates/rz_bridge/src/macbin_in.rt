@@ -17,8 +17,8 @@ const SIGNATURE: u32 = 0x6D42_494E;
 
 /// The file of a MacBinary II or III: name, type, creator, flags, position, folder, lock, dates and both forks. Of the
 /// last 16 bytes of the Finder's fields version III has the bytes 8 and 9, the script and further flags; those that the
-/// form doesn't have are zeros. A secondary header is skipped and a comment passes unread. Filler that is missing behind
-/// the last fork is no fault, nor is an empty fork that lies behind the file. There are fewer than 2^32 bytes.
+/// form doesn't have are zeros. A secondary header is skipped and a comment passes unread. Filler that is missing after
+/// the last fork is no fault, nor is an empty fork that lies after the file. There are fewer than 2^32 bytes.
 ///
 /// Refused with the first broken rule, in the order 421, 422, 427, 424, 425, 426 (see [`BridgeFault`]). (MacBinary II
 /// and III.)

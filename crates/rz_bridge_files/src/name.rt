@@ -33,7 +33,7 @@ pub fn taken_name(alloc: Global, path: &str) -> Result<Bytes, Stop<Fault>>
     }
 }
 
-/// A text in UTF-8 behind its mark.
+/// A text in UTF-8 after its mark.
 fn marked(alloc: Global, text: &str) -> Result<Bytes, NoMemory>
     ensures { IfOk result (λ source. source ≡ mark ++ text.now) }
 {

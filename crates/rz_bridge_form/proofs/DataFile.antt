@@ -18,7 +18,7 @@ module _ {X E : Type 0} (text : X → List ℕ) (result : Result X E) (folder sl
       by (Ok x) (own, is, named) = record { folder = folder ++ slash; last = last; own = own; parted = parted; named = named; is = is }
       by (Err fault) it = tt
 
--- lists that go on alike behind one element
+-- lists that go on alike after one element
 pub same_behind : (x : ℕ) (xs ys : List ℕ) → x ∷ xs ≡ x ∷ ys → xs ≡ ys
 same_behind x xs ys is = cc is
 

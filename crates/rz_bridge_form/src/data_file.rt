@@ -39,7 +39,7 @@ fn in_folder(alloc: Global, folder: &str, slash: &str, last: &str) -> Result<Str
     }
 }
 
-/// What stands behind `._`, where that isn't empty.
+/// What stands after `._`, where that isn't empty.
 fn behind_mark(last: &str) -> Option<&str>
     ensures { MatchOption result ((rest : List ℕ) → rest ≢ [] → last.now ≡ codes "._" ++ rest → ⊥)
         (λ name. (last.now ≡ codes "._" ++ name.now) × (name.now ≢ [])) }
@@ -53,7 +53,7 @@ fn behind_mark(last: &str) -> Option<&str>
     if name.is_empty() { None } else { Some(name) }
 }
 
-/// Four texts, one behind the other.
+/// Four texts, one after the other.
 fn joined(
     alloc: Global,
     folder: &str,

@@ -115,7 +115,7 @@ same_leaf one other is =
 pub flip_leaf : (one other : ℕ × ℕ × ℕ) → leaf_eq one other ≡ leaf_eq other one
 flip_leaf one other = λ i. (same_sym one.0 other.0 i && same_sym one.1 other.1 i) && same_sym one.2 other.2 i
 
--- a key that is noted behind others, where one of them is the same or none is
+-- a key that is noted after others, where one of them is the same or none is
 module _ {K : Type 0} (eq : K → K → Bool) (same : (one other : K) → eq one other ≡ true → one ≡ other) (flip : (one other : K) → eq one other ≡ eq other one)
     (keys : List K) (key k : K) where
   abbrev At : K → Option ℕ

@@ -14,7 +14,7 @@ module _ {A B F : Type 0} (answers : A → Result B F → Type 0) where
   one_behind x y xs is (Ok ys) are = inl (y, is, inl (ys, are, refl))
   one_behind x y xs is (Err fault) are = inl (y, is, inr (fault, are, refl))
 
-  -- what is answered behind these is the answer behind all
+  -- what is answered after these is the answer after all
   abbrev pub LeadTo : List A → List A → List B → Type 0
   LeadTo xs left so_far = (rest : Result (List B) F) → EachInOrder answers left rest → EachInOrder answers xs (seen (λ ys. so_far ++ ys) rest)
 

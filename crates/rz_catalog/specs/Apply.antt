@@ -73,7 +73,7 @@ fault_for over found twice e =
     ∷ unless (not twice) (fault_of 463 e)
     ∷ [])
 
--- an entry behind others is for the first resource that has its type and id
+-- an entry after others is for the first resource that has its type and id
 abbrev pub entry_fault : Bool → List Stocked → List Entry → Entry → Option Fault
 entry_fault over stock before e = fault_for over (first_such (λ s. is_entry_for s.resource e) stock) (list_any (same_leaf e) before) e
 

@@ -22,7 +22,7 @@ use std::alloc::Global;
 /// the others keep theirs.
 ///
 /// Otherwise the fault is the first of the first refused entry, with its mark: 462 where no resource has such a leaf, 219
-/// where the resource is protected and `over` isn't set, 463 where an entry before is for the same leaf. Behind these comes
+/// where the resource is protected and `over` isn't set, 463 where an entry before is for the same leaf. After these comes
 /// 464, in the order of the list, where a changed row spells no bytes that tell it again, with the mark of the resource's
 /// first entry. Each keeps the type and the id. Its time is in proportion to the entries and to what is read and spelled; it
 /// takes the memory of one row beside the list, and of a key for each resource and entry.

@@ -40,7 +40,7 @@ pub fn leaf_key(entry: &Entry) -> LeafKey
     (entry.kind.code, entry.id.cast_unsigned(), entry.leaf)
 }
 
-/// Notes the position of an item behind others, unless one of them has its key.
+/// Notes the position of an item after others, unless one of them has its key.
 pub fn note(places: &mut Places, key: Key, position: usize) -> Result<(), NoMemory>
     ensures { OnOk result ((keys : List (ℕ × ℕ)) → length keys ≡ position → AreFirst key_eq keys places.old → AreFirst key_eq (keys ++ key ∷ []) places.new) }
 {
@@ -50,7 +50,7 @@ pub fn note(places: &mut Places, key: Key, position: usize) -> Result<(), NoMemo
     Ok(())
 }
 
-/// Notes the position of an entry for a leaf behind others, none of which is for it.
+/// Notes the position of an entry for a leaf after others, none of which is for it.
 pub fn note_leaf(places: &mut LeafPlaces, key: LeafKey, position: usize) -> Result<(), NoMemory>
     ensures { OnOk result ((keys : List (ℕ × ℕ × ℕ)) → length keys ≡ position → AreFirst leaf_eq keys places.old → AreFirst leaf_eq (keys ++ key ∷ []) places.new) }
 {

@@ -11,7 +11,7 @@ ghost use Rattle.rz_catalog_entries.specs.Stored.{AreEntriesIn};
 ghost use Rattle.rz_catalog_entries.specs.declared.entry.Entry.{Entry};
 ghost use Rattle.rz_types_table.specs.Table.{Declaration};
 
-/// A law, with nothing to run: behind entries a list has the same resources in the same order, each with its type, its id, its
+/// A law, with nothing to run: after entries a list has the same resources in the same order, each with its type, its id, its
 /// name and its attributes.
 pub fn resources_stay()
     ensures { (types : List Declaration) (moment : Moment) (over : Bool) (list new : List Resource) (entries : List Entry)

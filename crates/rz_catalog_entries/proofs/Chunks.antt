@@ -50,7 +50,7 @@ one_behind : (entries : List Entry) (entry : Entry) (answer : Result (List Entry
 one_behind entries entry (Ok more) = ap (λ (all : List Entry). Ok all) (sym (append_assoc entries (entry ∷ []) more))
 one_behind entries entry (Err fault) = refl
 
--- what the rest answers, behind these entries, is what the tokens answer
+-- what the rest answers, after these entries, is what the tokens answer
 pub record AreFirst (tokens : List Token) (entries : List Entry) (rest : List Token) : Type 0 where
   pub goes_on : (answer : Result (List Entry) Fault) → AreEntries rest answer → AreEntries tokens (behind_entries entries answer)
 

@@ -22,7 +22,7 @@ abbrev pub in_first : Token → List (List Token) → List (List Token)
 in_first token [] = (token ∷ []) ∷ []
 in_first token (chunk ∷ chunks) = (token ∷ chunk) ∷ chunks
 
--- the tokens cut behind each `;`; a rest behind the last one is a chunk, too
+-- the tokens cut after each `;`; a rest after the last one is a chunk, too
 abbrev pub chunks : List Token → List (List Token)
 chunks [] = []
 chunks (token ∷ tokens) = if is_the_sign Semicolon token.shape then (token ∷ []) ∷ chunks tokens else in_first token (chunks tokens)
@@ -33,7 +33,7 @@ first_mark (token ∷ tokens) = Some token.mark
 
 -- Entries.
 
--- an id: a number, behind a minus sign or none
+-- an id: a number, after a minus sign or none
 abbrev pub id_shapes : (minus : Bool) → ℕ → List Shape
 id_shapes false number = Number number ∷ []
 id_shapes true number = Sign Minus ∷ Number number ∷ []

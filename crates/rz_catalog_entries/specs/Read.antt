@@ -71,7 +71,7 @@ abbrev pub text_or_end : Shape → (behind : List Shape) → (others : Option (L
 text_or_end (shapes.Text bytes) behind others = option_map (λ more. bytes ++ more) others
 text_or_end shape behind others = if is_the_sign Semicolon shape && is_nothing behind then Some [] else None
 
--- texts, and `;` behind them
+-- texts, and `;` after them
 abbrev pub texts_in : List Shape → Option (List ℕ)
 texts_in [] = None
 texts_in (shape ∷ shapes) = text_or_end shape shapes (texts_in shapes)

@@ -19,16 +19,16 @@ struct Front<'a> {
     id: i16,
     /// The place of the text.
     leaf: u32,
-    /// What stands behind them.
+    /// What stands after them.
     texts: &'a [Token],
 }
 
-/// The entries that the tokens are, in order. Each is a literal of four bytes, the type; the id, a number, behind a minus
+/// The entries that the tokens are, in order. Each is a literal of four bytes, the type; the id, a number, after a minus
 /// sign or none; the place of the text, a number; one text token or more, which are joined; and `;`. It has the mark of its
 /// first token, and lines play no part. Time and memory are linear in the tokens.
 ///
 /// Refused is the first entry that has another form, or whose id isn't from -32768 to 32767: 461 BadEntry, at its first
-/// token. Tokens behind the last `;` are an entry, too.
+/// token. Tokens after the last `;` are an entry, too.
 pub fn read_entries(alloc: Global, tokens: &Tokens) -> Result<Entries, Stop<Fault>>
     ensures { Meets result (AreEntries tokens.now) }
 {
@@ -144,7 +144,7 @@ fn number_in(token: &Token) -> Option<u32>
     }
 }
 
-/// The id that a number is behind a minus sign or none, where it has 16 bits.
+/// The id that a number is after a minus sign or none, where it has 16 bits.
 fn id_in(minus: bool, number: u32) -> Option<i16>
     ensures { result ≡ id_in (id_value minus number) }
 {
@@ -157,7 +157,7 @@ fn id_in(minus: bool, number: u32) -> Option<i16>
     }
 }
 
-/// The texts that the tokens are, joined, where there is one and `;` stands behind them.
+/// The texts that the tokens are, joined, where there is one and `;` stands after them.
 fn text_in(alloc: Global, tokens: &[Token]) -> Result<Option<Bytes>, NoMemory>
     ensures { IfOk result (λ text. text ≡ text_in (shapes_of tokens.now)) }
 {

@@ -53,7 +53,7 @@ goes_on whole into next text piece others so_far put are long some =
 pub ends : (whole into next text : List ℕ) → whole ≡ into ++ pieces_text text → length text ≤ 64 → next ≡ into ++ piece_text text (59 ∷ 10 ∷ []) → next ≡ whole
 ends whole into next text so_far fits put = put ∙ ap (λ (x : List ℕ). into ++ x) (sym (last_text text fits)) ∙ sym so_far
 
--- Entries, one behind the other.
+-- Entries, one after the other.
 
 lines_go_on : (front back : List (List Written)) → lines_text (front ++ back) ≡ lines_text front ++ lines_text back
 lines_go_on [] back = refl

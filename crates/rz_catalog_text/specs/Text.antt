@@ -12,7 +12,7 @@ use Rattle.rz_show_lines.specs.Written.{a_blank, a_literal, a_number, a_sign, li
 abbrev pub head_line : Entry → List Written
 head_line entry = a_literal (be 4 entry.kind.code) ∷ a_blank ∷ (signed_written entry.id ++ a_blank ∷ a_number entry.leaf ∷ [])
 
--- behind them the text, one level deep, in pieces that stand on lines of their own; `;` stands behind the last one
+-- after them the text, one level deep, in pieces that stand on lines of their own; `;` stands after the last one
 abbrev pub entry_lines : Entry → List (List Written)
 entry_lines entry = head_line entry ∷ text_lines 1 (a_sign Semicolon ∷ []) false entry.text
 

@@ -10,7 +10,7 @@ use rz_core::{Bytes, NoMemory, write_decimal, write_quoted, write_signed, write_
 const PIECE: usize = 64;
 
 /// Appends an entry: a line with the type as a literal, the id and the place of the text, with a blank between; and the
-/// text in pieces of 64 bytes, each between `"` on a line of its own behind four blanks, with `;` behind the last one.
+/// text in pieces of 64 bytes, each between `"` on a line of its own after four blanks, with `;` after the last one.
 /// Bytes outside of 20 to 7E are written as `\0x` and two hex digits. An empty text is one piece. Where memory is refused
 /// `into` is unchanged.
 pub fn write_entry(entry: &Entry, into: &mut Bytes) -> Result<(), NoMemory>
@@ -50,7 +50,7 @@ fn append_pieces(text: &[u8], into: &mut Bytes) -> Result<(), NoMemory>
     append_piece(rest, b";\n", into)
 }
 
-/// Appends a piece behind four blanks, and what ends its line.
+/// Appends a piece after four blanks, and what ends its line.
 fn append_piece(piece: &[u8], end: &[u8], into: &mut Bytes) -> Result<(), NoMemory>
     ensures { OnOk result (into.new ≡ into.old ++ piece_text piece.now end.now) }
 {

@@ -105,7 +105,7 @@ line_by_line (line ∷ lines) = ap (λ (x : List Shape). line_shapes line ++ x) 
 
 -- They are read.
 
--- a chunk is cut behind its `;`
+-- a chunk is cut after its `;`
 cut_off : (front rest : List Token) (before : List Shape) → shapes_in front ≡ before ++ shapes.Sign Semicolon ∷ [] → AllByRecursion (λ shape. is_the_sign Semicolon shape ≡ false) before
     → chunks (front ++ rest) ≡ front ∷ chunks rest
 cut_off [] rest [] are others = absurd cc

@@ -134,7 +134,7 @@ module _ {A : Type 0} where
 
 -- Cuts with an item between.
 
--- an item, what stands before it, and what behind it, of the kind
+-- an item, what stands before it, and what after it, of the kind
 pub record Split {A : Type 0} (P : List A → A → List A → Type 0) (xs : List A) : Type 0 where
   pub front : List A
   pub item : A
@@ -164,7 +164,7 @@ module _ {A : Type 0} (P : List A → A → List A → Type 0) (xs : List A) whe
       from : Split P xs → Cut (AtItem P) xs
       from s = record { front = s.front; rest = s.item ∷ s.back; are = s.are; is = s.is }
 
--- what stands before an item, and what behind it, is shorter
+-- what stands before an item, and what after it, is shorter
 pub parts_few : {A : Type 0} (n : ℕ) (xs front : List A) (item : A) (back : List A) → xs ≡ front ++ item ∷ back → length xs ≤ suc n → (length front ≤ n) × (length back ≤ n)
 parts_few {A} n xs front item back are few =
     let sum = length-append front (item ∷ back) in

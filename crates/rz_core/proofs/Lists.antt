@@ -30,7 +30,7 @@ module _ {A F : Type 0} (rule : List A → A → Option F) (xs : List A) (i : �
       ∙ ap (λ (y : A). or_else (rule (take i xs) y) (first_in rule (take i xs ++ y ∷ []) (drop (i + 1) xs))) (get_or_from_slice_get xs i x x is)
       ∙ ap (λ (front : List A). or_else (rule (take i xs) x) (first_in rule front (drop (i + 1) xs))) (sym (take_at_more xs i x is))
 
-  -- an item that keeps the rule leaves the first fault to those behind it
+  -- an item that keeps the rule leaves the first fault to those after it
   pub first_in_more : rule (take i xs) x ≡ None → first_in rule (take (i + 1) xs) (drop (i + 1) xs) ≡ first_in rule (take i xs) (drop i xs)
   first_in_more keeps = sym (first_in_at ∙ ap (λ (o : Option F). or_else o (first_in rule (take (i + 1) xs) (drop (i + 1) xs))) keeps)
 
@@ -38,7 +38,7 @@ module _ {A F : Type 0} (rule : List A → A → Option F) (xs : List A) (i : �
   pub first_in_stop : (fault : F) → rule (take i xs) x ≡ Some fault → first_in rule (take i xs) (drop i xs) ≡ Some fault
   first_in_stop fault breaks = first_in_at ∙ ap (λ (o : Option F). or_else o (first_in rule (take (i + 1) xs) (drop (i + 1) xs))) breaks
 
--- behind the last item there is no fault
+-- after the last item there is no fault
 pub first_in_end : {A F : Type 0} (rule : List A → A → Option F) (xs : List A) (i : ℕ) → length xs ≤ i → first_in rule (take i xs) (drop i xs) ≡ None
 first_in_end rule xs i past = at_drop_all (first_in rule (take i xs)) xs i past
 

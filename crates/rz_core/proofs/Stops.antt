@@ -66,7 +66,7 @@ module _ {X F : Type 0} (answers : Result X F → Type 0) (once : Once answers) 
   yields_every (Err halts.ReadFault) yields = tt
   yields_every (Err halts.NoMemory) yields = tt
 
--- One call behind another.
+-- One call after another.
 
 module _ {X Y F : Type 0} (first : Result X F → Type 0) (next : X → Result Y F → Type 0) where
   pub then_meets : (x : X) → first (Ok x) → (result : Result Y (Stop F)) → Meets result (next x) → Meets result (Then first next)

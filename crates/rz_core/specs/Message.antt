@@ -177,7 +177,7 @@ abbrev pub place_text : List (List ℕ) → Option Mark → List ℕ
 place_text files None = []
 place_text files (Some mark) = get_or files mark.file [] ++ codes ":" ++ decimal_of mark.line ++ codes ": "
 
--- what a fault keeps, behind a colon
+-- what a fault keeps, after a colon
 abbrev pub kept_text : Kept → List ℕ
 kept_text kept.Nothing = []
 kept_text (kept.Number number) = codes ": " ++ signed_of number

@@ -28,7 +28,7 @@ length-be_4 number = refl
 unfoldable pub number : ℕ → List ℕ → ℕ → ℕ
 number count bytes place = big_number count (drop place bytes)
 
--- so many items that stand one behind the other, each in so many bytes, the first at a place
+-- so many items that stand one after the other, each in so many bytes, the first at a place
 abbrev pub items_from : {A : Type 0} → (ℕ → A) → ℕ → ℕ → ℕ → List A
 items_from item size place zero = []
 items_from item size place (suc count) = item place ∷ items_from item size (place + size) count

@@ -1,4 +1,4 @@
--- What is left behind one more reference or type.
+-- What is left after one more reference or type.
 use Rattle.std.proofs.Common.{◌≡◌, ◌⊎◌, inl, inr, ℕ, ◌+◌, ◌*◌, ◌≤◌, ◌<◌, true, false, if◌then◌else◌, is_some, Bool, List, [], ◌∷◌, ◌++◌, length, take, drop, slice_get, IfNone, Some, None, refl, sym, ap, ◌∙◌, arith}
 use Rattle.std.proofs.lemmas.List.{append_assoc, at_drop_more, at_drop_all}
 use Rattle.std.proofs.lemmas.Option.{slice_get_within, get_or_from_slice_get}
@@ -112,7 +112,7 @@ module _ (bytes : List ℕ) (o : Outline) (at : Cursor) (t : TypeEntry) (is : sl
   counted : at.so_far + t.count ≡ count_of (take (at.begun + 1) (entries bytes o))
   counted = omega (arith, count_more (entries bytes o) at.begun t is, here.so_far)
 
-  -- the place behind a type whose references aren't tested
+  -- the place after a type whose references aren't tested
   pub at_past : IsAt bytes o (record { entry = at.entry; next = at.next; begun = at.begun + 1; so_far = at.so_far + t.count })
   at_past = record { list = here.list; begun = omega arith; so_far = counted; few = omega (arith, here.few) }
 
@@ -137,7 +137,7 @@ pub all_left : (bytes : List ℕ) (outline : Option Outline) (area : Bool) → l
 all_left bytes None area = refl
 all_left bytes (Some o) area = ap (λ (first : List ForkFault). first ++ flat_map (λ pass. in_types pass bytes o) (behind area Lists)) (from_start Lists bytes o start (omega arith) refl)
 
--- behind a rule that finds nothing more the next begins
+-- after a rule that finds nothing more the next begins
 pub next_rule : (bytes : List ℕ) (o : Outline) (area : Bool) (pass next : Pass) (at : Cursor) → left_here pass bytes o at ≡ [] → behind area pass ≡ next ∷ behind area next
     → left_in area pass bytes o at ≡ left_in area next bytes o start
 next_rule bytes o area pass next at none is =

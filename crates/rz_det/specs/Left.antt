@@ -38,7 +38,7 @@ on_type Ids bytes o before t = whole_faults admit.Id bytes o before t
 abbrev pub in_types : Pass → List ℕ → Outline → List ForkFault
 in_types pass bytes o = with_front (on_type pass bytes o) [] (entries bytes o)
 
--- the rules behind a rule; that on data is tested where the data area lies in the fork
+-- the rules after a rule; that on data is tested where the data area lies in the fork
 abbrev pub behind : Bool → Pass → List Pass
 behind area Lists = if area then Data ∷ Names ∷ Codes ∷ Ids ∷ [] else Names ∷ Codes ∷ Ids ∷ []
 behind area Data = Names ∷ Codes ∷ Ids ∷ []
@@ -63,7 +63,7 @@ types_left pass bytes o begun = with_front (on_type pass bytes o) (take begun (e
 abbrev pub left_here : Pass → List ℕ → Outline → Cursor → List ForkFault
 left_here pass bytes o at = references_left pass bytes o at.entry at.next ++ types_left pass bytes o at.begun
 
--- what it and those behind it still find
+-- what it and those after it still find
 abbrev pub left_in : Bool → Pass → List ℕ → Outline → Cursor → List ForkFault
 left_in area pass bytes o at = left_here pass bytes o at ++ flat_map (λ later. in_types later bytes o) (behind area pass)
 

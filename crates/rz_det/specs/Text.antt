@@ -14,7 +14,7 @@ rule_name number = unwrap_or (fault_name number) []
 unfoldable pub rule_of : ℕ → List ℕ
 rule_of number = decimal_of number ++ codes " " ++ rule_name number
 
--- a word and a number behind it
+-- a word and a number after it
 unfoldable pub told : List ℕ → ℕ → List ℕ
 told word number = word ++ decimal_of number
 

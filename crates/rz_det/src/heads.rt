@@ -62,7 +62,7 @@ pub fn read_heads(bytes: &[u8]) -> Heads
     }
 }
 
-/// These faults, behind which types and references aren't looked at.
+/// These faults, after which types and references aren't looked at.
 fn broken(faults: [Option<ForkFault>; HEAD_RULES]) -> Heads
     ensures faults { result.faults ≡ faults }
     ensures outline { result.outline ≡ None }

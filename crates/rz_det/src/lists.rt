@@ -54,7 +54,7 @@ pub const START: Cursor = Cursor {
     so_far: 0,
 };
 
-/// The rule that is tested behind this one; that on data is only where the data area lies in the fork.
+/// The rule that is tested after this one; that on data is only where the data area lies in the fork.
 fn after(pass: Pass, area: bool) -> Option<Pass>
     ensures passes { MatchOption result (behind area pass ≡ []) (λ next. behind area pass ≡ next ∷ behind area next) }
     ensures tested { IfSome result (λ next. next ≡ passes.Data → area ≡ true) }
@@ -199,7 +199,7 @@ fn next_in_pass(
     }
 }
 
-/// The next fault of this rule and of those behind it.
+/// The next fault of this rule and of those after it.
 pub fn next_in_lists(
     bytes: &[u8],
     outline: Outline,

@@ -72,7 +72,7 @@ fn append_rule(number: u16, text: &mut Bytes) -> Result<(), NoMemory>
     Ok(())
 }
 
-/// Appends a word and a number behind it.
+/// Appends a word and a number after it.
 #[tactic(auto, unfolding(crate::specs::Text::told))]
 fn append_number(word: &[u8], number: u64, text: &mut Bytes) -> Result<(), NoMemory>
     ensures { OnOk result (text.new ≡ text.old ++ told word.now number) }

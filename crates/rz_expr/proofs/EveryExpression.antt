@@ -67,7 +67,7 @@ HasName function a b c = (word : Word) × (argument function (a ∷ b ∷ c ∷ 
 has_name : (function : Function) (a b c : Token) → Dec (HasName function a b c)
 has_name function a b c = some_of (argument function (a ∷ b ∷ c ∷ []))
 
--- What stands behind the first token of an operand.
+-- What stands after the first token of an operand.
 
 -- an expression, and the bracket that closes it as the last token
 abbrev Closed : After → List Token → Token → List Token → Type 0

@@ -24,7 +24,7 @@ gone after label ts frames = went_on after frames (wants ts frames) (λ below. h
 abbrev pub behind_name : Function → Option Word → List Token → List Frame → Bool
 behind_name function word ts frames = named function word (haves false ts frames) (wants ts (InStart ∷ frames))
 
--- What follows an expression is read as behind an operand.
+-- What follows an expression is read as after an operand.
 pub flat : {level : ℕ} {xs : List Token} {e : Term} (d : Derives level xs e) (ys : List Token) (frames : List Frame) → wants (xs ++ ys) frames ≡ haves (ends_labelled d) ys frames
 flat (operand {t} is) ys frames = ap (λ s. begun s ys frames) is
 flat (labelled {t} is) ys frames = ap (λ s. begun s ys frames) is
@@ -111,7 +111,7 @@ index_so : (label want want2 answer : Bool) → (want ≡ true → want2 ≡ ans
 index_so true want want2 answer w is = w is
 index_so false want want2 answer w is = absurd (false≢true is)
 
--- Behind tokens that complete an expression the rest, which begins no index, is read as behind an operand.
+-- After tokens that complete an expression the rest, which begins no index, is read as after an operand.
 module _ (ys : List Token) (plain : haves true ys [] ≡ haves false ys []) where
   plain_at : (label : Bool) → haves label ys [] ≡ haves false ys []
   plain_at true = plain
@@ -137,7 +137,7 @@ module _ (ys : List Token) (plain : haves true ys [] ≡ haves false ys []) wher
     accepted_call f (a ∷ b ∷ c ∷ ts) frames h =
         named_so f (argument f (a ∷ b ∷ c ∷ [])) _ _ _ _ (haves false ys []) (accepted_behind false ts frames) (accepted ts (InStart ∷ frames)) h
 
--- What completes a frame has the frame's end, complete before it and read on behind it.
+-- What completes a frame has the frame's end, complete before it and read on after it.
 
 abbrev passed : Frame → List Token → List Frame → Bool
 passed Group ts below = haves false ts below
@@ -326,7 +326,7 @@ at_most : (op : BinaryOp) → level_of op ≤ loosest
 at_most two.Times = omega arith
 at_most _ = omega arith
 
--- tokens behind an operand that complete an expression begin with an operator, and complete one behind it, or else behind a
+-- tokens after an operand that complete an expression begin with an operator, and complete one after it, or else after a
 -- label with an index
 operates : (a : After) (label : Bool) (t : Token) (ts : List Token) → after_of t.shape ≡ a → gone a label ts [] ≡ true
     → ((op : BinaryOp) × (after_of t.shape ≡ Operates op) × (wants ts [] ≡ true)) ⊎ ((label ≡ true) × (after_of t.shape ≡ Indexes) × (wants ts (InIndex ∷ []) ≡ true))
@@ -338,7 +338,7 @@ operates Separates label t ts is h = absurd (false≢true h)
 operates EndsIndex label t ts is h = absurd (false≢true h)
 operates NoAfter label t ts is h = absurd (false≢true h)
 
--- behind an expression that stops, no longer front completes one
+-- after an expression that stops, no longer front completes one
 pub no_longer : {xs : List Token} {e : Term} (d : Derives loosest xs e) (rest : List Token) → Stops loosest (ends_labelled d) rest → (more left : List Token) → rest ≡ more ++ left
     → wants (xs ++ more) [] ≡ true → more ≡ []
 no_longer d rest stops [] left is h = refl

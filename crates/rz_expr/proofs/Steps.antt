@@ -32,7 +32,7 @@ one_level : (op : BinaryOp) → level_of op ≤ 0 → ⊥
 one_level two.Times low = omega (arith, low)
 one_level _ low = omega (arith, low)
 
--- no operator is as tight as an operand, and no index stands behind one that is no label
+-- no operator is as tight as an operand, and no index stands after one that is no label
 pub stops_zero : (ts : List Token) → Stops 0 false ts
 stops_zero ts = record {
   operator = λ t rest op is operates low. absurd (one_level op low);
@@ -132,7 +132,7 @@ numbered_front word ts n = is_front 0 ts (n.t ∷ n.a ∷ n.b ∷ n.c ∷ []) n.
 pub data_front : (width : ℕ) (word : Word) (ts : List Token) → Named (Data width) word ts → IsFront 0 ts 4 (BitsAt word.bytes (Constant (pos 0)) (Constant (pos width)))
 data_front width word ts n = is_front 0 ts (n.t ∷ n.a ∷ n.b ∷ n.c ∷ []) n.rest 4 _ n.whole refl (omega arith) (data_at n.start n.name) (stops_zero n.rest)
 
--- behind the name of a bit field
+-- after the name of a bit field
 field_front : (word : Word) (ts : List Token) (n : Named BitField word ts) → ((front left : List Token) → n.rest ≡ front ++ left → wants front (InStart ∷ []) ≡ true → ⊥) → NoneBegins ts
 field_front word ts n none = subst NoneBegins (sym n.whole) (first_is (Calls BitField) n.t (n.a ∷ n.b ∷ n.c ∷ n.rest) n.start behind)
   where
@@ -234,7 +234,7 @@ begins_index (Operates op) at = absurd (false≢true at)
 begins_index EndsIndex at = absurd (false≢true at)
 begins_index NoAfter at = absurd (false≢true at)
 
--- a label behind which no index goes on
+-- a label after which no index goes on
 label_read : (name : List ℕ) (t : Token) (ts : List Token) → start_of t.shape ≡ Label name
     → ((x : Token) (rest : List Token) → ts ≡ x ∷ rest → after_of x.shape ≡ Indexes → NoneEnds InIndex rest) → IsFront 0 (t ∷ ts) 1 (NamedTerm name)
 label_read name t ts is none = is_front 0 (t ∷ ts) (t ∷ []) ts 1 (NamedTerm name) refl refl (omega arith) (labelled is) stops
@@ -268,7 +268,7 @@ index_read (t ∷ x ∷ ts) name n e is at f =
     (indexed x f.ended.end is (begins_index _ at) f.ended.derives (closes_index _ f.ended.ends))
     (stops_zero (drop n ts))
 
--- The same of the tokens behind the first four.
+-- The same of the tokens after the first four.
 
 field_rest : (word : Word) (ts : List Token) (n : Named BitField word ts) → drop 4 ts ≡ n.rest
 field_rest word ts n = ap (drop 4) n.whole

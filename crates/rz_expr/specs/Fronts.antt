@@ -20,7 +20,7 @@ started Bracket have want bracket call = bracket
 started (Calls function) have want bracket call = call function
 started NoStart have want bracket call = false
 
--- what is answered behind a function's name
+-- what is answered after a function's name
 abbrev pub named : Function → Option Word → Bool → Bool → Bool
 named function None have want = false
 named CountOf (Some word) have want = have
@@ -39,8 +39,8 @@ ends InWidth after = closes after
 ends InStart after = separates after
 ends InIndex after = ends_index after
 
--- one answer of each kind: an operand wanted, what is answered inside the frames below, behind a width, a bracket or an
--- index, and behind a start, and an index wanted
+-- one answer of each kind: an operand wanted, what is answered inside the frames below, after a width, a bracket or an
+-- index, and after a start, and an index wanted
 abbrev pub went_on : After → List Frame → Bool → (List Frame → Bool) → (List Frame → Bool) → Bool → Bool
 went_on (Operates op) frames want close separate index = want
 went_on Closes (Group ∷ frames) want close separate index = close frames
@@ -54,8 +54,8 @@ abbrev pub nothing_open : List Frame → Bool
 nothing_open [] = true
 nothing_open (frame ∷ frames) = false
 
--- the tokens complete an expression inside these frames: where an operand is wanted; behind one, which is a label by itself
--- or not; and behind a function
+-- the tokens complete an expression inside these frames: where an operand is wanted; after one, which is a label by itself
+-- or not; and after a function
 abbrev mutual
   pub wants : List Token → List Frame → Bool
   wants [] frames = false
@@ -93,7 +93,7 @@ ends_labelled (bits_at comma close is name start separates width closes) = false
 ends_labelled (tighter d) = ends_labelled d
 ends_labelled (binary xs ys t is at left right) = ends_labelled right
 
--- behind an operator of at most this level no operand begins, and behind a label no index
+-- after an operator of at most this level no operand begins, and after a label no index
 pub record Stops (level : ℕ) (label : Bool) (ts : List Token) : Type 0 where
   pub operator : (t : Token) (rest : List Token) (op : BinaryOp) → ts ≡ t ∷ rest → after_of t.shape ≡ Operates op → level_of op ≤ level → NoneBegins rest
   pub index : (t : Token) (rest : List Token) → label ≡ true → ts ≡ t ∷ rest → after_of t.shape ≡ Indexes → NoneEnds InIndex rest

@@ -28,7 +28,7 @@ pub data Start : Type 0 where
   Calls : Function → Start  -- a function, whose name in brackets follows
   NoStart : Start
 
--- the number whose digits to the base 256 these bytes are, behind a number
+-- the number whose digits to the base 256 these bytes are, after a number
 abbrev pub bytes_number : ℕ → List ℕ → ℕ
 bytes_number number [] = number
 bytes_number number (b ∷ bs) = bytes_number (256 * number + b) bs
@@ -57,7 +57,7 @@ start_of (shapes.Text bytes) = NoStart
 start_of (shapes.Word word) = word_start (role_of word.bytes) word.bytes
 start_of (shapes.Sign sign) = sign_start sign
 
--- What a token is behind an operand.
+-- What a token is after an operand.
 
 pub data After : Type 0 where
   Operates : BinaryOp → After  -- an operator between operands
@@ -137,7 +137,7 @@ abbrev pub separates : After → Bool
 separates Separates = true
 separates other = false
 
--- behind the name the brackets of a bit field go on, and all others end
+-- after the name the brackets of a bit field go on, and all others end
 abbrev pub ends_name : Function → After → Bool
 ends_name CountOf after = closes after
 ends_name ArrayIndex after = closes after
@@ -152,7 +152,7 @@ abbrev pub named_by : Function → Shape → Option Word
 named_by function (shapes.Word word) = if may_name function (role_of word.bytes) then Some word else None
 named_by function other = None
 
--- the name behind a function's word: a bracket, the name, and what goes on or ends behind it
+-- the name after a function's word: a bracket, the name, and what goes on or ends after it
 abbrev pub argument : Function → List Token → Option Word
 argument function [] = None
 argument function (a ∷ []) = None

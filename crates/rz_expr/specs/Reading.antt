@@ -30,7 +30,7 @@ abbrev pub prefix_count : List Token → ℕ
 prefix_count [] = 0
 prefix_count (t ∷ ts) = if is_some (prefix_at t.shape) then suc (prefix_count ts) else 0
 
--- an operand behind these operators
+-- an operand after these operators
 abbrev pub under : Option UnaryOp → Term → Term
 under None e = e
 under (Some op) e = OfOne op e
@@ -78,7 +78,7 @@ pub record IsFront (level : ℕ) (ts : List Token) (n : ℕ) (e : Term) : Type 0
   pub within : n ≤ length ts
   pub reads : Reads level ts (drop n ts) e
 
--- an expression, and behind it the end of what is open
+-- an expression, and after it the end of what is open
 pub record Ended (frame : Frame) (ts rest : List Token) (e : Term) : Type 0 where
   pub front : List Token
   pub end : Token

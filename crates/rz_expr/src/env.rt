@@ -53,7 +53,7 @@ pub trait Env {
     fn row(&self, array: &Word) -> Option<i32>
         ensures { result ≡ option_map reduced ((view self.now).names.give (row_key array.now.bytes)) };
 
-    /// The unsigned number in the bits, as many as `width` says, from 1 to 32, that begin `start` bits behind
+    /// The unsigned number in the bits, as many as `width` says, from 1 to 32, that begin `start` bits after
     /// a label; `None` where they aren't there.
     fn bits(&self, name: &Word, start: i32, width: i32) -> Option<u32>
         requires { (pos 1 ≤ℤ width) × (width ≤ℤ pos 32) }

@@ -69,7 +69,7 @@ pub enum Expr {
     Count(Word),
     /// The number of the row of an array in which it stands, from 1.
     ArrayIndex(Word),
-    /// The bits that begin so many bits behind a label, as many as the last operand says.
+    /// The bits that begin so many bits after a label, as many as the last operand says.
     Bits(Word, Box<Expr>, Box<Expr>),
     /// A fact of the resource or the moment.
     Fact(FactWord),

@@ -192,7 +192,7 @@ fn is_index(token: &Token) -> bool
     matches!(&token.shape, Shape::Sign(Sign::OpenBracket))
 }
 
-/// The name behind a function's word: a bracket, the name, and what goes on or ends behind it.
+/// The name after a function's word: a bracket, the name, and what goes on or ends after it.
 pub fn argument(function: Function, tokens: &[Token]) -> Option<&Word>
     ensures { option_copied result ≡ argument function tokens.now }
 {

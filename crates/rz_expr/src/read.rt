@@ -25,7 +25,7 @@ const LOOSEST: u8 = 10;
 pub struct ReadExpr {
     /// The expression.
     pub expr: Expr,
-    /// The position of the token behind it.
+    /// The position of the token after it.
     pub end: u64,
 }
 
@@ -91,7 +91,7 @@ pub fn read_whole(alloc: Global, tokens: &[Token]) -> Result<Option<Expr>, NoMem
     }
 }
 
-/// The tokens behind the first so many.
+/// The tokens after the first so many.
 fn behind(tokens: &[Token], n: usize) -> &[Token]
     requires { n ≤ length tokens.now }
     ensures { result.now ≡ drop n tokens.now }
@@ -168,7 +168,7 @@ fn read_prefixed(alloc: Global, tokens: &[Token]) -> Result<Option<Front>, NoMem
     }
 }
 
-/// An operand behind these operators.
+/// An operand after these operators.
 #[tactic(auto, using(crate::proofs::Prefixes::last_prefix))]
 fn prefixed(alloc: Global, signs: &[Token], operand: Expr) -> Result<Expr, NoMemory>
     ensures { IfOk result (λ expr. term_of expr ≡ prefixed_term signs.now (term_of operand)) }
@@ -277,7 +277,7 @@ fn read_word(alloc: Global, tokens: &[Token], word: &Word) -> Result<Option<Fron
     }
 }
 
-/// A label, with the index behind it where one is there: where what begins as one goes on otherwise, the label
+/// A label, with the index after it where one is there: where what begins as one goes on otherwise, the label
 /// alone is read.
 #[cycle(read)]
 fn read_label(alloc: Global, tokens: &[Token], label: &Word) -> Result<Option<Front>, NoMemory>
@@ -355,7 +355,7 @@ fn read_data(alloc: Global, tokens: &[Token], width: u8) -> Result<Option<Front>
     }
 }
 
-/// The bits behind a label, from a start on and as many as a width says.
+/// The bits after a label, from a start on and as many as a width says.
 fn bits_at(alloc: Global, label: &Word, start: Expr, width: Expr) -> Result<Expr, NoMemory>
     ensures { IfOk result (λ expr. term_of expr ≡ BitsAt label.now.bytes (term_of start) (term_of width)) }
 {
@@ -424,7 +424,7 @@ fn read_group(alloc: Global, tokens: &[Token]) -> Result<Option<Front>, NoMemory
     }
 }
 
-/// An expression, and behind it the end of what is open.
+/// An expression, and after it the end of what is open.
 #[cycle(read)]
 fn read_until(alloc: Global, tokens: &[Token], frame: Frame) -> Result<Option<Front>, NoMemory>
     ensures { IfOk result (λ found. MatchOption found (NoneEnds frame tokens.now)

@@ -23,7 +23,7 @@ pub enum EvalFault {
     UnknownName(Word),
     /// The index of a label isn't the number of a row.
     BadIndex(i32),
-    /// Bits that are not there: the first of them, and the one behind the last.
+    /// Bits that are not there: the first of them, and the one after the last.
     LaterData(i64, i64),
     /// Bits are asked for, but not 1 to 32 of them.
     DataWidth(i32),
@@ -40,7 +40,7 @@ pub enum Unvalued<'a> {
     UnknownName(&'a Word),
     /// The index of a label isn't the number of a row.
     BadIndex(i32),
-    /// Bits that are not there: the first of them, and the one behind the last.
+    /// Bits that are not there: the first of them, and the one after the last.
     LaterData(i64, i64),
     /// Bits are asked for, but not 1 to 32 of them.
     DataWidth(i32),
@@ -142,7 +142,7 @@ fn place_in_row<'a, E: Env>(env: &E, label: &'a Word, number: i32) -> Result<i32
     }
 }
 
-/// The number in the bits, as many as `width` says, that begin `start` bits behind a name whose value is
+/// The number in the bits, as many as `width` says, that begin `start` bits after a name whose value is
 /// `place`.
 fn number_at<'a, E: Env>(
     env: &E,
@@ -163,7 +163,7 @@ fn number_at<'a, E: Env>(
     }
 }
 
-/// So many bits that begin so far behind a place aren't there.
+/// So many bits that begin so far after a place aren't there.
 fn later_data<'a>(place: i32, start: i32, width: i32) -> Unvalued<'a>
     ensures { fault_of result ≡ fault.LaterData (place +ℤ start) (place +ℤ start +ℤ width) }
 {

@@ -1,4 +1,4 @@
--- Fronts of texts that are put one behind the other.
+-- Fronts of texts that are put one after the other.
 use Rattle.std.proofs.Common.{◌≡◌, ℕ, zero, suc, ◌+◌, List, [], ◌∷◌, ◌++◌, length, take, Some, None, refl, sym, ap, ◌∙◌, arith}
 use Rattle.std.specs.declared.option.Option.{Option}
 use Rattle.std.proofs.lemmas.List.{take_all}
@@ -28,7 +28,7 @@ front_behind n (x ∷ xs) ys = ap (λ (l : List ℕ). x ∷ l) (front_behind n x
     more : suc (length xs + n) ≡ length (x ∷ xs) + n
     more = omega arith
 
--- a put that was done, and a flush behind it
+-- a put that was done, and a flush after it
 pub flushed : (piece : List ℕ) (before mid after : Option (List ℕ)) (result : Put) → Puts piece before mid Done → after ≡ mid → Puts piece before after result
 flushed piece None mid after result told kept = tt
 flushed piece (Some before) mid after Done told kept = kept ∙ told

@@ -14,7 +14,7 @@ module _ {F : Type 0} (files : F → Option Files) (read_faults write_faults : F
     cause = λ never. absurd never;
   }
 
-  -- a call behind others
+  -- a call after others
   pub reads_on : (s t u : F) (P Q R : Type 0) → OnlyReads files read_faults write_faults s t P → OnlyReads files read_faults write_faults t u Q → (R → Q)
       → OnlyReads files read_faults write_faults s u R
   reads_on s t u P Q R first second so = record {

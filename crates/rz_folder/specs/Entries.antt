@@ -1,4 +1,4 @@
--- Names and contents that lie one behind the other in a store of bytes.
+-- Names and contents that lie one after the other in a store of bytes.
 use Rattle.std.specs.Prelude.{ℕ, ◌≤◌, ◌<◌, ◌+◌, ◌^◌, List, [], ◌∷◌, slice_range}
 use Rattle.std.specs.FinMap as map
 use Rattle.rz_folder.specs.Folder.{Files}

@@ -4,7 +4,7 @@ use Rattle.std.specs.declared.option.Option.{Option}
 use Rattle.rz_folder.specs.Counts.{Rose}
 use Rattle.rz_folder.specs.Folder.{Files}
 
--- Behind a call no file is another, where the folder tells them, no count fell, that of writes stayed, and where a read
+-- After a call no file is another, where the folder tells them, no count fell, that of writes stayed, and where a read
 -- failed that of reads rose.
 pub record OnlyReads {F : Type 0} (files : F → Option Files) (read_faults write_faults : F → ℕ) (old new : F) (Failed : Type 0) : Type 0 where
   pub unchanged : files new ≡ files old

@@ -7,7 +7,7 @@ use Rattle.rz_core.specs.declared.stop.NoMemory.{NoMemory}
 use Rattle.rz_folder.specs.declared.sink.Put.{Put}
 use Rattle.rz_folder.specs.declared.sink.Put.TheVariants.{Done, Failed}
 
--- a sink that held this tells now that it got a front of the text behind it, of some count of bytes
+-- a sink that held this tells now that it got a front of the text after it, of some count of bytes
 abbrev pub GotFront : List ℕ → List ℕ → Option (List ℕ) → Type 0
 GotFront text before after = (count : ℕ) × (after ≡ Some (before ++ take count text))
 

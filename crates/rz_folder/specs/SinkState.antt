@@ -24,7 +24,7 @@ IsNextNamed s = next s.calls ≡ s.failing
 abbrev pub LacksRoom : SinkState → List ℕ → Type 0
 LacksRoom s piece = s.room < length piece
 
--- these bytes behind the others; the room falls by so many
+-- these bytes after the others; the room falls by so many
 abbrev pub appended : SinkState → List ℕ → SinkState
 appended s bytes = record s { written = s.written ++ bytes; room = s.room - length bytes }
 

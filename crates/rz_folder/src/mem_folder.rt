@@ -233,7 +233,7 @@ fn find_entry<'a>(entries: &VecDeque<Entry>, store: &'a [u8], name: &[u8]) -> Op
     None
 }
 
-// Puts a name and its contents behind the store, where there is room for them, and its entry before
+// Puts a name and its contents after the store, where there is room for them, and its entry before
 // all others.
 fn add_entry(entries: &mut VecDeque<Entry>, store: &mut Vec<u8>, name: &[u8], bytes: &[u8])
     requires within { AreWithin entries.old.items (length store.old.items) }

@@ -43,7 +43,7 @@ impl<W: Write + Drop> RealSink<W> {
         }
     }
 
-    /// The writer behind a buffer of 64 KB, with no faults so far. Pieces are kept back as long as they fit in the
+    /// The writer with a buffer of 64 KB before it, no faults so far. Pieces are kept back as long as they fit in the
     /// buffer, and then written together; one that doesn't fit in an empty buffer is written at once.
     pub fn buffered(alloc: Global, writer: W) -> Result<RealSink<W>, NoMemory>
         ensures { IfOk result (λ sink. sink ≡ 0) }

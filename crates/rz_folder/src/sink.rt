@@ -26,7 +26,7 @@ pub trait Sink {
     /// The number of calls that failed.
     ghost faults: { Self → ℕ };
 
-    /// Puts the piece behind all that was put. A sink may keep some of it back until `flush`.
+    /// Puts the piece after all that was put. A sink may keep some of it back until `flush`.
     ///
     /// After `Done` the whole piece is there. `Failed` comes only where `faults` rose in this call
     /// or stands at its last value; then a front of the piece is there.

@@ -27,7 +27,7 @@ bytes_of files names missing = ok_or (option_map (λ found. found.1) (file_of fi
 abbrev pub missing_file : Option Mark → List ℕ → Fault
 missing_file mark name = record { number = 101; mark = mark; kept = Name name }
 
--- the names of an included file in UTF-8: its own, and then behind each path and `/`
+-- the names of an included file in UTF-8: its own, and then after each path and `/`
 abbrev pub utf8_name : List ℕ → List ℕ
 utf8_name name = encode_utf8_all (map roman_char name)
 

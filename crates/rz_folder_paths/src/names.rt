@@ -7,7 +7,7 @@ ghost use Rattle.rz_folder_paths.specs.Names.{names_of, utf8_name};
 use rz_core::{FileNames, NoMemory, from_roman};
 use std::alloc::Global;
 
-/// The names under which an included file is looked for, in UTF-8, in this order: its own, and then behind each
+/// The names under which an included file is looked for, in UTF-8, in this order: its own, and then after each
 /// path and `/`. The name is in Mac Roman. (MPW Rez.)
 pub fn names_of(alloc: Global, paths: &FileNames, name: &[u8]) -> Result<FileNames, NoMemory>
     ensures { IfOk result (λ names. names ≡ names_of paths.now (utf8_name name.now)) }
@@ -23,7 +23,7 @@ pub fn names_of(alloc: Global, paths: &FileNames, name: &[u8]) -> Result<FileNam
     Ok(names)
 }
 
-/// A name behind a path and `/`.
+/// A name after a path and `/`.
 fn behind_path(alloc: Global, path: &str, name: &str) -> Result<String, NoMemory>
     ensures { IfOk result (λ whole. string_bytes whole ≡ path.now ++ 47 ∷ name.now) }
 {

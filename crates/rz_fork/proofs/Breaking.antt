@@ -37,7 +37,7 @@ first_types tested bytes o front (t ∷ ts) none =
     ∙ (λ i. or_else (first (if holds (parts.0 i) then type_faults tested bytes o t else [])) (first_types tested bytes o (front ++ t ∷ []) ts parts.1 i))
     ∙ ap (λ (f : Option ForkFault). or_else f (first_in (λ (before : List TypeEntry) (u : TypeEntry). in_type tested bytes o u) (front ++ t ∷ []) ts)) (first_all (reference_rule tested bytes o) [] (references bytes t))
 
--- what stands behind a fault doesn't matter
+-- what stands after a fault doesn't matter
 same_rest : {F : Type 0} (o a b : Option F) → (o ≡ None → a ≡ b) → or_else o a ≡ or_else o b
 same_rest None a b h = h refl
 same_rest (Some x) a b h = refl
@@ -51,7 +51,7 @@ open_at : {F : Type 0} (of : Rule → List F) (on : List Rule) (tested : List F)
 open_at of [] tested hold = refl
 open_at of (rule ∷ on) tested hold = ap (λ (l : List _). if length l == 0 then where_hold of on tested else []) hold.0 ∙ open_at of on tested hold.1
 
--- one rule of the table, before those behind it
+-- one rule of the table, before those after it
 step : {F : Type 0} (of : Rule → List F) (on : List Rule) (rule : Rule) (later : List F) (is rest : Option F) → AllByRecursion (λ r. of r ≡ []) on → first (of rule) ≡ is
     → (of rule ≡ [] → first later ≡ rest) → first (where_hold of on (of rule) ++ later) ≡ or_else is rest
 step of on rule later is rest hold same behind_it =
@@ -64,7 +64,7 @@ or_assoc : {F : Type 0} (a b c : Option F) → or_else (or_else a b) c ≡ or_el
 or_assoc None b c = refl
 or_assoc (Some x) b c = refl
 
--- the rules that admission tests, one behind the other
+-- the rules that admission tests, one after the other
 in_a_row : {F : Type 0} (a b c d e f g : Option F) → or_else (first_of (a ∷ b ∷ c ∷ d ∷ e ∷ f ∷ [])) g ≡ or_else a (or_else b (or_else c (or_else d (or_else e (or_else f g)))))
 in_a_row None None None None None None g = refl
 in_a_row (Some x) b c d e f g = refl

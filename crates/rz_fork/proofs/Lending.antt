@@ -55,7 +55,7 @@ module _ (bytes : List ℕ) (o : Outline) (t : TypeEntry) where
   pub one_left : (next begun : ℕ) (r : Reference) → slice_get (references bytes t) next ≡ Some r → left bytes o t next begun ≡ resource_of bytes o t r ∷ left bytes o t (next + 1) begun
   one_left next begun r is = λ i. map (resource_of bytes o t) (drop_get (references bytes t) next r is i) ++ flat_map (resources_of bytes o) (drop begun (entries bytes o))
 
-  -- a position behind the resources of this type stands in a type that follows
+  -- a position after the resources of this type stands in a type that follows
   pub some_type : (k begun : ℕ) → t.count ≤ k → k < length (left bytes o t 0 begun) → begun < o.count
   some_type k begun past within =
       let behind = flat_map (resources_of bytes o) (drop begun (entries bytes o)) in

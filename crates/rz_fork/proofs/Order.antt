@@ -25,7 +25,7 @@ module _ (rs : List (Bor Resource)) (i : ℕ) (r : Bor Resource) (within : i < l
       ap (with_front f (shown (take i rs))) rest_step
       ∙ ap (λ (front : List Resource). f (shown (take i rs)) r.now ++ with_front f front (shown (drop (i + 1) rs))) (sym front_step)
 
-  -- the length of what is made of each resource, still to come and behind
+  -- the length of what is made of each resource, still to come and after
   pub length_rest : (f : Resource → List ℕ) → length (flat_map f (shown (drop i rs))) ≡ length (f r.now) + length (flat_map f (shown (drop (i + 1) rs)))
   length_rest f = ap (λ (l : List Resource). length (flat_map f l)) rest_step ∙ length-append (f r.now) (flat_map f (shown (drop (i + 1) rs)))
 
@@ -41,6 +41,6 @@ module _ (rs : List (Bor Resource)) (i : ℕ) (r : Bor Resource) (within : i < l
   pub data_front : length (data_area (shown (take (i + 1) rs))) ≡ length (data_area (shown (take i rs))) + (4 + length r.now.bytes)
   data_front = length_front stored_data ∙ omega (arith, length-be_4 (length r.now.bytes), length-append (be 4 (length r.now.bytes)) r.now.bytes)
 
--- one piece more behind what was written
+-- one piece more after what was written
 pub written_on : (out new piece rest all : List ℕ) → new ≡ out ++ piece → out ++ (piece ++ rest) ≡ all → new ++ rest ≡ all
 written_on out new piece rest all is so_far = ap (λ (l : List ℕ). l ++ rest) is ∙ append_assoc out piece rest ∙ so_far

@@ -99,7 +99,7 @@ module _ (bytes : List ℕ) (o : Outline) (list : List Resource) (kinds : ℕ) (
   abbrev groups : List ℕ → List Resource
   groups ks = flat_map (group_of list) ks
 
-  -- where the references of the type behind these stand
+  -- where the references of the type after these stand
   abbrev list_place : List ℕ → ℕ
   list_place before = base + list_offset list kinds before
 
@@ -109,7 +109,7 @@ module _ (bytes : List ℕ) (o : Outline) (list : List Resource) (kinds : ℕ) (
   abbrev references_after : List ℕ → ℕ → List Reference
   references_after before k = written_references (list_place before) (groups before) (group_of list k)
 
-  -- the references of these types stand behind those of the types before
+  -- the references of these types stand after those of the types before
   abbrev pub HasLists : List ℕ → List ℕ → Type 0
   HasLists before ks = Has bytes (list_place before) (with_front image.reference (groups before) (groups ks))
 
@@ -158,7 +158,7 @@ module _ (bytes : List ℕ) (o : Outline) (list : List Resource) (kinds : ℕ) (
         resources = ap (map (resource_of bytes o own)) refs ∙ reads.2;
       }
 
-  -- what is read of these types, behind those before
+  -- what is read of these types, after those before
   pub record TypesRead (seen : List TypeEntry) (ts : List TypeEntry) (ks : List ℕ) : Type 0 where
     pub lists : first_in (list_rule o) seen ts ≡ None
     pub areas : first_in (λ (before : List TypeEntry) (t : TypeEntry). in_type Data bytes o t) seen ts ≡ None

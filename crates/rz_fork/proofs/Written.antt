@@ -16,7 +16,7 @@ use Rattle.rz_fork.specs.Layout.{count_at, types_place, entry_at, reference_at}
 use Rattle.rz_fork.proofs.Lengths.{length-reference_to, length-entry_of}
 use Rattle.rz_core.proofs.Placed.{Has, has_left, has_right, number_mod, number_is, byte_is, bits_small}
 
--- an entry whose reference list stands so far behind the start of the type list
+-- an entry whose reference list stands so far after the start of the type list
 abbrev pub written_entry : ℕ → ℕ → ℕ → ℕ → ℕ → TypeEntry
 written_entry base place code count list_at = record { place = place; code = code; count = count; list = base + list_at }
 
@@ -38,7 +38,7 @@ entry_is bytes o place code count list_at has code_fits count_fits at_fits =
     let count_is : count_at bytes (place + 4) ≡ count = ap (λ n. (n + 1) % 65536) less ∙ omega arith in
     λ i. record { place = place; code = code_is i; count = count_is i; list = types_place o + at_is i }
 
--- the entries of these types, among so many types and behind those before
+-- the entries of these types, among so many types and after those before
 abbrev pub written_entries : List Resource → ℕ → ℕ → ℕ → List ℕ → List ℕ → List TypeEntry
 written_entries list kinds base place before [] = []
 written_entries list kinds base place before (k ∷ ks) =
@@ -66,7 +66,7 @@ entries_are bytes o list kinds place before (k ∷ ks) has codes fits =
     (has_right bytes place (place + 8) own tail (omega (arith, length-entry_of k count at)) has) codes.1 shifted in
     λ i. first i ∷ later i
 
--- the reference to a resource that stands behind these
+-- the reference to a resource that stands after these
 abbrev pub written_reference : ℕ → List Resource → Resource → Reference
 written_reference place before r =
     record { place = place; id = id_bits r; name = name_offset before r; attr = r.attr; data_at = length (data_area before) }

@@ -58,7 +58,7 @@ resources bytes o = flat_map (resources_of bytes o) (entries bytes o)
 unfoldable pub attributes_of : List ℕ → Header → ℕ
 attributes_of bytes h = number 2 bytes (h.map_at + 22)
 
--- the bytes behind the header, as far as the data area, the map and 256 leave them
+-- the bytes after the header, as far as the data area, the map and 256 leave them
 unfoldable pub reserved_of : List ℕ → Header → List ℕ
 reserved_of bytes h = take (min 256 (min h.data_at h.map_at) - 16) (drop 16 bytes)
 

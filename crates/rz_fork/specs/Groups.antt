@@ -21,7 +21,7 @@ pub record AreGroups (list : List Resource) (groups : List Group) : Type 0 where
   pub kinds : map (λ g. g.code) groups ≡ kinds_of list
   pub members : AllByRecursion (λ g. members_of g ≡ group_of list g.code) groups
 
--- the entry of a group, among so many and behind those before it
+-- the entry of a group, among so many and after those before it
 abbrev pub group_entry : ℕ → List Group → Group → List ℕ
 group_entry kinds before g =
     entry_of g.code (length (members_of g)) (2 + 8 * kinds + 12 * length (flat_map members_of before))
@@ -34,7 +34,7 @@ group_entries groups = each_with_front (group_entry (length groups)) groups
 abbrev pub lists_in : List Group → List Resource → List ℕ
 lists_in groups rs = lists_with (length groups) (group_entries groups) rs
 
--- the map of the groups behind its copy of the header
+-- the map of the groups after its copy of the header
 abbrev pub tail_in : List Group → List Resource → ℕ → List ℕ
 tail_in groups rs attributes = tail_with attributes (lists_in groups rs) (name_list rs)
 

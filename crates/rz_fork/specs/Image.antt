@@ -31,7 +31,7 @@ grouped list = flat_map (group_of list) (kinds_of list)
 
 -- The data area and the name list.
 
--- a resource's bytes as they are stored, behind their length
+-- a resource's bytes as they are stored, after their length
 abbrev pub stored_data : Resource → List ℕ
 stored_data r = be 4 (length r.bytes) ++ r.bytes
 
@@ -39,7 +39,7 @@ stored_data r = be 4 (length r.bytes) ++ r.bytes
 abbrev pub data_area : List Resource → List ℕ
 data_area rs = flat_map stored_data rs
 
--- a resource's name as it is stored, behind its length; no name is stored as nothing
+-- a resource's name as it is stored, after its length; no name is stored as nothing
 abbrev pub stored_name : Resource → List ℕ
 stored_name r = if length r.name == 0 then [] else length r.name ∷ r.name
 
@@ -47,7 +47,7 @@ stored_name r = if length r.name == 0 then [] else length r.name ∷ r.name
 abbrev pub name_list : List Resource → List ℕ
 name_list rs = flat_map stored_name rs
 
--- where a resource's name stands in the name list, behind those of the resources before it; FFFF is no name
+-- where a resource's name stands in the name list, after those of the resources before it; FFFF is no name
 abbrev pub name_offset : List Resource → Resource → ℕ
 name_offset before r = if length r.name == 0 then 65535 else length (name_list before)
 
@@ -57,11 +57,11 @@ name_offset before r = if length r.name == 0 then 65535 else length (name_list b
 unfoldable pub reference_to : ℕ → ℕ → Resource → List ℕ
 reference_to name_at data_at r = be 2 (id_bits r) ++ be 2 name_at ++ r.attr ∷ [] ++ be 3 data_at ++ be 4 0
 
--- the reference to a resource that stands behind these resources
+-- the reference to a resource that stands after these resources
 abbrev pub reference : List Resource → Resource → List ℕ
 reference before r = reference_to (name_offset before r) (length (data_area before)) r
 
--- the reference lists, one behind the other
+-- the reference lists, one after the other
 abbrev pub reference_lists : List Resource → List ℕ
 reference_lists rs = each_with_front reference rs
 
@@ -69,11 +69,11 @@ reference_lists rs = each_with_front reference rs
 unfoldable pub entry_of : ℕ → ℕ → ℕ → List ℕ
 entry_of code count list_at = be 4 code ++ be 2 (count + 65535) ++ be 2 list_at
 
--- where the reference list of a type stands, behind so many types' entries and the lists of the types before it
+-- where the reference list of a type stands, after so many types' entries and the lists of the types before it
 abbrev pub list_offset : List Resource → ℕ → List ℕ → ℕ
 list_offset list kinds before = 2 + 8 * kinds + 12 * length (flat_map (group_of list) before)
 
--- the entry of a type, among so many types and behind those before it
+-- the entry of a type, among so many types and after those before it
 abbrev pub type_entry : List Resource → ℕ → List ℕ → ℕ → List ℕ
 type_entry list kinds before code = entry_of code (length (group_of list code)) (list_offset list kinds before)
 
@@ -101,11 +101,11 @@ unfoldable pub map_fields : ℕ → ℕ → List ℕ
 map_fields attributes lists_length =
     be 4 0 ++ be 2 0 ++ be 2 attributes ++ be 2 28 ++ be 2 (28 + lists_length)
 
--- the map behind its copy of the header, with these lists and names
+-- the map after its copy of the header, with these lists and names
 abbrev pub tail_with : ℕ → List ℕ → List ℕ → List ℕ
 tail_with attributes lists names = map_fields attributes (length lists) ++ lists ++ names
 
--- the map of the resources behind its copy of the header
+-- the map of the resources after its copy of the header
 abbrev pub map_tail : List Resource → ℕ → List ℕ
 map_tail list attributes = tail_with attributes (lists_of list) (name_list (grouped list))
 

@@ -16,7 +16,7 @@ use Rattle.rz_fork.specs.declared.view.ResView.{ResView}
 abbrev pub lent : ResView → Resource
 lent v = record { kind = v.kind; id = v.id; name = v.name.now; attr = v.attr; bytes = v.bytes.now }
 
--- the first of a list is given and the others stand behind it; nothing is given exactly where there is none
+-- the first of a list is given and the others stand after it; nothing is given exactly where there is none
 abbrev pub GivesFirst : {A : Type 0} → Option A → List A → List A → Type 0
 GivesFirst None before behind = (before ≡ []) × (behind ≡ [])
 GivesFirst (Some one) before behind = before ≡ one ∷ behind

@@ -60,7 +60,7 @@ fn put_groups<'a>(
     Ok(())
 }
 
-/// The resources of all groups, one group behind the other.
+/// The resources of all groups, one group after the other.
 pub fn in_order<'a>(alloc: Global, groups: &[Group<'a>]) -> Result<Vec<&'a Resource>, NoMemory>
     ensures { IfOk result (λ order. shown order.items ≡ flat_map members_of groups.now) }
 {

@@ -96,7 +96,7 @@ fn append_reference(
     Ok(())
 }
 
-/// Appends the reference lists, one behind the other.
+/// Appends the reference lists, one after the other.
 pub fn append_references(out: &mut Bytes, order: &[&Resource]) -> Result<(), NoMemory>
     requires area { length (data_area (shown order.now)) ≤ 2 ^ 24 }
     requires names { length (name_list (shown order.now)) < 2 ^ 16 }

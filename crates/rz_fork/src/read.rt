@@ -41,7 +41,7 @@ pub fn name_of(bytes: &[u8], outline: Outline, reference: Reference) -> &[u8]
     piece_at(bytes, place + 1, u8_at(bytes, place) as usize)
 }
 
-/// The bytes behind the header, as far as the data area, the map, 256 and the end leave them.
+/// The bytes after the header, as far as the data area, the map, 256 and the end leave them.
 #[tactic(auto, unfolding(crate::specs::Contents::reserved_of))]
 pub fn reserved_of(bytes: &[u8], header: Header) -> &[u8]
     requires { 16 ≤ length bytes.now }

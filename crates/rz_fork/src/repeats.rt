@@ -84,7 +84,7 @@ fn first_repeated(bytes: &[u8], outline: Outline) -> Option<ForkFault>
     None
 }
 
-/// Repeated, of a type behind so many: whether one of them has its code.
+/// Repeated, of a type after so many: whether one of them has its code.
 pub fn type_repeats(
     bytes: &[u8],
     outline: Outline,

@@ -130,7 +130,7 @@ pub fn types_outside(outline: Outline) -> Option<ForkFault>
     None
 }
 
-/// ReferencesOutside, of a type behind types with so many references.
+/// ReferencesOutside, of a type after types with so many references.
 #[tactic(auto, unfolding(crate::specs::Admit::references_outside))]
 pub fn references_outside(outline: Outline, so_far: usize, entry: TypeEntry) -> Option<ForkFault>
     requires map { outline.header.map_at + outline.header.map_length < 2 ^ 33 }

@@ -26,7 +26,7 @@ named bytes count is some most =
     ap (λ (n : ℕ). broken (nat_lt n 1 || nat_lt 63 n) (fault 447 0 n)) is
     ∙ unbroken (nat_lt count 1 || nat_lt 63 count) (fault 447 0 count) (λ i. le-ltb count 1 some i || le-ltb 63 count most i)
 
--- a piece and its check behind it
+-- a piece and its check after it
 right : (bytes : List ℕ) (which place : ℕ) (some : List ℕ) → Has bytes place some → Has bytes (place + length some) (be 2 (crc_of 0 some)) → crc_of 0 some < 2 ^ 16
     → bad_crc bytes which place (length some) ≡ None
 unfolding bad_crc

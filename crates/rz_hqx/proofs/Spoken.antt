@@ -37,7 +37,7 @@ letters_read (n ∷ ns) count front place small =
     ∙ letter_passes front gap.0 n rest (letter_read n small.0) ∙ letters_read ns (count + 1) (front ++ n ∷ []) (gap.0 + 1) small.1
     ∙ ap (λ (l : List ℕ). Ok l) (append_assoc front (n ∷ []) ns)
 
--- what stands behind the first colon
+-- what stands after the first colon
 abbrev pub body_with : List ℕ → List ℕ
 body_with ns = in_lines 1 (map letter ns ++ 58 ∷ []) ++ 10 ∷ []
 
@@ -47,7 +47,7 @@ body_is ns = refl
 pub numbers_read : (ns : List ℕ) (place : ℕ) → AllByRecursion IsSix ns → numbers_in place (body_with ns) ≡ Ok ns
 numbers_read ns place small = letters_read ns 1 [] place small
 
--- where a line begins here, and begins so, what is sought stands behind its end
+-- where a line begins here, and begins so, what is sought stands after its end
 pub head_found : (rest all : List ℕ) (first : Bool) → behind_head first rest ≡ all → 1 ≤ length rest → first ≡ true → starts_with nat_eq rest head ≡ true → behind_line rest ≡ all
 head_found [] all first so_far some is starts = absurd (omega arith)
 head_found (b ∷ bs) all first so_far some is starts =

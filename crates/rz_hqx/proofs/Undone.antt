@@ -7,7 +7,7 @@ use Rattle.rz_core.proofs.Tests.{by_test, both}
 use Rattle.rz_bridge.specs.declared.fault.BridgeFault.{BridgeFault}
 use Rattle.rz_hqx.specs.Runs.{literal, run, packed_behind, packed, last_of, unpacked_behind, run_behind, unpacked, run_at_start}
 
--- what is read of codes from a place on, behind bytes that are known
+-- what is read of codes from a place on, after bytes that are known
 abbrev pub Undone : Type 0
 Undone = Result (List ℕ) BridgeFault
 

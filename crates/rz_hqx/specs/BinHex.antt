@@ -22,7 +22,7 @@ use Rattle.rz_hqx.specs.Text.{body_of, numbers_in, text_of}
 unfoldable pub name_length : List ℕ → ℕ
 name_length bytes = number 1 bytes 0
 
--- the type stands behind the name and the version, and the creator, the flags, both lengths and the check behind it
+-- the type stands after the name and the version, and the creator, the flags, both lengths and the check after it
 unfoldable pub kind_place : List ℕ → ℕ
 kind_place bytes = name_length bytes + 2
 
@@ -34,17 +34,17 @@ data_length bytes = number 4 bytes (kind_place bytes + 10)
 unfoldable pub resource_length : List ℕ → ℕ
 resource_length bytes = number 4 bytes (kind_place bytes + 14)
 
--- the data fork stands behind the check of the header
+-- the data fork stands after the check of the header
 unfoldable pub data_place : List ℕ → ℕ
 data_place bytes = kind_place bytes + 20
 
--- the resource fork stands behind the check of the data fork
+-- the resource fork stands after the check of the data fork
 unfoldable pub resource_place : List ℕ → ℕ
 resource_place bytes = data_place bytes + data_length bytes + 2
 
 -- The rules.
 
--- Truncated: a field of so many bytes ends behind the last byte
+-- Truncated: a field of so many bytes ends after the last byte
 unfoldable pub cut : List ℕ → ℕ → ℕ → Option BridgeFault
 cut bytes place count = broken (nat_lt (length bytes) (place + count)) (fault 445 place (length bytes - place))
 
@@ -53,14 +53,14 @@ unfoldable pub bad_length : List ℕ → Option BridgeFault
 bad_length bytes =
     let count = name_length bytes in broken (nat_lt count 1 || nat_lt 63 count) (fault 447 0 count)
 
--- BadCrc: the check behind so many bytes from a place on isn't theirs
+-- BadCrc: the check after so many bytes from a place on isn't theirs
 unfoldable pub bad_crc : List ℕ → ℕ → ℕ → ℕ → Option BridgeFault
 bad_crc bytes which place count =
     let stored = number 2 bytes (place + count) in
     let computed = crc_of 0 (piece bytes place count) in
     broken (not (stored == computed)) (record { number = 444; offset = place + count; kept = kept.Check which stored computed })
 
--- a piece that ends behind the last byte, or whose check does, or isn't its check
+-- a piece that ends after the last byte, or whose check does, or isn't its check
 unfoldable pub checked : List ℕ → ℕ → ℕ → ℕ → Option BridgeFault
 checked bytes which place count = first_of (cut bytes place count ∷ cut bytes (place + count) 2 ∷ bad_crc bytes which place count ∷ [])
 

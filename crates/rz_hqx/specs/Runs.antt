@@ -15,7 +15,7 @@ literal byte = if byte == 144 then 144 ∷ 0 ∷ [] else byte ∷ []
 abbrev pub run : ℕ → ℕ → List ℕ
 run byte count = if nat_lt count 4 then flat_map literal (replicate count byte) else literal byte ++ 144 ∷ count ∷ []
 
--- bytes behind so many equal ones, which go into one run with them as far as they are equal and at most 255
+-- bytes after so many equal ones, which go into one run with them as far as they are equal and at most 255
 abbrev pub packed_behind : ℕ → ℕ → List ℕ → List ℕ
 packed_behind byte count [] = run byte count
 packed_behind byte count (x ∷ xs) =
@@ -40,7 +40,7 @@ run_at_start place count = fault 446 place count
 abbrev pub last_of : List ℕ → ℕ
 last_of bytes = get_or bytes (length bytes - 1) 0
 
--- the bytes that codes from a place on stand for, behind bytes that are known; and the same behind a 90 at that place
+-- the bytes that codes from a place on stand for, after bytes that are known; and the same after a 90 at that place
 abbrev mutual
   pub unpacked_behind : List ℕ → ℕ → List ℕ → Result (List ℕ) BridgeFault
   unpacked_behind front place [] = Ok front

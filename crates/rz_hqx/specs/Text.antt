@@ -21,27 +21,27 @@ is_line_end byte = (byte == 10) || (byte == 13)
 abbrev pub is_blank : ℕ → Bool
 is_blank byte = (byte == 32) || (byte == 9) || is_line_end byte
 
--- the bytes behind the end of the line
+-- the bytes after the end of the line
 abbrev pub behind_line : List ℕ → List ℕ
 behind_line [] = []
 behind_line (b ∷ bs) = if is_line_end b then bs else behind_line bs
 
--- the bytes behind the first line that begins so; `first` where a line begins here
+-- the bytes after the first line that begins so; `first` where a line begins here
 abbrev pub behind_head : Bool → List ℕ → List ℕ
 behind_head first [] = []
 behind_head first (b ∷ bs) =
     if first && starts_with nat_eq (b ∷ bs) head then behind_line (b ∷ bs) else behind_head (is_line_end b) bs
 
--- the bytes behind a colon that stands behind blanks alone
+-- the bytes after a colon that stands after blanks alone
 abbrev pub behind_colon : List ℕ → Option (List ℕ)
 behind_colon [] = None
 behind_colon (b ∷ bs) = if b == 58 then Some bs else if is_blank b then behind_colon bs else None
 
--- NoStart: there is no such line, or no colon behind it
+-- NoStart: there is no such line, or no colon after it
 abbrev pub no_start : BridgeFault
 no_start = fault 441 0 0
 
--- the bytes behind the first colon, or that there is none
+-- the bytes after the first colon, or that there is none
 abbrev pub body_of : List ℕ → Result (List ℕ) BridgeFault
 body_of bytes = ok_or (behind_colon (behind_head true bytes)) no_start
 
@@ -50,7 +50,7 @@ abbrev pub with_number : Option ℕ → BridgeFault → (ℕ → Result (List �
 with_number None fault next = Err fault
 with_number (Some number) fault next = next number
 
--- the numbers of the letters from a place on up to the next colon, behind numbers that are known; a byte that may not
+-- the numbers of the letters from a place on up to the next colon, after numbers that are known; a byte that may not
 -- stand there is BadLetter, and an end without a colon is NoEnd
 abbrev pub numbers_behind : List ℕ → ℕ → List ℕ → Result (List ℕ) BridgeFault
 numbers_behind front place [] = Err (fault 443 place place)
@@ -69,7 +69,7 @@ numbers_in place body = numbers_behind [] place body
 abbrev pub gap_at : ℕ → List ℕ
 gap_at count = if not (count == 0) && (count % 64 == 0) then 10 ∷ [] else []
 
--- characters in their lines, the first of them behind so many
+-- characters in their lines, the first of them after so many
 abbrev pub in_lines : ℕ → List ℕ → List ℕ
 in_lines count [] = []
 in_lines count (char ∷ chars) = gap_at count ++ char ∷ in_lines (count + 1) chars

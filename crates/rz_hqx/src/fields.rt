@@ -17,7 +17,7 @@ pub fn name_length(bytes: &[u8]) -> usize
     u8_at(bytes, 0) as usize
 }
 
-/// Where the type stands, behind the name and the version.
+/// Where the type stands, after the name and the version.
 #[tactic(auto, unfolding(crate::specs::BinHex::kind_place))]
 pub fn kind_place(bytes: &[u8]) -> usize
     requires { 1 ≤ length bytes.now }
@@ -50,7 +50,7 @@ pub fn resource_length(bytes: &[u8]) -> usize
     u32_at(bytes, kind_place(bytes) + 14) as usize
 }
 
-/// Where the data fork stands, behind the check of the header.
+/// Where the data fork stands, after the check of the header.
 #[tactic(auto, unfolding(crate::specs::BinHex::data_place))]
 pub fn data_place(bytes: &[u8]) -> usize
     requires { 1 ≤ length bytes.now }
@@ -60,7 +60,7 @@ pub fn data_place(bytes: &[u8]) -> usize
     kind_place(bytes) + 20
 }
 
-/// Where the resource fork stands, behind the check of the data fork.
+/// Where the resource fork stands, after the check of the data fork.
 #[tactic(auto, unfolding(crate::specs::BinHex::resource_place))]
 pub fn resource_place(bytes: &[u8]) -> usize
     requires some { 1 ≤ length bytes.now }

@@ -16,11 +16,11 @@ use rz_core::{Bytes, NoMemory, OsType, Stop, u16_at, u32_at};
 use std::alloc::Global;
 
 /// The file of a BinHex 4.0 text: name, type, creator, flags and both forks; all other fields are zero. Text before the
-/// line that says what it is, blanks, tabs and line ends between letters, what stands behind the last colon and bytes
-/// behind the last check pass unread. There are fewer than 2^32 bytes. Time and memory are linear in the text and in the
+/// line that says what it is, blanks, tabs and line ends between letters, what stands after the last colon and bytes
+/// after the last check pass unread. There are fewer than 2^32 bytes. Time and memory are linear in the text and in the
 /// decoded bytes, of which a byte of the text makes fewer than 96.
 ///
-/// Refused with the first broken rule: 441 NoStart, there is no such line or no colon behind it (offset 0; 0); 442
+/// Refused with the first broken rule: 441 NoStart, there is no such line or no colon after it (offset 0; 0); 442
 /// BadLetter, a byte before the next colon is no letter (its offset in the text; the byte); 443 NoEnd, there is no such
 /// colon (the length of the text; the same); then, with offsets in the bytes before runs are undone, 446 and 445 as in
 /// [`runs_read`](crate::runs_read); then, field by field and with offsets in the decoded bytes, 447 BadName, the length

@@ -12,13 +12,13 @@ use rz_bridge::{BridgeFault, fault_at};
 use rz_core::{Bytes, NoMemory, Stop};
 use std::alloc::Global;
 
-/// How the line begins behind which the letters stand.
+/// How the line begins after which the letters stand.
 const HEAD: &[u8] = b"(This file must be converted with BinHex";
 
 /// The line that is written.
 const HEAD_LINE: &[u8] = b"(This file must be converted with BinHex 4.0)\n";
 
-/// The byte before and behind the letters.
+/// The byte before and after the letters.
 const COLON: u8 = b':';
 
 fn is_line_end(byte: u8) -> bool
@@ -33,7 +33,7 @@ fn is_blank(byte: u8) -> bool
     byte == b' ' || byte == b'\t' || is_line_end(byte)
 }
 
-/// The bytes behind the end of the line.
+/// The bytes after the end of the line.
 fn behind_line(bytes: &[u8]) -> &[u8]
     ensures bytes { result.now ≡ behind_line bytes.now }
     ensures within { length result.now ≤ length bytes.now }
@@ -48,7 +48,7 @@ fn behind_line(bytes: &[u8]) -> &[u8]
     rest
 }
 
-/// The bytes behind the first line that says what the text is.
+/// The bytes after the first line that says what the text is.
 pub fn behind_head(bytes: &[u8]) -> &[u8]
     ensures bytes { result.now ≡ behind_head true bytes.now }
     ensures within { length result.now ≤ length bytes.now }
@@ -65,7 +65,7 @@ pub fn behind_head(bytes: &[u8]) -> &[u8]
     rest
 }
 
-/// The bytes behind a colon that stands behind blanks alone.
+/// The bytes after a colon that stands after blanks alone.
 pub fn behind_colon(bytes: &[u8]) -> Option<&[u8]>
     ensures bytes { option_copied result ≡ behind_colon bytes.now }
     ensures within { IfSome result (λ body. length body.now ≤ length bytes.now) }
@@ -108,7 +108,7 @@ pub fn numbers_in(alloc: Global, place: usize, body: &[u8]) -> Result<Bytes, Sto
     Err(Stop::Refused(fault_at(443, at, at as u64)))
 }
 
-/// Appends a character behind so many others, on a line of its own after each 64.
+/// Appends a character after so many others, on a line of its own after each 64.
 fn append_char(out: &mut Bytes, count: usize, char: u8) -> Result<(), NoMemory>
     ensures { OnOk result (out.new ≡ out.old ++ gap_at count ++ char ∷ []) }
 {

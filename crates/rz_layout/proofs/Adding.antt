@@ -156,7 +156,7 @@ adds_later piece form width term draft short =
       given = λ in_rows name is. ap is_some (placed_is piece (length draft.bits) draft.known (label_key in_rows name) is);
     }
 
--- Where the draft behind a step fits, the one before it does.
+-- Where the draft after a step fits, the one before it does.
 
 pub record Front (all : List Bool) (draft : Draft) (bits : List Bool) (marks : Late) : Type 0 where
   pub front : draft.bits ≡ masked draft.late (take (length draft.bits) all)
@@ -185,11 +185,11 @@ module _ (known : Facts) where
   abbrev pub FitsAll : List Bool → Environment → Names → Draft → Type 0
   FitsAll all names met draft = Fits known all names met (length draft.bits) draft.late draft
 
-  -- what was met before a step is met behind it, and isn't among its labels
+  -- what was met before a step is met after it, and isn't among its labels
   abbrev pub Still : Names → (Key → Bool) → Names → Type 0
   Still met labels after = (key : Key) → is_later met key ≡ false → (labels key ≡ false) × (is_later after key ≡ false)
 
-  -- names that are alike behind a step were so before it
+  -- names that are alike after a step were so before it
   pub alike_back : (labels : Key → Bool) (met after : Names) (draft next names : Environment) → ((key : Key) → labels key ≡ false → next.give key ≡ draft.give key) → Still met labels after → Alike after next names
       → Alike met draft names
   alike_back labels met after draft next names same still alike = record {
@@ -213,7 +213,7 @@ module _ (known : Facts) where
         names_are = alike_back labels met after draft.known next.known names a.names_are still fits.names_are;
       }
 
-  -- where all bits fit the draft behind it, hold its late numbers, and its arrays are counted, they spell it
+  -- where all bits fit the draft after it, hold its late numbers, and its arrays are counted, they spell it
   pub record Came (labels : Key → Bool) (met : Names) (Counted : Environment → Type 0) (draft next : Draft) (Is : List Bool → Environment → RowSpells) : Type 0 where
     pub adds : Adds labels draft next
     pub spells : (all : List Bool) (names : Environment) → FitsAll all names met next → Each (Holds known all names) adds.numbers → Counted names
@@ -242,7 +242,7 @@ module _ (known : Facts) where
         (value, rest, length mid.bits, mid.late, are, a.spells all names front each.0 counted.0, b.spells all names fits each.1 counted.1);
   }
 
-  -- rows one behind the other, and what is known behind a step
+  -- rows one after the other, and what is known after a step
   pub known_behind : (labels : Key → Bool) (met : Names) (draft next : Draft) → Adds labels draft next → MetKnown met draft.known → MetKnown (λ key. labels key || met key) next.known
   known_behind labels met draft next a met_known = met_more labels met draft.known next.known met_known a.names_are a.given
 

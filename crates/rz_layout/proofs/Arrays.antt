@@ -1,4 +1,4 @@
--- The rows of an array, laid one behind the other, and what is laid with places of its own.
+-- The rows of an array, laid one after the other, and what is laid with places of its own.
 use Rattle.std.proofs.Common.{◌≡◌, ℕ, ◌+◌, ◌<◌, ℤ, Bool, Global, Vec, List, [], ◌∷◌, length, get_or, drop, Option, Result, Ok, Err, sym, ap, subst, ◌∙◌}
 use Rattle.std.specs.List.{AllByRecursion}
 use Rattle.std.specs.Prelude.{if◌then◌else◌}

@@ -139,7 +139,7 @@ module _ (known : Facts) (all : List Bool) where
   piece_taken names passed (Filler unit) value at after late late_after it = ap is_some it.stored.0
   piece_taken names passed (Place name) value at after late late_after it = ap is_some it.stored.0
 
-  -- one with its value or none, and the others behind it
+  -- one with its value or none, and the others after it
   then_goes : (names : Environment) (met one_met : Names) (takes : Bool) (value : Option Tree) (rest values : List Tree) → values ≡ put value rest → is_some value ≡ takes
       → (one : Option Tree → Result Draft Refusal) (others : Draft → List Tree → Result Draft Refusal) (at : ℕ) (late : Late) (mid : ℕ) (late_mid : Late) (after : ℕ) (late_after : Late) (draft : Draft) (places behind : List ℤ) → length late ≡ at
       → (first : Goes known all names one_met at late mid late_mid draft places (one value)) → Goes known all names met mid late_mid after late_after first.next behind (others first.next rest)
@@ -249,7 +249,7 @@ module _ (known : Facts) (all : List Bool) where
 
   -- What a body spells is laid.
 
-  -- behind a body its labels have these places more
+  -- after a body its labels have these places more
   abbrev BodyGoes : PlainBody → Type 0
   BodyGoes body = (passed : Passed) (own : Environment) (values : List Tree) (at after : ℕ) (late late_after : Late)
       → BodySpells false known all body own passed values at late after late_after → (draft : Draft) → Fits known all own passed.met at late draft → MetKnown passed.met draft.known

@@ -85,7 +85,7 @@ pub each-map : (P Q : LateNumber → Type 0) (change : LateNumber → LateNumber
 each-map P Q change so [] each = tt
 each-map P Q change so (one ∷ numbers) each = (so one each.0, each-map P Q change so numbers each.1)
 
--- what the second pass left behind a place; more may stand behind all bits
+-- what the second pass left after a place; more may stand after all bits
 pub record Filled (known : Facts) (names : Environment) (numbers : List LateNumber) (marks front bits all more : List Bool) : Type 0 where
   pub rest : List Bool
   pub all_is : all ≡ front ++ rest

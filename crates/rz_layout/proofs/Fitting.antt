@@ -1,4 +1,4 @@
--- A draft that fits bits, and what is laid behind it that is spelled there.
+-- A draft that fits bits, and what is laid after it that is spelled there.
 use Rattle.std.proofs.Common.{◌≡◌, ℕ, ◌+◌, ◌≤◌, ℤ, pos, Bool, true, false, ◌||◌, not, List, [], ◌∷◌, ◌++◌, length, take, drop, replicate, Option, Some, None, Result, Ok, Err, ◌⊎◌, inl, inr, refl, sym, ap, subst, ◌∙◌, arith}
 use Rattle.std.specs.Prelude.{if◌then◌else◌, nat_abs}
 use Rattle.std.specs.List.{list_any, AllByRecursion}
@@ -167,7 +167,7 @@ module _ (known : Facts) (all : List Bool) where
   abbrev pub HoldsIn : Environment → LateNumber → Type 0
   HoldsIn names one = (own : Environment) → Alike every own names → Holds known all own one
 
-  -- a step of the first pass to a draft that fits again, behind which the labels of the body have these places more
+  -- a step of the first pass to a draft that fits again, after which the labels of the body have these places more
   pub record Goes (names : Environment) (met : Names) (at : ℕ) (late : Late) (after : ℕ) (late_after : Late) (draft : Draft) (places : List ℤ) (result : Result Draft Refusal) : Type 0 where
     pub next : Draft
     pub is : result ≡ Ok next
@@ -460,7 +460,7 @@ module _ (known : Facts) (all : List Bool) where
         (let a = first.fits.marks in let b = ap length first.more_is in let c = length-append late first.more in omega (arith, a, b, c, marks)) more.tracks);
   }
 
-  -- With places of its own, and behind all rows of an array.
+  -- With places of its own, and after all rows of an array.
 
   pub fits_places : (names : Environment) (met : Names) (at : ℕ) (late : Late) (places : List ℤ) (draft : Draft) → Fits names met at late draft → Fits names met at late (with_places places draft)
   fits_places names met at late places draft fits = record { bits = fits.bits; len = fits.len; late_is = fits.late_is; marks = fits.marks; within = fits.within; names_are = fits.names_are }

@@ -94,7 +94,7 @@ none_around (field_and (Label name) fields) = none_around fields
 none_around (field_and (Array name count row) fields) = none_around fields
 none_around (field_and (Switch cases) fields) = none_around fields
 
--- nothing more is among names with none behind them
+-- nothing more is among names with none after them
 among_alone : (name : List ℕ) (one other : List Word) → other ≡ [] → is_among name (one ++ other) ≡ true → is_among name one ≡ true
 among_alone name one other none among = sym (ap (is_among name) (ap (λ (names : List Word). one ++ names) none ∙ append-nil one)) ∙ among
 

@@ -233,7 +233,7 @@ names_known met known is (FactOf which) = refl
 names_known met known is (OfOne op operand) = names_known met known is operand
 names_known met known is (OfTwo op left right) = λ i. names_known met known is left i || names_known met known is right i
 
--- behind what gives labels values
+-- after what gives labels values
 pub met_more : (labels : Key → Bool) (met : Names) (known after : Environment) → MetKnown met known → ((key : Key) → labels key ≡ false → after.give key ≡ known.give key)
     → ((in_rows : Bool) (name : List ℕ) → labels (label_key in_rows name) ≡ true → is_some (after.give (label_key in_rows name)) ≡ true) → MetKnown (λ key. labels key || met key) after
 met_more labels met known after is same given in_rows name = by (labels (label_key in_rows name)) refl
@@ -245,7 +245,7 @@ met_more labels met known after is same given in_rows name = by (labels (label_k
 pub met_field : (field : PlainField) (met : Names) (known : Environment) → MetKnown (λ key. gives_place field key || met key) known → MetKnown (met_behind field met) known
 met_field field met known is in_rows name = ap (λ (test : Bool). test || met (label_key in_rows name)) (place_label field in_rows name) ∙ is in_rows name
 
--- behind all rows of an array
+-- after all rows of an array
 pub met_rows : (row : PlainBody) (count : ℕ) (places : List ℤ) (met : Names) (known : Environment) → MetKnown met known → MetKnown (λ key. gives_rows row key || met key) (also_rows row count places known)
 met_rows row count places met known is false name = is false name
 met_rows row count places met known is true name = by (has_label row name) refl

@@ -259,7 +259,7 @@ module _ (fields : Bor (List Field)) (which : Option InRow) (old more : List Not
 abbrev given : Draft → Result Draft Refusal
 given draft = Ok draft
 
--- what was laid before a body, at its front, behind its fields, and behind its end
+-- what was laid before a body, at its front, after its fields, and after its end
 module _ (facts : Facts) (fields : Bor (List Field)) (which : Option InRow) (row : List Tree) (before start after new : Laid) (same_piece : start.piece ≡ before.piece)
     (same_bits : start.bits ≡ before.bits) (same_marks : start.marks ≡ before.marks) (same_places : start.places.items ≡ before.places.items)
     (known_is : known start.notes.items ≡ entered (which_of which) (plain_body fields.now) row (known before.notes.items)) (none : start.late ≡ []) where

@@ -103,7 +103,7 @@ module _ (values : (scope : Own) (sight : Sight) (term : Term) → GivesNumbers 
     fills : FillsRows draft.known
     numbers : Each (IsGiven known scope) draft.numbers
 
-  -- behind a step nothing that had a value has none, and these labels have one
+  -- after a step nothing that had a value has none, and these labels have one
   record Next (scope : Own) (labels : Key → Bool) (draft next : Draft) : Type 0 where
     grows : (key : Key) → is_in_row key ≡ false → is_some (draft.known.give key) ≡ true → is_some (next.known.give key) ≡ true
     given : (in_rows : Bool) (name : List ℕ) → labels (label_key in_rows name) ≡ true → is_some (next.known.give (label_key in_rows name)) ≡ true
@@ -307,7 +307,7 @@ module _ (values : (scope : Own) (sight : Sight) (term : Term) → GivesNumbers 
       let d = rows_placed name row apart (number + 1) rows outer.value next outer.leads in
       placed_more (length draft.places) (length found.places) (labels_count row) (length rows) (length inner.value.places) (length outer.value.places) (length next.places) a b c d
 
-  -- behind an array the labels in its rows have places in each of them
+  -- after an array the labels in its rows have places in each of them
   behind_fills : (row : PlainBody) (count : ℕ) (places : List ℤ) (names : Environment) → length places ≡ count * labels_count row → FillsRows names → FillsRows (also_rows row count places names)
   behind_fills row count places names long fills = record { give = λ label rows number has low high. by label rows number has low high (has_label row label) refl }
     where

@@ -1,4 +1,4 @@
--- The places that the labels of a body have behind it, where it is laid.
+-- The places that the labels of a body have after it, where it is laid.
 use Rattle.std.proofs.Common.{◌≡◌, ℕ, ◌+◌, ℤ, pos, Bool, true, false, List, [], ◌∷◌, ◌++◌, length, Option, None, Result, Ok, refl, sym, ap, ◌∙◌}
 use Rattle.std.specs.Prelude.{if◌then◌else◌}
 use Rattle.std.proofs.lemmas.List.{append_assoc, append-nil}
@@ -121,7 +121,7 @@ module _ (known : Facts) where
 
   -- Fields and bodies.
 
-  -- behind a field labels have what they had before it, but for its own, which stands at its front
+  -- after a field labels have what they had before it, but for its own, which stands at its front
   record FieldBehind (field : PlainField) (draft next : Draft) : Type 0 where
     names : (label : List ℕ) → gives_key field (place_of label) ≡ false → next.known.give (place_of label) ≡ draft.known.give (place_of label)
     places : next.places ≡ draft.places ++ label_places field (length draft.bits)
@@ -164,7 +164,7 @@ module _ (known : Facts) where
   field_behind (Array name count row) value draft next is = flat_behind (Array name count row) refl draft next (array_keeps name row (rows_in value) draft next is)
   field_behind (Switch cases) value draft next is = flat_behind (Switch cases) refl draft next (cases_keep cases value draft next is)
 
-  -- behind a body its labels have these places more
+  -- after a body its labels have these places more
   pub record BodyBehind (body : PlainBody) (draft next : Draft) : Type 0 where
     pub names : (label : List ℕ) → declares body (place_of label) ≡ false → next.known.give (place_of label) ≡ draft.known.give (place_of label)
     pub places : List ℤ

@@ -1,4 +1,4 @@
--- The places of labels in the rows of an array, behind all of them.
+-- The places of labels in the rows of an array, after all of them.
 use Rattle.std.proofs.Common.{◌≡◌, ℕ, suc, ◌+◌, ◌-◌, ◌*◌, ◌<◌, ℤ, pos, negsuc, Bool, true, false, ◌&&◌, ◌||◌, not, List, ◌++◌, length, Some, None, refl, sym, ap, subst, ◌∙◌, arith}
 use Rattle.std.specs.Prelude.{if◌then◌else◌, int_le, int_lt, nat_lt, slice_get}
 use Rattle.std.proofs.lemmas.Bool.Decides.{nat_tests}
@@ -42,7 +42,7 @@ placed_row row names count places have label number is inside =
     let there = row_value_is row names count places have label number is tests.0 tests.1 in
     there.1 ∙ sym there.2
 
--- Behind all rows the labels in them have their values.
+-- After all rows the labels in them have their values.
 pub alike_rows : (row : PlainBody) (count : ℕ) (places : List ℤ) (met : Names) (known names : Environment) → AreRows row count names → RowsHave row names 1 count places → Alike met known names
     → Alike (λ key. gives_rows row key || met key) (also_rows row count places known) names
 alike_rows row count places met known names are have alike = record { names = by; places = λ label rows number was is inside. in_rows label rows number was is inside (has_label row label) refl }

@@ -200,7 +200,7 @@ module _ (known : Facts) where
       → MetKnown passed.met draft.known → case_laid known draft cases (Some v) ≡ Ok next
       → Came known none passed.met NoCount draft next (λ all names. CaseSpells false known all cases names passed (Some v))
 
-  -- behind all rows the array is as its rows, apart and with the places of the labels in them
+  -- after all rows the array is as its rows, apart and with the places of the labels in them
   abbrev array_next : PlainBody → ℕ → Draft → Draft → Draft
   array_next row count draft mid = with_places draft.places (behind_rows row count mid)
 

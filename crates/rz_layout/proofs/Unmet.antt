@@ -41,7 +41,7 @@ rows_still row met fresh name early = by (has_label row name) refl
     by true is = absurd (true_false (sym (ap not (fresh (rows_of name) is)) ∙ early))
     by false is = (is, ap (λ (test : Bool). not (test || met (rows_of name))) is ∙ early)
 
--- so behind the rows of an array, whose labels weren't met
+-- so after the rows of an array, whose labels weren't met
 pub still_rows : (known : Facts) (row : PlainBody) (met : Names) → Fresh (gives_rows row) met → Still known met (gives_rows row) (λ key. gives_rows row key || met key)
 still_rows known row met fresh (place_of name) early = (refl, early)
 still_rows known row met fresh (count_of name) early = (refl, refl)
@@ -49,7 +49,7 @@ still_rows known row met fresh (rows_of name) early = rows_still row met fresh n
 still_rows known row met fresh (place_in name number) early = rows_still row met fresh name early
 still_rows known row met fresh (row_in name) early = (refl, refl)
 
--- what is given behind all rows
+-- what is given after all rows
 pub rows_given : (row : PlainBody) (count : ℕ) (places : List ℤ) (names : Environment) (in_rows : Bool) (name : List ℕ) → gives_rows row (label_key in_rows name) ≡ true
     → is_some ((also_rows row count places names).give (label_key in_rows name)) ≡ true
 rows_given row count places names false name is = absurd (true_false (sym is))

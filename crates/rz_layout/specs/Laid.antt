@@ -57,15 +57,15 @@ HasRoom draft count (Err (Refused fault)) =
     (most_bits < length draft.bits + count) × (refusal_of fault ≡ too_long draft (length draft.bits + count))
 HasRoom draft count (Err NoMemory) = ⊥
 
--- the draft behind a piece with these bits, which is no label
+-- the draft after a piece with these bits, which is no label
 abbrev pub with_bits : Draft → List Bool → Result Draft Refusal
 with_bits draft bits = with_room draft (length bits) (grown (Zeros 0) draft bits false [])
 
--- the draft behind a label
+-- the draft after a label
 abbrev pub with_place : Draft → Word → Result Draft Refusal
 with_place draft name = with_room draft 0 (grown (Place name) draft [] false [])
 
--- the draft behind a number that is computed later
+-- the draft after a number that is computed later
 abbrev pub with_late : Draft → NumForm → ℤ → Term → Result Draft Refusal
 with_late draft form width term =
     with_room draft (nat_abs width) (grown (Zeros 0) draft (zeros (nat_abs width)) true (late_at draft form width term ∷ []))
@@ -84,12 +84,12 @@ abbrev pub bits_made : ℤ → Result ℕ LayFault → Result (List Bool) Refusa
 bits_made width (Ok number) = Ok (number_bits (nat_abs width) number)
 bits_made width (Err fault) = Err (refusal_of fault)
 
--- the draft behind a piece of this form
+-- the draft after a piece of this form
 abbrev pub form_put : Draft → Form → Result Draft Refusal
 form_put draft (now bits) = with_bits draft bits
 form_put draft (later form width term) = with_late draft form width term
 
--- the draft behind the value of an expression, or behind zero bits for it
+-- the draft after the value of an expression, or after zero bits for it
 abbrev pub value_put : Facts → Draft → NumForm → ℤ → Term → Result Draft Refusal
 value_put facts draft form width term = number_form facts draft form width (Some term) None >>= form_put draft
 
@@ -102,19 +102,19 @@ pub record IsNotedBy (gives : Names) (old new : List Note) : Type 0 where
 abbrev pub IsPlacedBy : Word → List Note → List Note → Type 0
 IsPlacedBy name old new = IsNotedBy (stands_at name.bytes) old new
 
--- the draft behind the bits of bytes with this size
+-- the draft after the bits of bytes with this size
 abbrev pub text_put : Draft → TextForm → Option ℤ → List ℕ → Result Draft Refusal
 text_put draft form size bytes = bytes_laid draft.piece form size bytes >>= with_bits draft
 
--- the draft behind a text whose size is known
+-- the draft after a text whose size is known
 abbrev pub sized_put : Facts → Draft → PlainText → Option ℤ → Option Tree → Result Draft Refusal
 sized_put facts draft text size value = bytes_given facts draft text.fixed value >>= λ bytes. text_put draft text.form size bytes
 
--- the draft behind a text whose expressions name no label that stands later
+-- the draft after a text whose expressions name no label that stands later
 abbrev pub placed_put : Facts → Draft → PlainText → Option Tree → Result Draft Refusal
 placed_put facts draft text value = size_in facts draft text.size >>= λ size. sized_put facts draft text size value
 
--- a body was entered: a note says so, and the others behind it are of its own names
+-- a body was entered: a note says so, and the others after it are of its own names
 pub record IsEntered (fields : Bor (List Field)) (which : Option InRow) (old new : List Note) : Type 0 where
   pub more : List Note
   pub grew : new ≡ old ++ Entered fields which ∷ more
@@ -136,7 +136,7 @@ abbrev pub has_names : PlainBody → Bool
 has_names no_fields = false
 has_names (field_and field fields) = has_name field || has_names fields
 
--- the late numbers of a body with these notes behind its end: they keep the notes where the body has names,
+-- the late numbers of a body with these notes after its end: they keep the notes where the body has names,
 -- or is a row of an array with a name
 abbrev pub kept_late : Bool → List Note → List LateNumber → List LateNumber
 kept_late true notes numbers = map (closed_by notes) numbers

@@ -10,7 +10,7 @@ use Rattle.rz_types_fields.specs.Known.{noted}
 use Rattle.rz_types_fields.specs.Laid.{LateNumber}
 use Rattle.rz_types_fields.specs.declared.names.Note.{Note}
 
--- what names have behind notes, by what they have before them
+-- what names have after notes, by what they have before them
 abbrev pub behind_notes : List Note → Environment → Environment
 behind_notes notes outer = record { give = λ key. noted (outer.give key) notes key }
 

@@ -47,8 +47,8 @@ use std::mem;
 /// zero bits stand for it until all other pieces are laid; a label of rows stands later up to the end of its array. Then the
 /// late numbers are computed, from left to right, each from the bits before it.
 ///
-/// Otherwise the fault is the first from left to right, those of late numbers behind all others: of an expression 211, a
-/// zero divisor, 213 for bits that aren't there (kept: the place behind the last) or aren't 1 to 32 of them (kept: their
+/// Otherwise the fault is the first from left to right, those of late numbers after all others: of an expression 211, a
+/// zero divisor, 213 for bits that aren't there (kept: the place after the last) or aren't 1 to 32 of them (kept: their
 /// number), 215, a shift by a count outside 0 to 31 (kept: the count), or 223 for an index that is the number of no row
 /// (kept: the index); 214 for a text whose size or formats name a label that stands later, or read bits of late numbers
 /// (kept: the piece); 222 for a format that its arguments don't fit; 207 for a value outside the range of its number, or a
@@ -154,7 +154,7 @@ fn lay_body<'a>(
     Ok(())
 }
 
-/// Lays fields one behind the other, each with the next value of the row where it takes one.
+/// Lays fields one after the other, each with the next value of the row where it takes one.
 #[cycle(lay)]
 fn lay_fields<'a>(
     alloc: Global,
@@ -209,7 +209,7 @@ fn lay_field<'a>(
     }
 }
 
-/// Lays the rows of an array; behind them the labels in them are known by the numbers of their rows.
+/// Lays the rows of an array; after them the labels in them are known by the numbers of their rows.
 #[cycle(lay)]
 fn lay_array<'a>(
     alloc: Global,
@@ -242,7 +242,7 @@ fn count_of(rows: &[Row]) -> u64
     rows.len() as u64
 }
 
-/// Lays the rows of an array one behind the other.
+/// Lays the rows of an array one after the other.
 #[cycle(lay)]
 fn lay_rows<'a>(
     alloc: Global,

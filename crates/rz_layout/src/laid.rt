@@ -179,7 +179,7 @@ fn in_bytes(bits: u128) -> i64
     bytes.min(MOST_KEPT as u128) as i64
 }
 
-/// The number behind this one, up to the most that a refusal keeps.
+/// The number after this one, up to the most that a refusal keeps.
 pub fn one_more(count: u64) -> u64
     ensures { result ≡ one_more count }
 {

@@ -2,7 +2,7 @@
 //! exactly the first refusal, and there is always one of the two.
 //! A row of an array and the case of a switch that is chosen are laid as bodies of their own: inside, the names of their
 //! arrays have the numbers of their rows, their labels the places where they stand, and the name of the array the number of
-//! the row, and behind them no more; but behind an array the labels in its rows are known by the numbers of the rows.
+//! the row, and after them no more; but after an array the labels in its rows are known by the numbers of the rows.
 //! Numbers that name what stands later, or read late bits, are laid as zero bits first, and written in the end.
 //! It rests on `rz_core`, `rz_words`, `rz_expr`, `rz_bits`, `rz_types_fields`, which has the definitions of spelling
 //! and the notes of names, and `rz_types`.

@@ -127,7 +127,7 @@ pub fn names_later(expr: &Expr, notes: &[Note<'_>]) -> bool
     }
 }
 
-/// The value of an expression behind what is laid so far.
+/// The value of an expression after what is laid so far.
 pub fn value_behind<'e>(expr: &'e Expr, facts: &Facts, laid: &Laid<'_>) -> Result<i32, Unvalued<'e>>
     ensures { held result ≡ value_of (term_of expr.now) (draft_sight facts.now (draft_of laid.now)) }
 {
@@ -143,7 +143,7 @@ pub fn value_behind<'e>(expr: &'e Expr, facts: &Facts, laid: &Laid<'_>) -> Resul
     value_in(expr, &env)
 }
 
-/// The bytes of the parts of a text behind what is laid so far, or their first fault.
+/// The bytes of the parts of a text after what is laid so far, or their first fault.
 pub fn bytes_behind(
     alloc: Global,
     parts: &Texts,

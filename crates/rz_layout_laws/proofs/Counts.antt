@@ -71,7 +71,7 @@ has_is count (Ok other) next is same =
 has_is count (Err fault) next is same = absurd cc
 
 module _ (known : Facts) where
-  -- behind a step that lays nothing
+  -- after a step that lays nothing
   same_count : (steps : List Step) (drafts next : Drafts) → drafts.inner.piece ≤ most_kept → next.inner.piece ≡ drafts.inner.piece
       → (next.inner.piece ≤ most_kept → Has (min (next.inner.piece + pieces_in steps) most_kept) (steps_drafted known next steps))
       → Has (min (drafts.inner.piece + pieces_in steps) most_kept) (steps_drafted known next steps)

@@ -29,7 +29,7 @@ across (Ok x) seen all one other each = each x
 across (Err fault) seen all one other each = refl
 
 module _ (known : Facts) where
-  -- the steps of two lists, one list behind the other
+  -- the steps of two lists, one list after the other
   pub parted : (front : List Step) (behind : List Step) (drafts : Drafts)
       → steps_drafted known drafts (front ++ behind) ≡ (steps_drafted known drafts front >>= λ next. steps_drafted known next behind)
   parted [] behind drafts = refl

@@ -17,7 +17,7 @@ use Rattle.rz_types_fields.specs.Spells.{most_bits}
 use Rattle.rz_types_fields.specs.declared.field.NumForm.{NumForm}
 use Rattle.rz_types_fields.specs.declared.tree.Tree.{Tree}
 
--- a late number of one of the steps that are drafted behind these drafts
+-- a late number of one of the steps that are drafted after these drafts
 record LeftFrom (known : Facts) (drafts : Drafts) (steps : List Step) (one : LateNumber) : Type 0 where
   pub front : List Step
   pub piece : Piece
@@ -107,7 +107,7 @@ module _ (So : LateNumber → Type 0) where
     closed_drafted inner (outer ∷ others) is also = (is, also.1)
 
     module _ (known : Facts) where
-      -- what is drafted behind a piece has such late numbers too
+      -- what is drafted after a piece has such late numbers too
       abbrev GoesOn : Drafts → List Step → Type 0
       GoesOn drafts steps = (next : Draft) → Each next.numbers → ((one : LateNumber) → LeftFrom known (within_bodies drafts next) steps one → So one)
           → Found (steps_drafted known (within_bodies drafts next) steps)

@@ -12,7 +12,7 @@ use Rattle.rz_types_fields.specs.declared.tree.Tree.{Tree}
 
 -- one step through a row: a piece with its value or none; the front of a body with its values, or its end, between which it has
 -- names of its own; the front or the end of an array or of a case, between which labels have their places apart; or the end of
--- all rows of an array, behind which the labels in them have places by the numbers of the rows
+-- all rows of an array, after which the labels in them have places by the numbers of the rows
 pub data Step : Type 0 where
   Lays : (piece : Piece) (value : Option Tree) → Step
   Begins : (which : Option RowOf) (body : PlainBody) (values : List Tree) → Step
@@ -98,12 +98,12 @@ within_bodies drafts inner = record { inner = inner; around = drafts.around }
 abbrev pub alone : Result Draft Refusal → Result Drafts Refusal
 alone laid = laid >>= λ draft. Ok (record { inner = draft; around = [] })
 
--- the body around goes on behind what is laid of the one within it
+-- the body around goes on after what is laid of the one within it
 abbrev pub ended : Option RowOf → PlainBody → Draft → List Draft → Drafts
 ended which body inner [] = record { inner = inner; around = [] }
 ended which body inner (outer ∷ others) = record { inner = leave which body outer inner; around = others }
 
--- behind an array or a case the places of labels are those before it
+-- after an array or a case the places of labels are those before it
 abbrev pub closed : Draft → List Draft → Drafts
 closed inner [] = record { inner = inner; around = [] }
 closed inner (outer ∷ others) = record { inner = with_places outer.places inner; around = others }

@@ -8,7 +8,7 @@ use Rattle.rz_types_fields.specs.Passed.{outside}
 use Rattle.rz_types_fields.specs.Piece.{Piece}
 use Rattle.rz_types_fields.specs.declared.tree.Tree.{Tree}
 
--- those before a piece are drafted, and the piece isn't laid behind them; the refusal has the number of pieces before it
+-- those before a piece are drafted, and the piece isn't laid after them; the refusal has the number of pieces before it
 pub record IsRefusedPiece (known : Facts) (body : PlainBody) (row : List Tree) (fault : Refusal) : Type 0 where
   pub front : List Step
   pub piece : Piece
@@ -20,8 +20,8 @@ pub record IsRefusedPiece (known : Facts) (body : PlainBody) (row : List Tree) (
   pub refused : lay known drafts.inner piece value ≡ Err fault
   pub at : fault.piece ≡ min (pieces_in front) most_kept
 
--- a late number is that of a piece: those before it are drafted, and behind them the piece is left for later with this type, width
--- and expression; the number has the number of pieces before it, and its place is behind their bits
+-- a late number is that of a piece: those before it are drafted, and after them the piece is left for later with this type, width
+-- and expression; the number has the number of pieces before it, and its place is after their bits
 pub record IsOfPiece (known : Facts) (body : PlainBody) (row : List Tree) (one : LateNumber) : Type 0 where
   pub front : List Step
   pub piece : Piece

@@ -8,11 +8,11 @@ ghost use Rattle.rz_types_fields.specs.Field.{PlainBody};
 ghost use Rattle.rz_types_fields.specs.Laid.{laid, nothing_laid, row_laid, Refusal};
 ghost use Rattle.rz_types_fields.specs.declared.tree.Tree.{Tree};
 
-/// A law, with nothing to run: a row is refused exactly at the first of its pieces that isn't laid behind those before it,
+/// A law, with nothing to run: a row is refused exactly at the first of its pieces that isn't laid after those before it,
 /// with the number of pieces before it, at most 9,223,372,036,854,775,807; or, where all pieces are laid, at the first late
 /// number that has no bits once those before it stand in their places, with the number of pieces before its own. The
 /// refusal is the one with which the piece isn't laid, or with which the number has no bits. And to lay a row is to draft
-/// its pieces in one list, each behind the one before, between the fronts and the ends of bodies, of arrays and of cases.
+/// its pieces in one list, each after the one before, between the fronts and the ends of bodies, of arrays and of cases.
 pub fn refused_at()
     ensures refused { (known : Facts) (body : PlainBody) (row : List Tree) (fault : Refusal)
         → (laid known body row ≡ Err fault) ↔ IsRefusedAt known body row fault }

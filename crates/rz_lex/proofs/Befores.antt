@@ -13,6 +13,6 @@ passed_over zero bs = refl
 passed_over (suc size) [] = refl
 passed_over (suc size) (b ∷ bs) = passed_over size bs
 
--- an escape, and what is read behind it
+-- an escape, and what is read after it
 pub escape_read : (bs left : List ℕ) (byte size : ℕ) → escape_at bs ≡ Some (byte, size) → left ≡ drop size bs → text_value 0 (92 ∷ bs) ≡ before (byte ∷ []) (text_value 0 left)
 escape_read bs left byte size is rest = rw (is, rest) (ap (before (byte ∷ [])) (passed_over size bs))

@@ -83,7 +83,7 @@ module _ (base : ℕ) (some : 1 < base) (most : base ≤ 16) where
   value_back count number there below fits =
       rw (how_many count number, lt-ltb 0 count there, all_digits count number, back count number fits, lt-ltb number (2 ^ 32) below) refl
 
--- Octal, hexadecimal and binary numbers behind a 0.
+-- Octal, hexadecimal and binary numbers after a 0.
 
 octal_value : (ds : List ℕ) (n : ℕ) → are_digits 8 ds ≡ true → 0 < length ds → digits_value 8 ds ≡ Some n → value_behind_0 ds ≡ Some n
 octal_value [] n all some value = absurd (omega arith)
@@ -134,7 +134,7 @@ binary_back mark letter count number after (inl is) =
 binary_back mark letter count number after (inr is) =
     binary_here mark letter count number after (ap is_word_byte is) (ap (λ (x : ℕ). x == 120 || x == 88) is) (ap (λ (x : ℕ). x == 98 || x == 66) is)
 
--- Hexadecimal numbers behind `$`.
+-- Hexadecimal numbers after `$`.
 
 -- a byte with the value of a hex digit is one
 hex_of_value : (d : ℕ) → nat_lt (digit_value d) 16 ≡ true → is_hex_digit d ≡ true

@@ -15,7 +15,7 @@ abbrev pub Ends : (List ℕ → Bool) → List ℕ → Option (List ℕ) → Typ
 Ends test rest None = NoFront test rest
 Ends test rest (Some after) = (front : List ℕ) × Longest test rest front after
 
--- a byte in front, behind which the test goes on as another
+-- a byte in front, after which the test goes on as another
 
 further : (next test : List ℕ → Bool) (b : ℕ) (bs after : List ℕ) → ((xs : List ℕ) → test (b ∷ xs) ≡ next xs) → Ends next bs (Some after) → Ends test (b ∷ bs) (Some after)
 further next test b bs after same ends = (
@@ -142,7 +142,7 @@ ends_lexeme (b ∷ bs) = by_test (Ends is_lexeme (b ∷ bs) (after_lexeme (b ∷
     (λ l. rw (h, k, l) (onward ends_dollar is_lexeme b bs (after_dollar bs) refl (λ xs. rw (h, k, l) refl) (ends_one_dollar bs)))
     (λ l. rw (h, k, l) (alike is_sign is_lexeme b bs (after_sign (b ∷ bs)) refl (λ xs. rw (h, k, l) refl) (ends_sign b bs)))))
 
--- the front of a cut is as long as what is missing behind it
+-- the front of a cut is as long as what is missing after it
 pub front_is : (rest front after : List ℕ) → rest ≡ front ++ after → take (length rest - length after) rest ≡ front
 front_is rest front after is =
     let size : length rest - length after ≡ length front = omega (arith, ap length is, length-append front after) in

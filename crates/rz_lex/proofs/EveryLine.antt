@@ -23,7 +23,7 @@ if_short : (test : Bool) (one other : List ℕ) (n : ℕ) → length one ≤ n �
 if_short true one other n here there = here
 if_short false one other n here there = there
 
--- behind the blanks stands no more than the line
+-- after the blanks stands no more than the line
 blanks_short : (line : List ℕ) → length (after_blanks line) ≤ length line
 blanks_short [] = omega arith
 blanks_short (b ∷ bs) =
@@ -65,7 +65,7 @@ module _ (mark : Mark) (line : List ℕ) where
       let short = blanks_short line in
       by_shape ends.0 after (shape_of mark ends.0) there ends.1 refl (further after (omega (arith, less, short)))
 
-  -- behind the blanks stands something or nothing
+  -- after the blanks stands something or nothing
   by_rest : (rest : List ℕ) → after_blanks line ≡ rest → ((after : List ℕ) → length after < length line → IsCut mark after) → IsCut mark line
   by_rest [] is further = inl ([], (line, refl, is))
   by_rest (b ∷ bs) is further = by_lexeme (after_lexeme (after_blanks line)) (λ e. absurd cc) (ends_lexeme (after_blanks line)) further

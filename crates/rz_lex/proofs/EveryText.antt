@@ -9,7 +9,7 @@ use Rattle.rz_lex.specs.Cover.{after_part, Parts}
 use Rattle.rz_lex.specs.Lines.{lines_of, open_comment, part_before, HasLines}
 use Rattle.rz_lex.proofs.Fronts.{part_front}
 
--- first parts behind which no part stands
+-- first parts after which no part stands
 abbrev AllParts : List Placed → Type 0
 AllParts text = (parts : List (List Placed)) × (rest : List Placed) × Parts text parts rest × (after_part rest ≡ None)
 

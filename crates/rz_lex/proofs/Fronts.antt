@@ -79,6 +79,6 @@ by_kind false true quoted quote text rest e = front_is text (after_text text) re
 by_kind false false true quote text rest e = front_is text (after_quote quote text) rest (quote_front quote text) (some_is (after_quote quote text) rest e)
 by_kind false false false quote text rest e = front_is text text rest (nothing text) (some_is text rest e)
 
--- what a part leaves stands behind its first byte
+-- what a part leaves stands after its first byte
 pub part_front : (first : Placed) (text rest : List Placed) → after_part (first ∷ text) ≡ Some rest → Front text rest
 part_front first text rest e = by_kind (begins 47 42 (first ∷ text)) (begins 47 47 (first ∷ text)) (is_quote first.byte) first.byte text rest e

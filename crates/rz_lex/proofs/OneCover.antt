@@ -10,7 +10,7 @@ use Rattle.rz_lex.specs.Lines.{lines_of, open_comment, HasLines}
 same_rest : (text y z : List Placed) → after_part text ≡ Some y → after_part text ≡ Some z → y ≡ z
 same_rest text y z p q = cc
 
--- two rows of first parts behind which no part stands
+-- two rows of first parts after which no part stands
 pub one_row : (text rest end : List Placed) (ps qs : List (List Placed)) → Parts text ps end → Parts text qs rest → after_part end ≡ None → after_part rest ≡ None → (ps ≡ qs) × (end ≡ rest)
 one_row text rest end [] [] p q done stuck = (refl, sym p ∙ q)
 one_row text rest end [] (b ∷ qs) p q done stuck = absurd (let h : after_part text ≡ None = ap after_part p ∙ done in let k = q.2 in cc)

@@ -46,7 +46,7 @@ module _ (file : ℕ) where
   first_mark [] rest h = absurd (h refl)
   first_mark (a ∷ p) rest h = refl
 
-  -- the parts of one line and the line end behind them
+  -- the parts of one line and the line end after them
   one_line : (from mid to : List Placed) (parts more : List (List Placed)) (e : Placed) → Parts from parts mid → AllByRecursion IsInside parts → mid ≡ e ∷ to → e.byte ≡ 10
       → lines_of file (parts ++ (e ∷ []) ∷ more) ≡ record { bytes = flat_map text_of parts; mark = mark_of file from } ∷ lines_of file more
   one_line from mid to [] more e taken inside at ten = rw (ten, taken, at) refl

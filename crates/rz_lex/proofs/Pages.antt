@@ -165,7 +165,7 @@ abbrev feed : ℕ → Placed
 feed line = record { byte = 10; line = line }
 
 module _ (n : ℕ) where
-  -- what stands behind a quoted part
+  -- what stands after a quoted part
   quote_on : (quote : ℕ) (inside : List ℕ) (more : List Placed) → Closed quote inside → AreInLine inside → cover.after_quote quote (placed n inside ++ more) ≡ more
   quote_on quote _ more last in_line = rw (ne_eqb quote 10 in_line.0.0, eq-eqb quote quote refl) refl
   quote_on quote _ more (taken byte slash ends) in_line = rw (slash, ne_eqb byte 10 in_line.1.0.0) (quote_on quote _ more ends in_line.1.1)
@@ -216,7 +216,7 @@ module _ (n : ℕ) where
   bytes_again [] = refl
   bytes_again (b ∷ bytes) = ap (λ (x : List ℕ). b ∷ x) (bytes_again bytes)
 
-  -- the parts of a clean line, whatever stands behind it
+  -- the parts of a clean line, whatever stands after it
   line_parts : (line : List ℕ) (more : List Placed) → Clean line → AreInLine line → LineSoFar (placed n line ++ more) more line
   line_parts _ more nothing in_line = none_so_far more
   line_parts _ more (single {bytes} byte bare clean) in_line =

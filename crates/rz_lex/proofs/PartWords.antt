@@ -40,7 +40,7 @@ none_empty : NoClose []
 none_empty [] behind star slash is = absurd cc
 none_empty (z ∷ front) behind star slash is = absurd cc
 
--- the comment that ends, and what stands behind it
+-- the comment that ends, and what stands after it
 record Closed (text rest : List Placed) : Type 0 where
   body : List Placed
   star : Placed

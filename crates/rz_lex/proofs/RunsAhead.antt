@@ -154,7 +154,7 @@ part_taken text rest old new t = record {
   left = t.left ∙ ap (λ (bs : List ℕ). old ++ bs) (sym (flat_map-cons text_of t.part [] ∙ append-nil (text_of t.part)));
 }
 
--- the run and what stands behind it, as the text is split
+-- the run and what stands after it, as the text is split
 pub split_is : (test : ℕ → Bool) (line : ℕ) (bytes run rest : List ℕ) (size behind : ℕ) → size ≡ prefix_len test bytes → run ≡ take size bytes → rest ≡ drop size bytes → behind ≡ line
     → HasRun test (joined line bytes) (take_while test bytes) (joined line (drop (prefix_len test bytes) bytes)) → HasRun test (joined line bytes) run (joined behind rest)
 split_is test line bytes run rest size behind counted front back same r =

@@ -31,13 +31,13 @@ pub bad_lexeme : (mark : Mark) (rest lexeme after : List ℕ) (stop : Stop Fault
 bad_lexeme mark rest lexeme after (Refused fault) longest is = inr (lexeme, after, longest, is)
 bad_lexeme mark rest lexeme after NoMemory longest is = tt
 
--- a fault behind the blanks of a line
+-- a fault after the blanks of a line
 pub refused_here : (mark : Mark) (line rest : List ℕ) (stop : Stop Fault) → rest ≡ after_blanks line → false ≡ (length rest == 0)
     → OnFault {X = Unit {0}} {F = Fault} (Err stop) (IsBad mark rest) → OnFault {X = Unit {0}} {F = Fault} (Err stop) (λ fault. (after_blanks line ≢ []) × IsBad mark (after_blanks line) fault)
 refused_here mark line rest stop same some is = refused_so stop (IsBad mark rest) (λ fault. (after_blanks line ≢ []) × IsBad mark (after_blanks line) fault)
     (λ fault bad. (λ e. false≢true (some ∙ ap (λ (x : List ℕ). length x == 0) (same ∙ e)), subst (λ (x : List ℕ). IsBad mark x fault) same bad)) is
 
--- a fault behind some tokens is the first of the line
+-- a fault after some tokens is the first of the line
 pub refused_more : (mark : Mark) (line : List ℕ) (tokens : List Token) (rest : List ℕ) (stop : Stop Fault) → Leads mark line tokens rest
     → OnFault {X = Unit {0}} {F = Fault} (Err stop) (λ fault. (after_blanks rest ≢ []) × IsBad mark (after_blanks rest) fault) → OnFault {X = Unit {0}} {F = Fault} (Err stop) (Refuses mark line)
 refused_more mark line tokens rest (Refused fault) leads is = record { tokens = tokens; rest = rest; leads = leads; some = is.0; bad = is.1 }

@@ -9,17 +9,17 @@ abbrev pub begins : ℕ → ℕ → List Placed → Bool
 begins one two [] = false
 begins one two (first ∷ rest) = first.byte == one && is_at two rest
 
--- what stands behind the first `*/`
+-- what stands after the first `*/`
 abbrev pub after_close : List Placed → Option (List Placed)
 after_close [] = None
 after_close (first ∷ rest) = if first.byte == 42 && is_at 47 rest then Some (drop 1 rest) else after_close rest
 
--- what stands behind the text of the line: its line end and all that follows it
+-- what stands after the text of the line: its line end and all that follows it
 abbrev pub after_text : List Placed → List Placed
 after_text [] = []
 after_text (first ∷ rest) = if first.byte == 10 then first ∷ rest else after_text rest
 
--- what stands behind the first such quote mark in the line, or behind the text of the line where it has none; a
+-- what stands after the first such quote mark in the line, or after the text of the line where it has none; a
 -- backslash takes the next byte of the line along
 abbrev mutual
   pub after_quote : ℕ → List Placed → List Placed
@@ -34,7 +34,7 @@ abbrev mutual
   after_taken quote [] = []
   after_taken quote (first ∷ rest) = if first.byte == 10 then first ∷ rest else after_quote quote rest
 
--- what stands behind the first part of a text: a comment from `/*` to `*/`, a comment from `//` to the end of its
+-- what stands after the first part of a text: a comment from `/*` to `*/`, a comment from `//` to the end of its
 -- line, a quoted part, or one byte; there is none in an empty text, nor where a comment begins that never ends
 abbrev pub after_part : List Placed → Option (List Placed)
 after_part [] = None
@@ -44,7 +44,7 @@ after_part (first ∷ rest) =
     else if is_quote first.byte then Some (after_quote first.byte rest)
     else Some rest
 
--- these are the first parts of a text, one behind the other, and this stands behind them
+-- these are the first parts of a text, one after the other, and this stands after them
 abbrev pub Parts : List Placed → List (List Placed) → List Placed → Type 0
 Parts text [] rest = text ≡ rest
 Parts text (part ∷ parts) rest =

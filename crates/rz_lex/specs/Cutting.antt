@@ -12,7 +12,7 @@ abbrev pub after_blanks : List ℕ → List ℕ
 after_blanks [] = []
 after_blanks (b ∷ bs) = if is_blank b then after_blanks bs else b ∷ bs
 
--- behind blanks stands the longest lexeme, which is this token, and then after
+-- after blanks stands the longest lexeme, which is this token, and then what is left after it
 pub record Next (mark : Mark) (line : List ℕ) (token : Token) (after : List ℕ) : Type 0 where
   pub lexeme : List ℕ
   pub longest : Longest is_lexeme (after_blanks line) lexeme after
@@ -24,7 +24,7 @@ abbrev pub Leads : Mark → List ℕ → List Token → List ℕ → Type 0
 Leads mark line [] rest = line ≡ rest
 Leads mark line (token ∷ tokens) rest = (after : List ℕ) × Next mark line token after × Leads mark after tokens rest
 
--- these are the tokens of the line: behind them stand only blanks
+-- these are the tokens of the line: after them stand only blanks
 abbrev pub Cuts : Mark → List ℕ → List Token → Type 0
 Cuts mark line tokens = (rest : List ℕ) × Leads mark line tokens rest × (after_blanks rest ≡ [])
 

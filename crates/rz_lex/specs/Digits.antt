@@ -14,7 +14,7 @@ abbrev pub are_digits : ℕ → List ℕ → Bool
 are_digits base [] = true
 are_digits base (d ∷ ds) = nat_lt (digit_value d) base && are_digits base ds
 
--- the number that digits spell behind a number
+-- the number that digits spell after a number
 abbrev pub spelled_from : ℕ → ℕ → List ℕ → ℕ
 spelled_from base number [] = number
 spelled_from base number (d ∷ ds) = spelled_from base (base * number + digit_value d) ds
@@ -26,7 +26,7 @@ digits_value base ds =
     then Some (spelled_from base 0 ds)
     else None
 
--- behind a 0: hex digits behind `x`, binary digits behind `b`, or octal digits
+-- after a 0: hex digits after `x`, binary digits after `b`, or octal digits
 abbrev pub value_behind_0 : List ℕ → Option ℕ
 value_behind_0 [] = Some 0
 value_behind_0 (b ∷ bs) =

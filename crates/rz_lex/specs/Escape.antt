@@ -7,12 +7,12 @@ abbrev pub as_byte : ℕ → Option ℕ → Option (ℕ × ℕ)
 as_byte size None = None
 as_byte size (Some value) = if nat_lt value 256 then Some (value, size) else None
 
--- the byte that exactly so many digits spell, behind some bytes that are passed
+-- the byte that exactly so many digits spell, after some bytes that are passed
 abbrev pub digits_escape : ℕ → ℕ → ℕ → List ℕ → Option (ℕ × ℕ)
 digits_escape base passed count bs =
     if nat_le count (length bs) then as_byte (passed + count) (digits_value base (take count bs)) else None
 
--- behind `\0`: the letter of a base and its digits, or two octal digits more
+-- after `\0`: the letter of a base and its digits, or two octal digits more
 abbrev pub escape_behind_0 : List ℕ → Option (ℕ × ℕ)
 escape_behind_0 [] = None
 escape_behind_0 (b ∷ bs) =
@@ -21,7 +21,7 @@ escape_behind_0 (b ∷ bs) =
     else if b == 88 || b == 120 then digits_escape 16 2 2 bs
     else digits_escape 8 0 3 (48 ∷ b ∷ bs)
 
--- the byte that one letter or mark behind a backslash stands for
+-- the byte that one letter or mark after a backslash stands for
 abbrev pub letter_escape : ℕ → Option ℕ
 letter_escape byte =
     if byte == 116 then Some 9
@@ -52,7 +52,7 @@ abbrev pub before : List ℕ → Option (List ℕ) → Option (List ℕ)
 before front None = None
 before front (Some bs) = Some (front ++ bs)
 
--- the byte of an escape, and what is read behind it
+-- the byte of an escape, and what is read after it
 abbrev pub escape_then : Option (ℕ × ℕ) → (ℕ → Option (List ℕ)) → Option (List ℕ)
 escape_then None more = None
 escape_then (Some escape) more = before (escape.0 ∷ []) (more escape.1)

@@ -14,7 +14,7 @@ abbrev mutual
   closes quote [] = false
   closes quote (b ∷ bs) = if b == quote then is_empty bs else if b == 92 then closes_behind quote bs else closes quote bs
 
-  -- the same, behind a backslash
+  -- the same, after a backslash
   pub closes_behind : ℕ → List ℕ → Bool
   closes_behind quote [] = false
   closes_behind quote (b ∷ bs) = closes quote bs

@@ -13,7 +13,7 @@ abbrev mutual
       else if nat_lt (digit_value b) 16 then hex_behind (digit_value b) bs
       else None
 
-  -- the same, behind the first digit of a pair
+  -- the same, after the first digit of a pair
   pub hex_behind : ℕ → List ℕ → Option (List ℕ)
   hex_behind high [] = None
   hex_behind high (b ∷ bs) =
@@ -21,7 +21,7 @@ abbrev mutual
       else if nat_lt (digit_value b) 16 then before ((16 * high + digit_value b) ∷ []) (hex_value bs)
       else None
 
--- the same, behind a first digit or behind none
+-- the same, after a first digit or after none
 abbrev pub hex_from : Option ℕ → List ℕ → Option (List ℕ)
 hex_from None bs = hex_value bs
 hex_from (Some high) bs = hex_behind high bs

@@ -7,13 +7,13 @@ use Rattle.rz_lex.specs.declared.joined.Placed.{Placed}
 use Rattle.rz_lex.specs.declared.raw_line.RawLine.{RawLine}
 use Rattle.rz_lex.specs.declared.token.Token.{Token}
 
--- these are the tokens of the lines, those of one line behind those of the line before
+-- these are the tokens of the lines, those of one line after those of the line before
 abbrev pub CutInto : List RawLine → List Token → Type 0
 CutInto [] tokens = tokens ≡ []
 CutInto (line ∷ lines) tokens =
     (front : List Token) × (back : List Token) × (tokens ≡ front ++ back) × Cuts line.mark line.bytes front × CutInto lines back
 
--- the first fault of the lines, which end so: of the first line that can't be cut, else of the open comment behind all
+-- the first fault of the lines, which end so: of the first line that can't be cut, else of the open comment after all
 abbrev pub FirstBad : List RawLine → Option Fault → Fault → Type 0
 FirstBad [] None fault = ⊥
 FirstBad [] (Some open_comment) fault = fault ≡ open_comment

@@ -36,7 +36,7 @@ pub record IsCovered (file : ℕ) (text : List Placed) (lines : List RawLine) : 
   pub cover : Cover text parts
   pub are : lines ≡ lines_of file parts
 
--- behind some first parts of the text a comment begins that never ends, these lines stand before the one in which it
+-- after some first parts of the text a comment begins that never ends, these lines stand before the one in which it
 -- begins, and this is its fault
 pub record HasOpenComment (file : ℕ) (text : List Placed) (lines : List RawLine) (fault : Fault) : Type 0 where
   pub parts : List (List Placed)

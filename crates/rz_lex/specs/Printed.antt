@@ -21,7 +21,7 @@ word_of bytes = shapes.Word (record { bytes = bytes })
 abbrev pub AreBytes : List ℕ → Type 0
 AreBytes bs = AllByRecursion (λ b. b < 256) bs
 
--- behind `$`, a second `$` and what goes on from there to a word
+-- after `$`, a second `$` and what goes on from there to a word
 abbrev pub is_dollar_word : List ℕ → Bool
 is_dollar_word [] = false
 is_dollar_word (b ∷ bs) = b == 36 && ends_dollar_word bs
@@ -36,7 +36,7 @@ abbrev pub begins_word : List ℕ → Bool
 begins_word [] = false
 begins_word (b ∷ bs) = is_word_byte b
 
--- these bytes and the first one behind them are a sign
+-- these bytes and the first one after them are a sign
 abbrev pub goes_on : List ℕ → List ℕ → Bool
 goes_on sign [] = false
 goes_on sign (b ∷ bs) = is_sign (sign ++ b ∷ [])

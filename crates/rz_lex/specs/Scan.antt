@@ -15,7 +15,7 @@ abbrev mutual
   after_quote quote [] = None
   after_quote quote (b ∷ bs) = if b == quote then Some bs else if b == 92 then after_taken quote bs else after_quote quote bs
 
-  -- the same, behind a backslash
+  -- the same, after a backslash
   pub after_taken : ℕ → List ℕ → Option (List ℕ)
   after_taken quote [] = None
   after_taken quote (b ∷ bs) = after_quote quote bs

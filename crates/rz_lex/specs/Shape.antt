@@ -62,11 +62,11 @@ abbrev pub hex_shape : Mark → Option (List ℕ) → Result Shape Fault
 hex_shape mark None = Err (fault_at mark 113 Nothing)
 hex_shape mark (Some value) = Ok (shapes.Text value)
 
--- the bytes behind the first so many and before the last one
+-- the bytes after the first so many and before the last one
 abbrev pub inside : ℕ → List ℕ → List ℕ
 inside front bytes = take (length bytes - (front + 1)) (drop front bytes)
 
--- a lexeme that begins with `$`: a hex text behind `"`, a word behind a second `$`, else a number
+-- a lexeme that begins with `$`: a hex text after `"`, a word after a second `$`, else a number
 abbrev pub dollar_shape : Mark → List ℕ → List ℕ → Result Shape Fault
 dollar_shape mark bytes [] = word_shape mark bytes
 dollar_shape mark bytes (b ∷ bs) =

@@ -64,7 +64,7 @@ sign_of_one byte =
     else if byte == 33 then Some Bang
     else None
 
--- the sign that two bytes are: one of four with `=` behind it, or one of four twice
+-- the sign that two bytes are: one of four with `=` after it, or one of four twice
 abbrev pub sign_of_two : ℕ → ℕ → Option Sign
 sign_of_two first second =
     if second == 61 then (

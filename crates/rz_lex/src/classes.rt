@@ -31,7 +31,7 @@ pub fn is_hex_digit(byte: u8) -> bool
     is_digit(byte) || (byte >= b'a' && byte <= b'f') || (byte >= b'A' && byte <= b'F')
 }
 
-/// Whether a byte may stand in a word behind its first: a letter, `_` or a digit.
+/// Whether a byte may stand in a word after its first: a letter, `_` or a digit.
 pub fn is_word_byte(byte: u8) -> bool
     ensures { result ≡ is_word_byte byte }
 {

@@ -14,7 +14,7 @@ use crate::runs::{plain_run, unbroken_run};
 use rz_core::{Bytes, NoMemory};
 
 /// Takes the bytes that stand ahead and are parts by themselves, and where there is none the part that stands
-/// ahead, which is no line end; appends what they leave in their line, and gives the position behind them.
+/// ahead, which is no line end; appends what they leave in their line, and gives the position after them.
 /// `None` comes exactly where a comment begins that never ends.
 pub fn take_parts<'a>(
     start: Position<'a>,
@@ -39,7 +39,7 @@ pub fn take_parts<'a>(
 }
 
 /// Takes the part that stands ahead, which is no line end, appends what it leaves in its line, and gives
-/// the position behind it. `None` comes exactly where a comment begins that never ends.
+/// the position after it. `None` comes exactly where a comment begins that never ends.
 fn take_part<'a>(start: Position<'a>, out: &mut Bytes) -> Result<Option<Position<'a>>, NoMemory>
     requires room { start.line + length start.rest.now ≤ 2 ^ 32 }
     requires inside { is_at 10 (ahead start) ≡ false }
@@ -79,7 +79,7 @@ fn begins(first: u8, second: u8, place: Position) -> bool
     false
 }
 
-/// What stands behind a comment that begins with the two bytes ahead.
+/// What stands after a comment that begins with the two bytes ahead.
 fn skip_block(start: Position) -> Option<Position>
     requires { start.line + length start.rest.now ≤ 2 ^ 32 }
     ensures rest { MatchOption result (after_close (drop 2 (ahead start.entry)) ≡ None) (λ place. after_close (drop 2 (ahead start.entry)) ≡ Some (ahead place)) }
@@ -90,7 +90,7 @@ fn skip_block(start: Position) -> Option<Position>
     skip_comment(inside)
 }
 
-/// What stands behind the first `*/`.
+/// What stands after the first `*/`.
 fn skip_comment(start: Position) -> Option<Position>
     requires { start.line + length start.rest.now ≤ 2 ^ 32 }
     ensures rest { MatchOption result (after_close (ahead start.entry) ≡ None) (λ place. after_close (ahead start.entry) ≡ Some (ahead place)) }
@@ -110,7 +110,7 @@ fn skip_comment(start: Position) -> Option<Position>
     None
 }
 
-/// What stands behind bytes that are no `*`.
+/// What stands after bytes that are no `*`.
 fn skip_to_star(start: Position) -> Position
     ensures rest { after_close (ahead start.entry) ≡ after_close (ahead result) }
     ensures on { IsOn start.entry result }
@@ -118,7 +118,7 @@ fn skip_to_star(start: Position) -> Position
     unbroken_run(b'*', start).1
 }
 
-/// What stands behind the text of the line, whose first byte is not its line end.
+/// What stands after the text of the line, whose first byte is not its line end.
 fn skip_slashes(start: Position) -> Position
     requires room { start.line + length start.rest.now ≤ 2 ^ 32 }
     requires inside { is_at 10 (ahead start) ≡ false }
@@ -132,7 +132,7 @@ fn skip_slashes(start: Position) -> Position
     }
 }
 
-/// What stands behind the text of the line: its line end, or nothing.
+/// What stands after the text of the line: its line end, or nothing.
 fn skip_text(start: Position) -> Position
     requires { start.line + length start.rest.now ≤ 2 ^ 32 }
     ensures rest { after_text (ahead start.entry) ≡ ahead result }
@@ -148,7 +148,7 @@ fn skip_text(start: Position) -> Position
     place
 }
 
-/// What stands behind bytes that end no line.
+/// What stands after bytes that end no line.
 fn skip_to_end(start: Position) -> Position
     ensures rest { after_text (ahead start.entry) ≡ after_text (ahead result) }
     ensures on { IsOn start.entry result }
@@ -177,7 +177,7 @@ fn copy_part<'a>(start: Position<'a>, out: &mut Bytes) -> Result<Position<'a>, N
     Ok(after)
 }
 
-/// Copies what is left of a quoted part behind its first mark.
+/// Copies what is left of a quoted part after its first mark.
 fn copy_quoted<'a>(
     quote: u8,
     start: Position<'a>,
@@ -235,7 +235,7 @@ fn copy_taken<'a>(start: Position<'a>, out: &mut Bytes) -> Result<Position<'a>, 
     }
 }
 
-/// The law of parts: what stands behind the first part of a text is what stands behind a comment, a quoted part
+/// The law of parts: what stands after the first part of a text is what stands after a comment, a quoted part
 /// or a single byte at its front, in the words of the language; a text has no first part exactly where it is
 /// empty or begins with a comment that never ends.
 pub fn parts_of_language()

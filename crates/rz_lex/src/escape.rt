@@ -79,7 +79,7 @@ fn escape_at(bytes: &[u8]) -> Option<(u8, usize)>
     }
 }
 
-/// The same for an escape that begins with a 0; `bytes` stands behind the 0.
+/// The same for an escape that begins with a 0; `bytes` stands after the 0.
 fn escape_behind_0(whole: &[u8], bytes: &[u8]) -> Option<(u8, usize)>
     requires { whole.now ≡ 48 ∷ bytes.now }
     ensures value { result ≡ escape_behind_0 bytes.now }
@@ -94,7 +94,7 @@ fn escape_behind_0(whole: &[u8], bytes: &[u8]) -> Option<(u8, usize)>
     }
 }
 
-/// The byte that exactly so many digits spell, behind bytes that are passed, and how many bytes all of
+/// The byte that exactly so many digits spell, after bytes that are passed, and how many bytes all of
 /// these are.
 fn digits_escape(base: u8, passed: usize, count: usize, bytes: &[u8]) -> Option<(u8, usize)>
     requires base { (1 < base) × (base ≤ 16) }
@@ -111,7 +111,7 @@ fn digits_escape(base: u8, passed: usize, count: usize, bytes: &[u8]) -> Option<
     }
 }
 
-/// The byte that one letter or mark behind a backslash stands for.
+/// The byte that one letter or mark after a backslash stands for.
 fn letter_escape(letter: u8) -> Option<u8>
     ensures { result ≡ letter_escape letter }
 {

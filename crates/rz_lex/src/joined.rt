@@ -21,7 +21,7 @@ pub struct Position<'a> {
     pub line: u64,
 }
 
-/// The first byte of the joined text that stands ahead, and the position behind it. `None` comes exactly
+/// The first byte of the joined text that stands ahead, and the position after it. `None` comes exactly
 /// where nothing stands ahead.
 pub fn next_byte(place: Position) -> Option<(Placed, Position)>
     requires { place.line + length place.rest.now ≤ 2 ^ 32 }

@@ -54,7 +54,7 @@ pub fn tokens_are_lexed()
 {}
 
 /// A law, with nothing to run: a token that is written as its text is the next token of a line that
-/// begins with it, for any text behind it that does not go on with it. The digits of a number below 2^32
+/// begins with it, for any text after it that does not go on with it. The digits of a number below 2^32
 /// have that number in each base, whatever zeros stand before them, and the digits of bytes have those
 /// bytes, whatever blanks stand between them. A line is the next token and the tokens of what follows; blanks
 /// in front change nothing.

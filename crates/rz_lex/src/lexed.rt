@@ -64,7 +64,7 @@ fn lex_lines(alloc: Global, text: &[u8], file: u64) -> Result<Tokens, Stop<Fault
     }
 }
 
-/// Moves tokens behind others.
+/// Moves tokens after others.
 fn append(tokens: &mut Tokens, more: Tokens) -> Result<(), NoMemory>
     ensures { OnOk result (tokens.new ≡ tokens.old ++ more) }
 {

@@ -52,7 +52,7 @@ impl Lexer {
         }
     }
 
-    /// Gives the next logical line, and goes behind it. `None` comes exactly at the end of the text. 107 comes exactly
+    /// Gives the next logical line, and goes after it. `None` comes exactly at the end of the text. 107 comes exactly
     /// where a comment begins in this line that never ends; its mark is that of the line. At the end, at a fault and
     /// where memory is refused it stays where it is: so the same comes again, or the line if there is memory then. (MPW
     /// Rez: comments, and a backslash at the end of a line.)
@@ -82,7 +82,7 @@ impl Lexer {
     }
 }
 
-/// The position behind so many bytes of a text.
+/// The position after so many bytes of a text.
 fn stand_at(text: &[u8], at: usize, line: u64) -> Position
     requires { at ≤ length text.now }
     ensures rest { result.rest.now ≡ drop at text.entry.now }

@@ -9,7 +9,7 @@ use crate::classes::is_quote;
 use crate::joined::Position;
 
 /// The bytes that stand ahead and are parts by themselves, up to the first slash, quote mark, backslash or
-/// line end, and the position behind them.
+/// line end, and the position after them.
 pub fn plain_run(start: Position) -> (&[u8], Position)
     ensures run { HasRun is_plain (ahead start.entry) result.0.now (ahead result.1) }
     ensures on { IsOn start.entry result.1 }
@@ -18,7 +18,7 @@ pub fn plain_run(start: Position) -> (&[u8], Position)
     split_run(start, plain_size(start.rest))
 }
 
-/// The bytes that stand ahead up to the first such byte, backslash or line end, and the position behind
+/// The bytes that stand ahead up to the first such byte, backslash or line end, and the position after
 /// them.
 pub fn unbroken_run(stop: u8, start: Position) -> (&[u8], Position)
     ensures run { HasRun (is_unbroken stop) (ahead start.entry) result.0.now (ahead result.1) }
@@ -27,7 +27,7 @@ pub fn unbroken_run(stop: u8, start: Position) -> (&[u8], Position)
     split_run(start, unbroken_size(stop, start.rest))
 }
 
-/// The first so many bytes, none of which ends a line, and the position behind them.
+/// The first so many bytes, none of which ends a line, and the position after them.
 fn split_run(start: Position, size: usize) -> (&[u8], Position)
     requires { size ≤ length start.rest.now }
     ensures run { result.0.now ≡ take size start.entry.rest.now }

@@ -104,7 +104,7 @@ fn number_shape(alloc: Global, mark: Mark, bytes: &[u8]) -> Result<Shape, Stop<F
     }
 }
 
-/// The bytes behind the first so many and before the last one.
+/// The bytes after the first so many and before the last one.
 fn inside(front: usize, bytes: &[u8]) -> &[u8]
     requires { (front < 10) × (front + 1 ≤ length bytes.now) }
     ensures { result.now ≡ inside front bytes.now }
@@ -150,7 +150,7 @@ fn hex_shape(alloc: Global, mark: Mark, bytes: &[u8]) -> Result<Shape, Stop<Faul
     }
 }
 
-/// The shape of a lexeme that begins with `$`; `behind` stands behind the `$`.
+/// The shape of a lexeme that begins with `$`; `behind` stands after the `$`.
 fn dollar_shape(
     alloc: Global,
     mark: Mark,

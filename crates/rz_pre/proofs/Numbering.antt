@@ -8,7 +8,7 @@ use Rattle.rz_lex.specs.declared.token.Token.{Token}
 use Rattle.rz_pre.specs.Condition.{numbered, numbered_shape, put_front}
 use Rattle.rz_pre.specs.declared.condition.Tool.{Tool}
 
--- behind these
+-- after these
 abbrev behind : List Token → Option (List Token) → Option (List Token)
 behind front rest = option_map (λ (ts : List Token). front ++ ts) rest
 

@@ -33,7 +33,7 @@ module _ (live : Live) (tokens : List Token) where
       fails = λ fault x. r.fails fault (inr (front, e, x));
     }
 
-    -- the next token is replaced, and what stands in its place is put behind what was put out before
+    -- the next token is replaced, and what stands in its place is put after what was put out before
     pub one_more_put : (after : List Token) → PutsInPlace live token done after → Replacing live tokens rest after
     one_more_put after (front, e, is) = subst (Replacing live tokens rest) (sym is) (one_more front e)
 

@@ -36,7 +36,7 @@ first : (body : Option (List Token)) → option_map (λ (b : _). zero) (option_m
 first (Some tokens) = refl
 first None = refl
 
--- a position behind one that fails the test
+-- a position after one that fails the test
 further : (n size : ℕ) → (if nat_lt (1 + n) (suc size) then Some (1 + n) else None) ≡ option_map (λ k. suc k) (if nat_lt n size then Some n else None)
 further n size = by (nat_lt n size) refl
   where

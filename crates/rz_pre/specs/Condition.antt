@@ -26,7 +26,7 @@ use Rattle.rz_pre.specs.Live.{Live}
 use Rattle.rz_pre.specs.declared.condition.Tool.{Tool}
 use Rattle.rz_pre.specs.declared.condition.Tool.TheVariants.{DeRez, Rez}
 
--- what is asked: the name behind `defined`, alone or in brackets, and what stands behind it
+-- what is asked: the name after `defined`, alone or in brackets, and what stands after it
 
 abbrev pub word_name : Shape → Option (List ℕ)
 word_name (shapes.Word word) = Some word.bytes

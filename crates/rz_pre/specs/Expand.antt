@@ -13,7 +13,7 @@ mutual
     replaced : {live : Live} {s : Shape} {out : List Shape} {n : ℕ} (body : List Shape) (m : ℕ)
         → body_of live s ≡ Some body → Expansions (hide (name_of s) live) body out m → n ≡ 1 + m → Expansion live s out n
 
-  -- the same of several tokens, one behind the other
+  -- the same of several tokens, one after the other
   pub data Expansions : Live → List Shape → List Shape → ℕ → Type 0 where
     nothing : {live : Live} {out : List Shape} {n : ℕ} → out ≡ [] → n ≡ 0 → Expansions live [] out n
     more : {live : Live} {s : Shape} {ss out : List Shape} {n : ℕ} (a b : List Shape) (i j : ℕ)

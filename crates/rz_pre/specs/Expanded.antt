@@ -17,7 +17,7 @@ spelling other = []
 abbrev pub too_long : Token → Fault
 too_long word = record { number = 112; mark = Some word.mark; kept = Name (spelling word.shape) }
 
--- the tokens are replaced by these, what stands in place of one behind what stands in place of the one before
+-- the tokens are replaced by these, what stands in place of one after what stands in place of the one before
 abbrev pub ExpandInto : Live → List Token → List Token → Type 0
 ExpandInto live [] out = out ≡ []
 ExpandInto live (token ∷ tokens) out =
@@ -29,6 +29,6 @@ FirstTooLong live [] fault = ⊥
 FirstTooLong live (token ∷ tokens) fault =
     (IsTooLong live token × (fault ≡ too_long token)) ⊎ ((front : List Token) × ExpandsTo live token front × FirstTooLong live tokens fault)
 
--- what stands in place of a token is put behind what was put out before
+-- what stands in place of a token is put after what was put out before
 abbrev pub PutsInPlace : Live → Token → List Token → List Token → Type 0
 PutsInPlace live token done after = (front : List Token) × ExpandsTo live token front × (after ≡ done ++ front)

@@ -54,7 +54,7 @@ abbrev pub is_kept : Option Open → Bool
 is_kept None = true
 is_kept (Some one) = is_chosen one.part
 
--- the part behind a test that holds is chosen; behind one that doesn't, a later part may be
+-- the part after a test that holds is chosen; after one that doesn't, a later part may be
 abbrev pub part_where : Bool → Part
 part_where holds = if holds then Chosen else Waiting
 
@@ -79,7 +79,7 @@ abbrev pub or_bad : Mark → List Token → Option Act → Result Act Fault
 or_bad mark tokens None = Err (bad_directive mark tokens)
 or_bad mark tokens (Some act) = Ok act
 
--- the tokens behind the directive's word
+-- the tokens after the directive's word
 abbrev pub behind_first : List Token → List Token
 behind_first [] = []
 behind_first (first ∷ rest) = rest
@@ -114,7 +114,7 @@ abbrev pub undefined : List Token → Option Act
 undefined (name ∷ []) = option_map (λ word. Set word None) (free_word name.shape)
 undefined other = None
 
--- `#ifdef` and `#ifndef`: any word, and whatever behind it
+-- `#ifdef` and `#ifndef`: any word, and whatever after it
 abbrev pub tested : Live → Bool → List Token → Option Act
 tested live wanted [] = None
 tested live wanted (name ∷ rest) = option_map (λ word. Begin (part_where (if wanted then is_known live word.bytes else not (is_known live word.bytes)))) (word_in name.shape)
@@ -150,7 +150,7 @@ abbrev pub WhereKept : Bool → (Result Act Fault → Type 0) → Act → Result
 WhereKept true answers act answer = answers answer
 WhereKept false answers act answer = answer ≡ Ok act
 
--- 106, without an open conditional, or behind its `#else`
+-- 106, without an open conditional, or after its `#else`
 abbrev pub stray : Mark → Fault
 stray mark = record { number = 106; mark = Some mark; kept = NothingKept }
 
@@ -197,7 +197,7 @@ Directs live tool around mark text directives.Endif = λ answer. answer ≡ ende
 Directs live tool around mark text directives.Empty = λ answer. answer ≡ Ok Nothing
 Directs live tool around mark text directive = WhereKept (is_kept around) (Obeys live tool mark text directive) (passed_over directive)
 
--- what a line does: what stands behind its `#`, or its bytes
+-- what a line does: what stands after its `#`, or its bytes
 abbrev pub Acts : Live → Tool → Option Open → Mark → List ℕ → Option (List ℕ) → Result Act Fault → Type 0
 Acts live tool around mark bytes None = WhereKept (is_kept around) (PutsOut live mark bytes) Nothing
 Acts live tool around mark bytes (Some text) = Directs live tool around mark text (directive_in (unblanked text))

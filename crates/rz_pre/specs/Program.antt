@@ -44,7 +44,7 @@ abbrev pub innermost : List Open → Option Open
 innermost [] = None
 innermost (one ∷ opens) = Some one
 
--- the conditionals behind a line on this place that does this
+-- the conditionals after a line on this place that does this
 abbrev pub opens_after : Mark → Act → List Open → List Open
 opens_after mark (Begin first) opens = record { mark = mark; part = first; is_last = false } ∷ opens
 opens_after mark (Turn next is_last) [] = []
@@ -58,11 +58,11 @@ state_after (Put tokens) s = record s { tokens = s.tokens ++ tokens }
 state_after (Set word body) s = record s { live = put (str_to_ascii_lowercase word.bytes) (option_map shapes_of body) s.live }
 state_after other s = s
 
--- how files are included: a name, the place of its line and what was read before, and what is read behind the file
+-- how files are included: a name, the place of its line and what was read before, and what is read after the file
 abbrev pub Includes : Type 1
 Includes = List ℕ → Mark → State → Result State Failure → Type 0
 
--- behind what a line does, the conditionals and what was read
+-- after what a line does, the conditionals and what was read
 abbrev pub Follows : Includes → Mark → Act → List Open → State → Result (List Open × State) Failure → Type 0
 Follows Reads mark (Include name) opens s = Then (Reads name mark s) (λ after answer. answer ≡ Ok (opens, after))
 Follows Reads mark act opens s = λ answer. answer ≡ Ok (opens_after mark act opens, state_after act s)
@@ -71,7 +71,7 @@ abbrev pub LineGoes : Includes → Tool → RawLine → List Open → State → 
 LineGoes Reads tool line opens s =
     Then (WithFiles s.files (Does s.live tool (innermost opens) line)) (λ act. Follows Reads line.mark act opens s)
 
--- behind the last line: 105 where a conditional is open
+-- after the last line: 105 where a conditional is open
 abbrev pub open_if : Open → Fault
 open_if one = record { number = 105; mark = Some one.mark; kept = NothingKept }
 

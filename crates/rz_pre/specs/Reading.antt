@@ -42,7 +42,7 @@ abbrev pub included_in : Act → Option (List ℕ)
 included_in (Include name) = Some name
 included_in other = None
 
--- what the line does, but for the file that it includes: what the call gave, and the conditionals and the state behind
+-- what the line does, but for the file that it includes: what the call gave, and the conditionals and the state after
 abbrev pub Steps : Tool → RawLine → List Open → State → Result (Option (List ℕ)) (Stop Fault) → List Open → State → Type 0
 Steps tool line opens s (Ok name) after t =
     (act : Act) × Does s.live tool (innermost opens) line (Ok act)

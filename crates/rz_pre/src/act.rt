@@ -17,7 +17,7 @@ pub enum Act {
     Set(Word, Option<Tokens>),
     /// It begins a conditional with this part.
     Begin(Part),
-    /// It goes to the next part of the innermost conditional, which is the part behind `#else` or not.
+    /// It goes to the next part of the innermost conditional, which is the part after `#else` or not.
     Turn(Part, bool),
     /// It ends the innermost conditional.
     End,

@@ -161,7 +161,7 @@ fn is_named(keyword: Keyword, name: &Word) -> bool
         .eq_ignore_ascii_case(spelling(keyword))
 }
 
-/// The name that a question at the front asks for, and what stands behind the question.
+/// The name that a question at the front asks for, and what stands after the question.
 fn asked(tokens: &[Token]) -> Option<(&Word, &[Token])>
     ensures question { option_map (λ found. (found.0.now.bytes, found.1.now)) result ≡ asked tokens.now }
     ensures further { IfSome result (λ found. length found.1.now < length tokens.now) }
@@ -178,7 +178,7 @@ fn asked(tokens: &[Token]) -> Option<(&Word, &[Token])>
     }
 }
 
-/// The same behind a word `defined`: the name alone or in brackets.
+/// The same after a word `defined`: the name alone or in brackets.
 fn behind_defined(tokens: &[Token]) -> Option<(&Word, &[Token])>
     ensures question { option_map (λ found. (found.0.now.bytes, found.1.now)) result ≡ behind_defined tokens.now }
     ensures within { IfSome result (λ found. length found.1.now ≤ length tokens.now) }

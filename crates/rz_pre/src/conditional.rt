@@ -20,6 +20,6 @@ pub struct Open {
     pub mark: Mark,
     /// Its part.
     pub part: Part,
-    /// Whether that is the part behind `#else`.
+    /// Whether that is the part after `#else`.
     pub is_last: bool,
 }

@@ -44,7 +44,7 @@ fn is_free(alloc: Global, macros: &Macros, tokens: &[Token]) -> Result<bool, NoM
     Ok(true)
 }
 
-/// Puts what stands in place of a token behind what was put out before: the token itself, or for a word that
+/// Puts what stands in place of a token after what was put out before: the token itself, or for a word that
 /// is a live macro the macro's expansion.
 fn put_expanded(
     alloc: Global,
@@ -65,7 +65,7 @@ fn put_expanded(
     }
 }
 
-/// Moves tokens behind others.
+/// Moves tokens after others.
 fn append(tokens: &mut Tokens, more: Tokens) -> Result<(), NoMemory>
     ensures { OnOk result (tokens.new ≡ tokens.old ++ more) }
 {

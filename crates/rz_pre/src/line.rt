@@ -93,7 +93,7 @@ fn replace(alloc: Global, macros: &Macros, tokens: Tokens) -> Result<Tokens, Sto
     expand_all(alloc, macros, tokens)
 }
 
-/// What a directive does, by what stands behind its `#`.
+/// What a directive does, by what stands after its `#`.
 fn direct(
     alloc: Global,
     macros: &Macros,
@@ -229,7 +229,7 @@ fn compute(
     compute_condition(alloc, macros, tool, mark, behind_first(tokens.as_slice()))
 }
 
-/// The part behind a condition with this value.
+/// The part after a condition with this value.
 fn part_of(value: i32) -> Part
     ensures { result ≡ part_of value }
 {
@@ -272,7 +272,7 @@ fn said(
     }
 }
 
-/// The tokens behind the directive's word.
+/// The tokens after the directive's word.
 fn behind_first(tokens: &[Token]) -> &[Token]
     ensures { result.now ≡ behind_first tokens.now }
 {
@@ -282,7 +282,7 @@ fn behind_first(tokens: &[Token]) -> &[Token]
     }
 }
 
-/// What a directive does whose tokens behind its word are these; `None` where they have another form.
+/// What a directive does whose tokens after its word are these; `None` where they have another form.
 fn simple(
     alloc: Global,
     macros: &Macros,

@@ -80,7 +80,7 @@ fn read_file<F: Folder>(
     end(&opens)
 }
 
-/// Behind the last line of a file no conditional may be open.
+/// After the last line of a file no conditional may be open.
 fn end(opens: &[Open]) -> Result<(), Halt<Fault>>
     ensures nameable { (files : ℕ) → AreOpenIn files (reverse opens.now) → OnRefusal result (IsSourceFault files) }
     ensures end { (s : State) → Yields (with_state alone s result) (λ answer. answer ≡ ends (reverse opens.now) s) }
@@ -267,10 +267,10 @@ fn into_program(alloc: Global, reading: Reading) -> Result<Program, NoMemory>
     })
 }
 
-/// Reads the named files, one after the other, as one program: with the lines of each included file behind the
+/// Reads the named files, one after the other, as one program: with the lines of each included file after the
 /// line that includes it, the parts of conditionals that are chosen, and macros in place of words. The words'
 /// definitions come first, in their order. An included file is looked for under its name, in UTF-8, and then
-/// under it behind each path and `/`. The tool decides the values of `rez` and `derez`.
+/// under it after each path and `/`. The tool decides the values of `rez` and `derez`.
 ///
 /// A refusal is the first fault in the order of the lines, with the files that were opened until then:
 /// - 101 where no file has the name, of an included file with the line's mark (kept: the name as it was given);
@@ -281,7 +281,7 @@ fn into_program(alloc: Global, reading: Reading) -> Result<Program, NoMemory>
 ///   belongs to none, each kept nothing;
 /// - 107 to 111, 113 and 115 of the lines and their tokens, as for `Lexer` and `cut` of `rz_lex`;
 /// - 112 for a word for which more than 65,536 tokens are handled (kept: the word);
-/// - 114 for a condition with more than 1,024 tokens behind its macros, with the name of a function, that is no
+/// - 114 for a condition with more than 1,024 tokens after its macros, with the name of a function, that is no
 ///   expression or has no value.
 ///
 /// Where the texts of the definitions were cut from lines, each token of the program is one that a line can be

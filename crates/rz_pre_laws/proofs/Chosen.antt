@@ -45,7 +45,7 @@ on is more = record { there = λ answer a. more.there answer (is.there answer a)
 abbrev Is : {X F : Type 0} → X → Result X F → Type 0
 Is value answer = answer ≡ Ok value
 
--- one call behind another
+-- one call after another
 
 then_more : {X Y F : Type 0} (one two : Result X F → Type 0) (next later : X → Result Y F → Type 0)
     → Same one two → ((x : X) → one (Ok x) → Same (next x) (later x)) → Same (Then one next) (Then two later)
@@ -165,7 +165,7 @@ pub where_unkept : (b : Bool) (answers : Result Act Fault → Type 0) (act : Act
 where_unkept true answers act unkept = absurd cc
 where_unkept false answers act unkept = same
 
--- a conditional before its `#else`, and behind it
+-- a conditional before its `#else`, and after it
 abbrev pub later_open : Mark → Part → Open
 later_open mark part = record { mark = mark; part = part; is_last = false }
 
@@ -388,7 +388,7 @@ module _ (Reads : Includes) (tool : Tool) where
   abbrev Goes : List RawLine → Option Fault → List Open → State → Result State Failure → Type 0
   Goes lines ending opens s = LinesGo Reads tool lines ending opens s
 
-  -- with the conditionals behind the line, and with these
+  -- with the conditionals after the line, and with these
   abbrev pub GoesOn : List RawLine → Option Fault → (List Open × State) → Result State Failure → Type 0
   GoesOn lines ending next = LinesGo Reads tool lines ending next.0 next.1
 

@@ -24,7 +24,7 @@ use Rattle.rz_pre.proofs.Computing.{computes}
 use Rattle.rz_pre_laws.proofs.EveryExpansion.{every_line_expands}
 use Rattle.rz_pre.proofs.OneCondition.{OneTerm}
 
--- Behind a question there are fewer tokens.
+-- After a question there are fewer tokens.
 
 abbrev LeavesFew : ℕ → Asked → Type 0
 LeavesFew n None = Unit {0}

@@ -43,7 +43,7 @@ apart : (name x y : List ℕ) → bytes_eq name x ≡ true → bytes_eq name y �
 apart name x y same differs also =
     true_false (sym ((bytes_eq-Decides name y).1 ((bytes_eq-Decides name x).0 same ∙ sym ((bytes_eq-Decides y x).0 also))) ∙ differs)
 
--- a name is in what stands behind another
+-- a name is in what stands after another
 behind : (name x : List ℕ) (xs : List (List ℕ)) → is_in name (x ∷ xs) ≡ true → bytes_eq name x ≡ false → is_in name xs ≡ true
 unfolding is_in
 behind name x xs inside differs = rw differs at inside

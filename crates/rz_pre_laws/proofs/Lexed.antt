@@ -30,7 +30,7 @@ AnswerLexed (Ok s) = StateLexed s
 AnswerLexed (Err failure) = Unit {0}
 
 module _ (cut_lexed : (mark : Mark) (line : List ℕ) (tokens : List Token) → Cuts mark line tokens → AreLexed tokens) (tool : Tool) where
-  -- behind a line, in whatever conditional it stands
+  -- after a line, in whatever conditional it stands
   line_lexed : (around : Option Open) (line : RawLine) (act : Act) (s : State) → Does s.live tool around line (Ok act) → StateLexed s → StateLexed (state_after act s)
   line_lexed None line act s does all =
       steps_lexed cut_lexed tool line [] s (included_in act) (opens_after line.mark act []) (state_after act s) (act, does, refl, refl, refl) all

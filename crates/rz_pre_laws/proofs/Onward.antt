@@ -1,4 +1,4 @@
--- The files of names one behind the other.
+-- The files of names one after the other.
 use Rattle.std.proofs.Common.{inl, inr, ℕ, List, [], ◌∷◌, ◌++◌, refl, sym, subst, ◌∙◌}
 use Rattle.std.specs.declared.result.Result.{Result}
 use Rattle.rz_core.proofs.Once.{ok_or_err, same_ok}

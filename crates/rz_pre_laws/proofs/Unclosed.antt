@@ -20,7 +20,7 @@ module _ (Reads : Includes) (tool : Tool) where
   abbrev Goes : List RawLine → List Open → State → Result State Failure → Type 0
   Goes lines opens s = LinesGo Reads tool lines None opens s
 
-  -- 105 behind what was read
+  -- 105 after what was read
   abbrev IsOpen : Mark → State → Result State Failure → Type 0
   IsOpen m t answer = answer ≡ fails (open_if (waiting m)) t
 

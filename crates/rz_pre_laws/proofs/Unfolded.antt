@@ -59,7 +59,7 @@ module _ (tool : Tool) where
     pub each : EachActs tool entries s
     pub is : answer ≡ outcome entries fault s
 
-  -- the answer behind a line
+  -- the answer after a line
   abbrev next_of : List Open → List Entry → Option Fault → State → Result (List Open × State) Failure
   next_of opens inner None s = Ok (opens, behind_all inner s)
   next_of opens inner (Some fault) s = fails fault (behind_all inner s)
@@ -111,7 +111,7 @@ module _ (tool : Tool) where
     follows mark acts.End opens s next is = plain _ s next is
 
     module _ (level : ℕ) where
-      -- a line that is done, what stands behind it, and the lines that follow
+      -- a line that is done, what stands after it, and the lines that follow
       goes_on : (line : RawLine) (ls : List RawLine) (ending : Option Fault) (opens : List Open) (s : State) (answer : Result State Failure) (act : Act)
           → Does s.live tool (innermost opens) line (Ok act) → (next : List Open × State)
           → Followed (BehindLine Inner line.mark act (state_after act s)) (opens_after line.mark act opens) (state_after act s) (Ok next)

@@ -1,4 +1,4 @@
--- What a name stands for behind what was read: the last definition decides. (MPW Rez.)
+-- What a name stands for after what was read: the last definition decides. (MPW Rez.)
 use Rattle.std.specs.Prelude.{◌≡◌, ℕ, true, false, List, [], ◌∷◌, ◌++◌, map, option_map}
 use Rattle.std.specs.List.{AllByRecursion}
 use Rattle.std.specs.Str.{bytes_eq, str_to_ascii_lowercase}

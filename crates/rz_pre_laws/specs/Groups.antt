@@ -25,7 +25,7 @@ mutual
     Line : RawLine → Group → Group
     Choice : (test : RawLine) → (first : Group) → (others : Others) → (behind : Group) → Group
 
-  -- what stands behind the first part: the `#endif`; `#else`, its part and the `#endif`; or `#elif`, its part and what stands behind that
+  -- what stands after the first part: the `#endif`; `#else`, its part and the `#endif`; or `#elif`, its part and what stands after that
   pub data Others : Type 0 where
     End : RawLine → Others
     Else : RawLine → Group → RawLine → Others
@@ -49,7 +49,7 @@ lines_unclosed (End last) = []
 lines_unclosed (Else line body last) = line ∷ lines_of body []
 lines_unclosed (Elif test body others) = test ∷ lines_of body (lines_unclosed others)
 
--- Each line is in its place by the word behind its `#`.
+-- Each line is in its place by the word after its `#`.
 
 abbrev pub kind : RawLine → Option Directive
 kind line = directive_of line.bytes

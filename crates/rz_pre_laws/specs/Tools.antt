@@ -51,7 +51,7 @@ LineAsksNoTool live around line =
     (text : List ℕ) (tokens : List Token) → behind_hash (unblanked line.bytes) ≡ Some text → asks around (directive_in (unblanked text)) ≡ true
     → Cuts line.mark text tokens → ConditionNamesNoTool live (behind_first tokens)
 
--- nor in those of the lines of entries, each under what is live behind the entries before it
+-- nor in those of the lines of entries, each under what is live after the entries before it
 abbrev pub EachAsksNoTool : List Entry → State → Type 0
 EachAsksNoTool [] s = Unit {0}
 EachAsksNoTool (Opened name ∷ entries) s = EachAsksNoTool entries (with_file name s)
@@ -64,7 +64,7 @@ AsksNoTool files tool names paths defs =
 
 -- No line that is read has such a word, whether it counts or not, nor has a definition of the words.
 
--- what is cut of a line is what stands behind its `#`, or all of it
+-- what is cut of a line is what stands after its `#`, or all of it
 abbrev pub LineNamesNoTool : RawLine → Type 0
 LineNamesNoTool line = (tokens : List Token) → Cuts line.mark (unwrap_or (behind_hash (unblanked line.bytes)) line.bytes) tokens → NameNoTool tokens
 

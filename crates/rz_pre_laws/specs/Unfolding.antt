@@ -1,4 +1,4 @@
--- A program as one list of what is read: line by line, and directly behind a line that includes a file what is read of
+-- A program as one list of what is read: line by line, and directly after a line that includes a file what is read of
 -- that file. (MPW Rez.)
 use Rattle.std.specs.Prelude.{◌≡◌, ◌⊎◌, ℕ, zero, suc, ◌-◌, List, [], ◌∷◌, ◌++◌, length, Option, Some, None, Ok, Err}
 use Rattle.std.specs.declared.result.Result.{Result}
@@ -24,7 +24,7 @@ pub data Entry : Type 0 where
   Opened : (name : List ℕ) → Entry
   Line : (level : ℕ) (around : Option Open) (line : RawLine) (act : Act) → Entry
 
--- what is read behind an entry, and behind several
+-- what is read after an entry, and after several
 abbrev pub behind : Entry → State → State
 behind (Opened name) s = with_file name s
 behind (Line level around line act) s = state_after act s
@@ -33,18 +33,18 @@ abbrev pub behind_all : List Entry → State → State
 behind_all [] s = s
 behind_all (entry ∷ entries) s = behind_all entries (behind entry s)
 
--- each line does what it does under what is live behind the entries before it
+-- each line does what it does under what is live after the entries before it
 abbrev pub EachActs : Tool → List Entry → State → Type 0
 EachActs tool [] s = Unit {0}
 EachActs tool (Opened name ∷ entries) s = EachActs tool entries (with_file name s)
 EachActs tool (Line level around line act ∷ entries) s = Does s.live tool around line (Ok act) × EachActs tool entries (state_after act s)
 
--- what is answered: all entries and no fault, or the fault that stands behind them
+-- what is answered: all entries and no fault, or the fault that stands after them
 abbrev pub outcome : List Entry → Option Fault → State → Result State Failure
 outcome entries None s = Ok (behind_all entries s)
 outcome entries (Some fault) s = fails fault (behind_all entries s)
 
--- The order of the entries. Each stretch has entries, and maybe a fault behind them.
+-- The order of the entries. Each stretch has entries, and maybe a fault after them.
 
 abbrev pub Stretch : Type 1
 Stretch = List Entry → Option Fault → Type 0
@@ -54,13 +54,13 @@ abbrev pub left_open : List Open → Option Fault
 left_open [] = None
 left_open (one ∷ opens) = Some (open_if one)
 
--- directly behind a line: what is read of the file that it includes
+-- directly after a line: what is read of the file that it includes
 abbrev pub BehindLine : (List ℕ → Mark → State → Stretch) → Mark → Act → State → Stretch
 BehindLine Inner mark (Include name) s = Inner name mark s
 BehindLine Inner mark act s = λ entries fault. (entries ≡ []) × (fault ≡ None)
 
 -- a line has a fault; or it does something, and there is a fault in the file that it includes; or it does something, and
--- behind it and what stands directly behind it the lines that follow are read
+-- after it and what stands directly after it the lines that follow are read
 abbrev pub StopsAt : Tool → List Open → State → RawLine → Stretch
 StopsAt tool opens s line entries fault =
     (own : Fault) × Does s.live tool (innermost opens) line (Err own) × (entries ≡ []) × (fault ≡ Some own)
@@ -103,7 +103,7 @@ IncludedUnfolds tool files paths (suc left) name mark s entries fault =
     FileUnfolds (IncludedUnfolds tool files paths left) tool (16 - left) (missing_file (Some mark) name) s
     (file_of files (names_of paths (utf8_name name))) entries fault
 
--- the named files, one behind the other, on level 1
+-- the named files, one after the other, on level 1
 abbrev pub NamesUnfold : Tool → Files → List (List ℕ) → List (List ℕ) → State → Stretch
 NamesUnfold tool files paths [] s entries fault = (entries ≡ []) × (fault ≡ None)
 NamesUnfold tool files paths (name ∷ names) s entries fault =
@@ -111,6 +111,6 @@ NamesUnfold tool files paths (name ∷ names) s entries fault =
     ⊎ ((first : List Entry) × (more : List Entry) × FileUnfolds (IncludedUnfolds tool files paths levels_below) tool 1 (missing_file None name) s (file_of files (name ∷ [])) first None
     × (entries ≡ first ++ more) × NamesUnfold tool files paths names (behind_all first s) more fault)
 
--- the entries of a program, and the first fault behind them, if there is one
+-- the entries of a program, and the first fault after them, if there is one
 abbrev pub ProgramUnfolds : Files → Tool → List (List ℕ) → List (List ℕ) → List Def → Stretch
 ProgramUnfolds files tool names paths defs = NamesUnfold tool files paths names (start defs)

@@ -39,9 +39,9 @@ pub fn every_program_has_an_answer()
 }
 
 /// A law, with nothing to run: what the named files mean is given by one list of entries, in which each line
-/// does what it does under what is live behind the entries before it, and what is read of an included file
-/// stands directly behind the line that includes it. The tokens, the definitions and the opened files are those
-/// that the entries give from the first to the last; a fault is the first one, and stands behind them.
+/// does what it does under what is live after the entries before it, and what is read of an included file
+/// stands directly after the line that includes it. The tokens, the definitions and the opened files are those
+/// that the entries give from the first to the last; a fault is the first one, and stands after them.
 pub fn one_list_of_entries()
     ensures entries { (files : Files) (tool : Tool) (names paths : List (List ℕ)) (defs : List Def) (answer : Result State Failure)
         → ProgramGoes files tool names paths defs answer
@@ -52,7 +52,7 @@ pub fn one_list_of_entries()
         → ProgramGoes files tool names paths defs (outcome entries fault (start defs)) }
 {}
 
-/// A law, with nothing to run: files that are named one behind the other are the first of them, and then the others behind
+/// A law, with nothing to run: files that are named one after the other are the first of them, and then the others after
 /// what was read of the first; a fault of the first is that of all.
 pub fn programs_go_on()
     ensures { (tool : Tool) (files : Files) (paths names others : List (List ℕ)) (s : State) (answer : Result State Failure)
@@ -109,7 +109,7 @@ pub fn chosen_parts()
         ↔ LinesGo (IncludedGoes tool files paths levels) tool (lines_of group rest) ending opens s answer }
 {}
 
-/// A law, with nothing to run: behind some entries of a program a name stands for what the last of its
+/// A law, with nothing to run: after some entries of a program a name stands for what the last of its
 /// definitions gives it, of the words or of a line before, or for itself where that one undefines it or none
 /// is of that name. So what is live is always a finite list of rows, and each token has an expansion: where one
 /// is refused as too long, it has an expansion, for which more tokens are handled.
@@ -125,7 +125,7 @@ pub fn last_definition()
         → (out : List Shape) × (work : ℕ) × Expansion (behind_all entries (start defs)).live shape out work }
 {}
 
-/// A law, with nothing to run: behind a program no reserved word is live, if the words define none: a name that is live
+/// A law, with nothing to run: after a program no reserved word is live, if the words define none: a name that is live
 /// is, in lower case, a word that isn't reserved.
 pub fn live_names_are_free()
     ensures { (files : Files) (tool : Tool) (names paths : List (List ℕ)) (defs : List Def) (state : State) → AreFree defs

@@ -60,7 +60,7 @@ lacks_before utf8 front rest offset split l = record {
   };
 }
 
--- What stands behind the mark.
+-- What stands after the mark.
 
 abbrev Behind : List ℕ → Type 0
 Behind utf8 = ((text : List ℕ) × Spells utf8 text) ⊎ ((offset : ℕ) × StopsAt utf8 offset)

@@ -1,4 +1,4 @@
--- Lines that begin with blanks and `#`, and the word behind them.
+-- Lines that begin with blanks and `#`, and the word after them.
 use Rattle.std.proofs.Common.{◌≡◌, ◌≢◌, ℕ, true, false, List, [], ◌∷◌, ◌++◌, Option, Some, None, refl, sym, ap, ◌∙◌, append_assoc}
 use Rattle.std.specs.Prelude.{◌==◌, ◌↔◌}
 use Rattle.std.proofs.lemmas.Bool.{and_parts, eqb-true, false≢true}
@@ -72,7 +72,7 @@ pub byte_other : (blanks : List ℕ) (byte : ℕ) (after : List ℕ) → AreBlan
 byte_other blanks byte after all solid ends =
     ap directive_in (skipped blanks (byte ∷ after) all ∙ first_kept byte after solid) ∙ ap named (word_front [] (byte ∷ after) refl ends)
 
--- The bracket behind a name.
+-- The bracket after a name.
 
 behind_front : (word after : List ℕ) → are_word_bytes word ≡ true → begins_word after ≡ false → behind_word (word ++ after) ≡ after
 behind_front [] [] all ends = refl

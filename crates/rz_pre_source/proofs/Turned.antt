@@ -139,7 +139,7 @@ same_bytes (x ∷ xs) (y ∷ ys) e =
     let later : map Some xs ≡ map Some ys = cc e in
     (λ i. first i ∷ same_bytes xs ys later i)
 
--- a front with characters that have bytes, and what stands behind it
+-- a front with characters that have bytes, and what stands after it
 same_front : (utf8 front other xs ys b d : List ℕ) → Spells front xs → Spells other ys → NoneBegins b → NoneBegins d
     → utf8 ≡ front ++ b → utf8 ≡ other ++ d → (front ≡ other) × (xs ≡ ys) × (b ≡ d)
 same_front utf8 front other xs ys b d s t nb nd e k =

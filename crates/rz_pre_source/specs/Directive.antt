@@ -11,7 +11,7 @@ abbrev pub unblanked : List ℕ → List ℕ
 unblanked [] = []
 unblanked (byte ∷ rest) = if is_blank byte then unblanked rest else byte ∷ rest
 
--- what stands behind the `#` at the front
+-- what stands after the `#` at the front
 abbrev pub behind_hash : List ℕ → Option (List ℕ)
 behind_hash [] = None
 behind_hash (byte ∷ rest) = if byte == 35 then Some rest else None
@@ -34,7 +34,7 @@ named name =
     else if str_eq_ignore_ascii_case name (codes "endif") then Endif
     else Other
 
--- the directive of what stands behind the `#`
+-- the directive of what stands after the `#`
 abbrev pub directive_in : List ℕ → Directive
 directive_in [] = Empty
 directive_in (byte ∷ rest) = named (front_word (byte ∷ rest))
@@ -56,6 +56,6 @@ abbrev pub starts_with : ℕ → List ℕ → Bool
 starts_with byte [] = false
 starts_with byte (first ∷ rest) = first == byte
 
--- a bracket stands directly behind the name, which stands behind the directive's word
+-- a bracket stands directly after the name, which stands after the directive's word
 abbrev pub has_parameters : List ℕ → Bool
 has_parameters text = starts_with 40 (behind_word (unblanked (behind_word (unblanked text))))

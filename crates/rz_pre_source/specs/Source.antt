@@ -1,4 +1,4 @@
--- The text of a source: Mac Roman as it stands, or UTF-8 behind a mark. (Unicode Standard, table 3-7; Inside
+-- The text of a source: Mac Roman as it stands, or UTF-8 after a mark. (Unicode Standard, table 3-7; Inside
 -- Macintosh: Text.)
 use Rattle.std.specs.Prelude.{◌≡◌, ◌≢◌, ℕ, ◌+◌, ◌⊎◌, true, List, [], ◌∷◌, ◌++◌, map, length, Some, None}
 use Rattle.std.specs.Char.{encode_utf8, IsScalar}
@@ -16,7 +16,7 @@ pub record Spells (utf8 bytes : List ℕ) : Type 0 where
   pub encoded : utf8 ≡ encode_utf8_all characters
   pub each : map roman_byte characters ≡ map Some bytes
 
--- UTF-8 behind the mark that has characters with these bytes in front of an offset in the file, and then the rest
+-- UTF-8 after the mark that has characters with these bytes in front of an offset in the file, and then the rest
 pub record Reaches (utf8 : List ℕ) (offset : ℕ) (bytes rest : List ℕ) : Type 0 where
   pub front : List ℕ
   pub split : utf8 ≡ front ++ rest

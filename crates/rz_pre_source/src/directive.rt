@@ -30,11 +30,11 @@ pub enum Directive {
     Endif,
     /// `#` alone, which does nothing.
     Empty,
-    /// Anything else behind a `#`.
+    /// Anything else after a `#`.
     Other,
 }
 
-/// What stands behind the `#` of a directive. `None` comes exactly where the line's first byte other than a
+/// What stands after the `#` of a directive. `None` comes exactly where the line's first byte other than a
 /// blank isn't `#`.
 pub fn directive_text(line: &[u8]) -> Option<&[u8]>
     ensures { option_map (λ text. text.now) result ≡ behind_hash (unblanked line.now) }
@@ -42,7 +42,7 @@ pub fn directive_text(line: &[u8]) -> Option<&[u8]>
     behind_hash(unblanked(line))
 }
 
-/// The directive whose text stands behind a `#`. The case of its word doesn't matter, and nothing behind it
+/// The directive whose text stands after a `#`. The case of its word doesn't matter, and nothing after it
 /// is looked at. (MPW Rez.)
 pub fn directive_in(text: &[u8]) -> Directive
     ensures { result ≡ directive_in (unblanked text.now) }
@@ -55,7 +55,7 @@ pub fn directive_in(text: &[u8]) -> Directive
     }
 }
 
-/// Whether a bracket stands directly behind the name, which stands behind the directive's word.
+/// Whether a bracket stands directly after the name, which stands after the directive's word.
 pub fn has_parameters(text: &[u8]) -> bool
     ensures { result ≡ has_parameters text.now }
 {
@@ -89,7 +89,7 @@ fn unblanked(line: &[u8]) -> &[u8]
     }
 }
 
-/// What stands behind the `#` at the front.
+/// What stands after the `#` at the front.
 fn behind_hash(line: &[u8]) -> Option<&[u8]>
     ensures { option_map (λ rest. rest.now) result ≡ behind_hash line.now }
 {

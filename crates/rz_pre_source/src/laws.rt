@@ -20,10 +20,10 @@ pub fn every_source_is_read()
     ensures { (source : List ℕ) → ((text : List ℕ) × IsTextOf source text) ⊎ ((offset : ℕ) × IsBadAt source offset) }
 {}
 
-/// A law, with nothing to run: a text stands behind the `#` of a line exactly where the line is blanks, `#` and
-/// that text. The text is the directive of its first word, whatever stands behind the word; blanks alone are the
+/// A law, with nothing to run: a text stands after the `#` of a line exactly where the line is blanks, `#` and
+/// that text. The text is the directive of its first word, whatever stands after the word; blanks alone are the
 /// directive that does nothing, and where anything but a word stands first, the directive is none of the known.
-/// A second word, behind blanks, has parameters exactly where `(` stands directly behind it.
+/// A second word, after blanks, has parameters exactly where `(` stands directly after it.
 pub fn directives_are_lines()
     ensures hash { (line text : List ℕ)
         → (behind_hash (unblanked line) ≡ Some text)

@@ -19,8 +19,8 @@ pub struct BadText {
 const MARK: [u8; 3] = [0xEF, 0xBB, 0xBF];
 
 /// The text of a source in Mac Roman, or the first byte of what has no place in it. A source that begins with the bytes EF BB BF is UTF-8, and each
-/// character behind these is turned into its byte; any other source is given back as it stands, and takes no
-/// memory. The refusal comes exactly where the bytes behind the mark aren't UTF-8 or hold a character that has
+/// character after these is turned into its byte; any other source is given back as it stands, and takes no
+/// memory. The refusal comes exactly where the bytes after the mark aren't UTF-8 or hold a character that has
 /// no byte, and tells the first byte of the first such sequence or character. (Unicode Standard, table 3-7;
 /// Inside Macintosh: Text.)
 pub fn to_mac_roman(alloc: Global, source: Bytes) -> Result<Bytes, Stop<BadText>>
@@ -37,14 +37,14 @@ pub fn to_mac_roman(alloc: Global, source: Bytes) -> Result<Bytes, Stop<BadText>
     }
 }
 
-/// The bytes behind the mark, where the source has it.
+/// The bytes after the mark, where the source has it.
 fn behind_mark(source: &[u8]) -> Option<&[u8]>
     ensures { MatchOption result (IsUnmarked source.now) (λ text. source.now ≡ mark ++ text.now) }
 {
     source.strip_prefix(&MARK)
 }
 
-/// The text behind the mark in Mac Roman.
+/// The text after the mark in Mac Roman.
 fn turn(alloc: Global, text: &[u8]) -> Result<Bytes, Stop<BadText>>
     ensures text { IfOk result (Spells text.now) }
     ensures bad { OnFault result (λ fault. StopsAt text.now fault.offset) }
@@ -77,7 +77,7 @@ fn turn_characters(alloc: Global, text: &str) -> Result<Bytes, Stop<BadText>>
     Ok(bytes)
 }
 
-/// The place at an offset in the text behind the mark.
+/// The place at an offset in the text after the mark.
 fn bad_at(offset: usize) -> BadText
     requires { 3 + offset < 2 ^ 64 }
     ensures { result.offset ≡ 3 + offset }

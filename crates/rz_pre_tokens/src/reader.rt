@@ -82,7 +82,7 @@ impl TokenReader {
     }
 }
 
-/// Gives back the memory behind the pieces, once it is that of many and more than an eighth of all.
+/// Gives back the memory after the pieces, once it is that of many and more than an eighth of all.
 fn give_back(pieces: &mut Vec<Piece>)
     ensures { pieces.new.items ≡ pieces.old.items }
 {

@@ -40,7 +40,7 @@ module _ (kind : OsType) (id : ℤ) where
   others_after x has before (y ∷ ys) out differ =
       (sym (like x y has) ∙ out y differ.0, others_after x has (before ++ y ∷ []) ys (λ z none. out z (parts before y z none).0) differ.1)
 
-  -- those behind one that has this type and id
+  -- those after one that has this type and id
   pub others : (x : Resource) → has_key kind id x ≡ true → (before xs : List Resource) → KeysDiffer (before ++ x ∷ []) xs → AreOthers xs
   others x has before xs differ = others_after x has (before ++ x ∷ []) xs (λ y none. or_nothing (same_key x y) (parts before x y none).1) differ
 

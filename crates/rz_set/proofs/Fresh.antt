@@ -1,4 +1,4 @@
--- Resources whose keys differ are put one behind the other.
+-- Resources whose keys differ are put one after the other.
 use Rattle.std.proofs.Common.{◌≡◌, Bool, false, if◌then◌else◌, List, [], ◌∷◌, ◌++◌, refl, sym, ap, ◌∙◌, append_assoc, append-nil}
 use Rattle.std.specs.List.{list_any}
 use Rattle.rz_core.proofs.Tests.{or_false}

@@ -44,7 +44,7 @@ abbrev pub other : Head → List Resource → Resource → Option Resource
 other head list one =
     if same_key (under_head head one) one then None else found head.kind (unwrap_or head.id one.id) list
 
--- a resource that comes under the head, and behind it the one that is taken out for it
+-- a resource that comes under the head, and after it the one that is taken out for it
 abbrev pub with_other : Head → List Resource → Resource → List Resource
 with_other head list one = one ∷ as_list (other head list one)
 

@@ -39,7 +39,7 @@ head_is word code id name attr =
     (λ k. rw (h, k) refl)
     (λ k. rw (h, k) refl))
 
--- what stands behind the first line
+-- what stands after the first line
 pub behind_head_is : (rest : Rest) (part : Part) → IsBehindHead rest.facts.now.name part → part_left rest part ≡ names_behind rest.facts.now.name rest.facts.now.attr ++ end_left rest
 behind_head_is rest parts.Items is = rw is refl
 behind_head_is rest (parts.Name text) is = rw (is.0, is.1, is.2) refl
@@ -51,7 +51,7 @@ behind_head_is rest parts.Done is = absurd is
 pub without_left : (hidden : List ℕ → Bool) (list : OpenList) → IsWithout list → left hidden list ≡ no_prints
 without_left hidden list is = rw (is.fields, is.rows) refl
 
--- The line of a name's piece, and what is left behind it.
+-- The line of a name's piece, and what is left after it.
 pub name_front : (rest : Rest) (text : Text) (piece : List ℕ) (more : Option Text)
     → text_lines 1 (head_end rest.facts.now.attr) text.hex text.bytes.now
     ≡ (margin 1 ++ piece_written text.hex piece ∷ behind_piece more (head_end rest.facts.now.attr)) ∷ pending_lines 1 (head_end rest.facts.now.attr) more
@@ -59,7 +59,7 @@ pub name_front : (rest : Rest) (text : Text) (piece : List ℕ) (more : Option T
 name_front rest text piece None is = ap (λ (r : List (List Written)). r ++ end_left rest) is
 name_front rest text piece (Some more) is = ap (λ (r : List (List Written)). r ++ end_left rest) is
 
--- what comes first is no part of what stands behind it
+-- what comes first is no part of what stands after it
 pub same_part : (rest : Rest) (first part : Part) → part_left (record rest { part = first }) part ≡ part_left rest part
 same_part rest first parts.Head = refl
 same_part rest first (parts.Name text) = refl

@@ -13,7 +13,7 @@ use Rattle.rz_show.specs.Shown.{field_print, print_if, row_prints, rows_prints}
 some : (n : ℕ) → (suc n == 0) ≡ false
 some n = grind (arith, nat_tests)
 
--- fields that were passed, with the rows behind them
+-- fields that were passed, with the rows after them
 pub settled_fields : (fields : List Field) (rows : List (List Tree)) → is_settled (plain_body fields) [] ≡ true → (length fields == 0) ≡ false → is_settled (plain_body fields) rows ≡ true
 settled_fields [] rows front is = absurd (cc is)
 settled_fields (field ∷ fields) rows front is = front

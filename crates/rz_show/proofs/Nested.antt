@@ -55,7 +55,7 @@ module _ (hidden : List ℕ → Bool) where
         line-is ∙ ap (λ (d : ℕ). cut (as_line (margin d ++ piece_written hex piece ∷ comma_if behind))) at-is,
       )
 
--- what stands behind a piece: nothing where others follow
+-- what stands after a piece: nothing where others follow
 pub none_or_some : {A : Type 0} (more : Option A) (none : Bool) → is_some more ≡ not none → none ≡ is_none more
 none_or_some more true is = ap not (sym is)
 none_or_some more false is = ap not (sym is)

@@ -9,7 +9,7 @@ use Rattle.rz_show_lines.specs.Pieces.{text_pieces}
 use Rattle.rz_show_lines.specs.Print.{piece_lines, signed_written}
 use Rattle.rz_show_lines.specs.Written.{a_blank, a_hex_byte, a_literal, a_sign, a_text, a_word, Written}
 
--- something more stands behind a comma
+-- something more stands after a comma
 abbrev pub behind_comma : List Written → List Written
 behind_comma more = a_sign signs.Comma ∷ a_blank ∷ more
 
@@ -33,7 +33,7 @@ head_front word code id = a_word word ∷ a_blank ∷ a_literal (be 4 code) ∷ 
 unfoldable pub head_end : (attr : ℕ) → List Written
 head_end attr = attr_written attr ++ a_sign signs.CloseParen ∷ a_blank ∷ a_sign signs.OpenBrace ∷ []
 
--- the pieces of a name that is longer than a line, each on a line of its own, and what stands behind it
+-- the pieces of a name that is longer than a line, each on a line of its own, and what stands after it
 abbrev pub name_lines : (name : List ℕ) → (attr : ℕ) → List (List Written)
 name_lines name attr = piece_lines 1 (head_end attr) false (text_pieces false name).first (text_pieces false name).others
 

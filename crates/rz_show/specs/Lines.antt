@@ -40,7 +40,7 @@ opening (Some name) = a_word name ∷ a_blank ∷ a_sign signs.OpenBrace ∷ []
 
 -- Heads.
 
--- what stands behind the id on the first line: a name of at most 64 bytes, where there is one, and the end of the head, or the
+-- what stands after the id on the first line: a name of at most 64 bytes, where there is one, and the end of the head, or the
 -- comma before a longer name
 abbrev pub named : (name : List ℕ) → (attr : ℕ) → List Written
 named name attr =
@@ -58,7 +58,7 @@ end_if false attr = []
 
 -- Lists of items.
 
--- what is left of a list: fields with their values, and behind them rows of other fields
+-- what is left of a list: fields with their values, and after them rows of other fields
 abbrev pub left : (hidden : List ℕ → Bool) → OpenList → Prints
 left hidden list = row_prints hidden (plain_body list.fields.now) list.values.now (rows_prints (row_prints hidden (plain_body list.row.now)) list.rows.now)
 
@@ -125,7 +125,7 @@ closing hidden [] = []
 closing hidden (next ∷ more) =
     (margin (level (length more)) ++ a_sign signs.CloseBrace ∷ comma (left hidden next)) ∷ (list_lines (level (length more)) (left hidden next) ++ closing hidden more)
 
--- the lines behind an item of a list, which stands in these
+-- the lines after an item of a list, which stands in these
 abbrev pub behind_lines : (hidden : List ℕ → Bool) → OpenList → List OpenList → List (List Written)
 behind_lines hidden list outer = list_lines (level (length outer)) (left hidden list) ++ closing hidden outer
 
@@ -167,12 +167,12 @@ part_left rest parts.Done = []
 abbrev pub lines_left : Rest → List (List Written)
 lines_left rest = part_left rest rest.part
 
--- what stands behind a piece of a name
+-- what stands after a piece of a name
 abbrev pub part_behind : Option Text → Part
 part_behind None = parts.Items
 part_behind (Some text) = parts.Name text
 
--- a name that is too long for the first line of a head stands behind it
+-- a name that is too long for the first line of a head stands after it
 abbrev pub IsBehindHead : (name : List ℕ) → Part → Type 0
 IsBehindHead name parts.Items = nat_le (length name) 64 ≡ true
 IsBehindHead name (parts.Name text) = (nat_le (length name) 64 ≡ false) × (text.bytes.now ≡ name) × (text.hex ≡ false)

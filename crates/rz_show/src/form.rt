@@ -14,7 +14,7 @@ use crate::head::{head_end, head_front};
 use rz_core::Facts;
 use rz_show_lines::{Line, PIECE, Single};
 
-/// A line behind its margin.
+/// A line after its margin.
 fn at(depth: u8, line: &mut Line)
     ensures { line.new ≡ cut (line_text (margin depth)) }
 {
@@ -22,7 +22,7 @@ fn at(depth: u8, line: &mut Line)
     line.margin(depth);
 }
 
-/// What stands on one line, and a comma where an item stands behind.
+/// What stands on one line, and a comma where an item stands after.
 pub fn single_line(depth: u8, single: &Single<'_>, behind: bool, line: &mut Line)
     ensures { line.new ≡ cut (as_line (margin depth ++ (single_written (single_of single.now) ++ comma_if behind))) }
 {
@@ -32,7 +32,7 @@ pub fn single_line(depth: u8, single: &Single<'_>, behind: bool, line: &mut Line
     line.push(b'\n');
 }
 
-/// A piece of a text, and a comma where an item stands behind.
+/// A piece of a text, and a comma where an item stands after.
 pub fn piece_line(depth: u8, piece: &[u8], hex: bool, behind: bool, line: &mut Line)
     ensures { line.new ≡ cut (as_line (margin depth ++ piece_written hex piece.now ∷ comma_if behind)) }
 {
@@ -54,7 +54,7 @@ pub fn open_line(depth: u8, name: Option<&[u8]>, line: &mut Line)
     line.append(b"{\n");
 }
 
-/// The brace behind items, and a comma where an item stands behind it.
+/// The brace after items, and a comma where an item stands after it.
 pub fn close_line(depth: u8, behind: bool, line: &mut Line)
     ensures { line.new ≡ cut (as_line (margin depth ++ a_sign CloseBrace ∷ comma_if behind)) }
 {
@@ -88,7 +88,7 @@ fn front(word: &[u8], facts: &Facts, line: &mut Line)
     head_front(word, facts.kind.code, facts.id, line);
 }
 
-/// The line that begins a statement with this word. A name of more than 64 bytes stands on lines of its own behind it.
+/// The line that begins a statement with this word. A name of more than 64 bytes stands on lines of its own after it.
 pub fn head_line(word: &[u8], facts: &Facts, line: &mut Line)
     ensures { line.new ≡ cut (as_line (head_front word.now facts.now.kind.code facts.now.id ++ named facts.now.name facts.now.attr)) }
 {
@@ -97,7 +97,7 @@ pub fn head_line(word: &[u8], facts: &Facts, line: &mut Line)
     line.push(b'\n');
 }
 
-/// A piece of a name that stands on lines of its own, and the end of the head behind the last.
+/// A piece of a name that stands on lines of its own, and the end of the head after the last.
 pub fn name_line(piece: &[u8], hex: bool, last: bool, attr: u8, line: &mut Line)
     ensures { line.new ≡ cut (as_line (margin 1 ++ piece_written hex piece.now ∷ end_if last attr)) }
 {

@@ -10,7 +10,7 @@ ghost use Rattle.rz_words.specs.declared.attribute.Attribute.TheVariants.{Change
 use rz_show_lines::Line;
 use rz_words::{Attribute, bit_of, setting_word};
 
-/// Writes the word of a statement, a type as a literal, and behind a parenthesis an id in decimal.
+/// Writes the word of a statement, a type as a literal, and after a parenthesis an id in decimal.
 #[tactic(auto, using(rz_show_lines::proofs::Writes::writes), unfolding(crate::specs::Head::head_front))]
 pub fn head_front(word: &[u8], code: u32, id: i16, line: &mut Line)
     ensures { line.new ≡ cut (line.old ++ line_text (head_front word.now code id)) }
@@ -22,7 +22,7 @@ pub fn head_front(word: &[u8], code: u32, id: i16, line: &mut Line)
     line.decimal(i64::from(id));
 }
 
-/// Writes the attributes, and behind a parenthesis the brace that the items stand in.
+/// Writes the attributes, and after a parenthesis the brace that the items stand in.
 #[tactic(auto, using(rz_show_lines::proofs::Writes::writes), unfolding(crate::specs::Head::head_end))]
 pub fn head_end(attr: u8, line: &mut Line)
     ensures { line.new ≡ cut (line.old ++ line_text (head_end attr)) }

@@ -32,7 +32,7 @@ pub enum Part<'a> {
     Name(Text<'a>),
     /// The items.
     Items,
-    /// The empty line behind the statement.
+    /// The empty line after the statement.
     Blank,
     /// Nothing.
     Done,
@@ -79,7 +79,7 @@ fn id_fits(facts: &Facts)
     let _id = facts.id;
 }
 
-/// What stands behind the first line of a head: a name of more than 64 bytes, or else the items.
+/// What stands after the first line of a head: a name of more than 64 bytes, or else the items.
 fn behind_head<'a>(facts: &'a Facts) -> Part<'a>
     ensures { IsBehindHead facts.now.name result }
 {
@@ -90,7 +90,7 @@ fn behind_head<'a>(facts: &'a Facts) -> Part<'a>
     Part::Name(Text { bytes, hex: false })
 }
 
-/// What stands behind a piece of such a name.
+/// What stands after a piece of such a name.
 fn part_behind<'a>(rest: Option<Text<'a>>) -> Part<'a>
     ensures { result ≡ part_behind rest.entry }
 {

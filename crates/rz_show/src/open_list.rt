@@ -11,14 +11,14 @@ use rz_types::values::next_value;
 use rz_types::{Field, takes_value};
 use rz_types_fields::{Row, Tree};
 
-/// What is left of a list of items: fields with their values, and behind them rows of other fields.
+/// What is left of a list of items: fields with their values, and after them rows of other fields.
 #[derive(Clone, Copy)]
 pub struct OpenList<'a> {
     /// The fields.
     pub fields: &'a [Field],
     /// Their values.
     pub values: &'a [Tree],
-    /// The fields of the rows behind them.
+    /// The fields of the rows after them.
     pub row: &'a [Field],
     /// Those rows.
     pub rows: &'a [Row],

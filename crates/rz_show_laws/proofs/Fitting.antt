@@ -61,7 +61,7 @@ later_print : (test : Bool) (here there : Print) (one : PlainItem) → test ≡ 
 later_print true here there one is printed = absurd (true_false is)
 later_print false here there one is printed = printed
 
--- the items in front fit the row, and those behind are those of more
+-- the items in front fit the row, and those after are those of more
 pub record Front (Fit : List PlainItem → List Tree → Type 0) (row : List Tree) (more : Prints) (items : List PlainItem) : Type 0 where
   pub front : List PlainItem
   pub rest : List PlainItem
@@ -69,7 +69,7 @@ pub record Front (Fit : List PlainItem → List Tree → Type 0) (row : List Tre
   pub fits : Fit front row
   pub others : ArePrintedItems more rest
 
--- Rows one behind the other.
+-- Rows one after the other.
 
 one_row : (Fit : List PlainItem → List Tree → Type 0) (front rest items : List PlainItem) (row : List Tree) (rows : List (List Tree)) → items ≡ front ++ rest → Fit front row → 0 < length front
     → RowsFit Fit rest rows → RowsFit Fit items (row ∷ rows)

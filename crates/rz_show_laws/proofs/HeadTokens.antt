@@ -111,7 +111,7 @@ shown_attributes attr small = by_test (AreShownAttributes (attributes_of attr)) 
     (shown_word attr Locked refl (λ token is. rw is refl))) (shown_word attr Protected refl (λ token is. rw is refl)))
     (shown_word attr Preload refl (λ token is. rw is refl))) (shown_word attr Changed refl (λ token is. rw is refl)))))
 
--- The pieces of the head, behind the id.
+-- The pieces of the head, after the id.
 
 -- the pieces are these attributes
 attribute_pieces : (attributes : List (Shape × Attribute)) → AllByRecursion IsShownAttribute attributes → (pieces : List (List Token)) → map shapes_in pieces ≡ map shape_alone attributes
@@ -189,7 +189,7 @@ no_paren (token ∷ tokens) flat = go token.shape flat.0 (no_paren tokens flat.1
     go (shapes.Sign sign) is rest = absurd cc
     go _ is rest = rest
 
--- behind such tokens no bracket is open
+-- after such tokens no bracket is open
 pub none_open : (tokens : List Token) → AreFlat tokens → open_behind_all tokens 0 ≡ 0
 none_open [] flat = refl
 none_open (token ∷ tokens) flat = go token.shape flat.0 (none_open tokens flat.1)

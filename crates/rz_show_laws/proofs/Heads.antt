@@ -29,7 +29,7 @@ use Rattle.rz_show_laws.proofs.Shapes.{attribute_tokens, behind_commas, id_shape
 use Rattle.rz_show_lines_laws.proofs.Texts.{all_pieces, four_bytes, pieces_join, pieces_small}
 use Rattle.rz_show_lines_laws.proofs.Tokens.{line_both, piece_tokens}
 
--- what may stand behind a number
+-- what may stand after a number
 abbrev EndsLine : List Written → Type 0
 EndsLine line = IsBehind none_live line
 

@@ -11,7 +11,7 @@ use Rattle.rz_show_lines_laws.proofs.Tokens.{braced, group_tokens, list_shapes, 
 use Rattle.rz_show_lines.specs.Print.{block, by_name, in_binary, in_decimal, in_group, in_hex, in_literal, in_octal, in_text, named_block, no_prints, pieces, print, single, Print, Prints, Single}
 use Rattle.rz_show_laws.proofs.Walks.{kept}
 
--- what stands behind keeps the limits, where the row has a few tokens
+-- what stands after keeps the limits, where the row has a few tokens
 abbrev pub KeepsBehind : ℕ → ℕ → List Shape → Type 0
 KeepsBehind most depth rest = (row : ℕ) → row ≤ 3 → kept most depth row rest ≡ true
 
@@ -42,7 +42,7 @@ comma_keeps most depth row rest shallow behind = rw (le-leb depth most shallow) 
 
 -- Items and lists.
 
--- an item behind a brace or a comma, and behind one word too
+-- an item after a brace or a comma, and after one word too
 abbrev IsKept : Print → Type 0
 IsKept one = (most depth row : ℕ) (rest : List Shape) → depth + height one ≤ most → row ≤ 1 → KeepsBehind most depth rest → kept most depth row (print_shapes one ++ rest) ≡ true
 
@@ -112,7 +112,7 @@ mutual
       one_more most depth row (braced (list_shapes prints) ++ rest) (omega (arith, shallow)) (omega (arith, low))
       (λ row low. braces_keep prints (list_kept prints) most depth row rest shallow behind)
 
-  -- behind a brace or a comma
+  -- after a brace or a comma
   pub list_kept : (prints : Prints) (most depth : ℕ) (rest : List Shape) → depth + heights prints ≤ most → KeepsBehind most depth rest
       → kept most depth 0 (list_shapes prints ++ rest) ≡ true
   list_kept no_prints = none_kept

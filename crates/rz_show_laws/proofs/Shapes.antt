@@ -22,7 +22,7 @@ text_shapes pieces = map (λ piece. shapes.Text piece) pieces
 abbrev pub shape_alone : Shape × Attribute → List Shape
 shape_alone a = a.0 ∷ []
 
--- what stands behind the id: the name, where there is one, and the attributes
+-- what stands after the id: the name, where there is one, and the attributes
 abbrev pub name_pieces : List (List ℕ) → List (List Shape)
 name_pieces [] = []
 name_pieces (piece ∷ pieces) = text_shapes (piece ∷ pieces) ∷ []
@@ -30,11 +30,11 @@ name_pieces (piece ∷ pieces) = text_shapes (piece ∷ pieces) ∷ []
 abbrev pub head_pieces : Resource → List (List ℕ) → List (List Shape)
 head_pieces r name = name_pieces name ++ map shape_alone (attributes_of r.attr)
 
--- each of them behind a comma
+-- each of them after a comma
 abbrev pub behind_commas : List (List Shape) → List Shape
 behind_commas pieces = flat_map (λ piece. shapes.Sign signs.Comma ∷ piece) pieces
 
--- and behind commas
+-- and after commas
 abbrev pub attribute_tokens : List (Shape × Attribute) → List Shape
 attribute_tokens attributes = behind_commas (map shape_alone attributes)
 

@@ -72,7 +72,7 @@ abbrev pub inside : Divider → ℕ → Bool
 inside Separator depth = not (depth == 0)
 inside divider depth = is_plain divider
 
--- such shapes change nothing for what stands behind them, and nothing divides among them
+-- such shapes change nothing for what stands after them, and nothing divides among them
 pub record Passes (pass : Divider → ℕ → Bool) (shapes : List Shape) : Type 0 where
   pub opens : (rest : List Shape) (depth : ℕ) → opened (shapes ++ rest) depth ≡ opened rest depth
   pub divides : (divider : Divider) (depth : ℕ) → pass divider depth ≡ true → (rest : List Shape) → divided divider depth (shapes ++ rest) ≡ divided divider depth rest

@@ -90,7 +90,7 @@ abbrev pub IsWholeOf : List Token → Showing → Type 0
 IsWholeOf tokens (by_bytes resource) = IsWholeData tokens resource
 IsWholeOf tokens (by_row resource body row) = IsWholeRow tokens resource body row
 
--- tokens that are these statements, one behind the other
+-- tokens that are these statements, one after the other
 abbrev pub AreWhole : List Token → List Showing → Type 0
 AreWhole tokens [] = tokens ≡ []
 AreWhole tokens (first ∷ list) = (front : List Token) × (back : List Token) × (tokens ≡ front ++ back) × IsWholeOf front first × AreWhole back list

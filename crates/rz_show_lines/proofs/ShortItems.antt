@@ -33,7 +33,7 @@ blanks_size : (levels : ℕ) → size (blanks levels) ≡ 4 * levels
 blanks_size zero = refl
 blanks_size (suc levels) = omega (arith, blanks_size levels)
 
--- behind a margin
+-- after a margin
 line_short : (depth : ℕ) (line : List Written) → size line ≤ 479 → IsShort (margin depth ++ line)
 line_short depth line few = is_short (margin depth ++ line) (omega (arith, size_both (margin depth) line, blanks_size (min depth 8), few))
 

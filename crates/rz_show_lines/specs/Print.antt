@@ -79,17 +79,17 @@ abbrev pub comma : Prints → List Written
 comma no_prints = []
 comma (print item others) = a_sign signs.Comma ∷ []
 
--- the pieces of a text, each on a line of its own; what stands behind the text stands behind the last
+-- the pieces of a text, each on a line of its own; what stands after the text stands after the last
 abbrev pub piece_lines : (depth : ℕ) → (behind : List Written) → (hex : Bool) → List ℕ → List (List ℕ) → List (List Written)
 piece_lines depth behind hex first [] = (margin depth ++ piece_written hex first ∷ behind) ∷ []
 piece_lines depth behind hex first (second ∷ others) = (margin depth ++ piece_written hex first ∷ []) ∷ piece_lines depth behind hex second others
 
--- a text, or what is left of it, in pieces, with what stands behind it
+-- a text, or what is left of it, in pieces, with what stands after it
 abbrev pub text_lines : (depth : ℕ) → (behind : List Written) → (hex : Bool) → List ℕ → List (List Written)
 text_lines depth behind hex bytes = piece_lines depth behind hex (text_pieces hex bytes).first (text_pieces hex bytes).others
 
 abbrev mutual
-  -- an item at this depth, with what stands behind it; the items of a list in braces stand one level deeper
+  -- an item at this depth, with what stands after it; the items of a list in braces stand one level deeper
   pub print_lines : (depth : ℕ) → (behind : List Written) → Print → List (List Written)
   print_lines depth behind (single one) = (margin depth ++ (single_written one ++ behind)) ∷ []
   print_lines depth behind (pieces hex first others) = piece_lines depth behind hex first others

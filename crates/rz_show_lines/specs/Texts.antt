@@ -9,7 +9,7 @@ abbrev pub pending_lines : (depth : ℕ) → (behind : List Written) → Option 
 pending_lines depth behind None = []
 pending_lines depth behind (Some text) = text_lines depth behind text.hex text.bytes.now
 
--- what stands behind a piece of a text: nothing where others follow
+-- what stands after a piece of a text: nothing where others follow
 abbrev pub behind_piece : Option Text → List Written → List Written
 behind_piece None behind = behind
 behind_piece (Some text) behind = []

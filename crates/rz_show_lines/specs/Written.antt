@@ -39,7 +39,7 @@ octal_count number = digit_count 11 8 number
 abbrev pub group_gap : ℕ → List ℕ
 group_gap position = if position == 0 then [] else if position % 2 == 0 then 32 ∷ [] else []
 
--- a byte in hexadecimal, behind these
+-- a byte in hexadecimal, after these
 abbrev pub grouped_byte : List ℕ → ℕ → List ℕ
 grouped_byte before byte = group_gap (length before) ++ hex_byte byte
 

@@ -14,7 +14,7 @@ const DEEPEST: u8 = 8;
 /// The margin of the deepest level.
 const MARGIN: [u8; 32] = [b' '; 32];
 
-/// A line that is being written: at most 512 bytes, and what is written behind them is dropped. Contracts see its bytes.
+/// A line that is being written: at most 512 bytes, and what is written after them is dropped. Contracts see its bytes.
 #[derive(Drop)]
 pub struct Line {
     bytes: ArrayVec<u8, 512>,
@@ -73,11 +73,11 @@ impl Line {
         self.append(&MARGIN[..blanks]);
     }
 
-    /// Writes a comma, where something stands behind.
-    pub fn comma(&mut self, behind: bool)
-        ensures { self.new ≡ cut (self.old ++ (if behind then 44 ∷ [] else [])) }
+    /// Writes a comma, where something stands after it.
+    pub fn comma(&mut self, followed: bool)
+        ensures { self.new ≡ cut (self.old ++ (if followed then 44 ∷ [] else [])) }
     {
-        self.append(if behind { b"," } else { b"" });
+        self.append(if followed { b"," } else { b"" });
     }
 
     /// The bytes of the line.

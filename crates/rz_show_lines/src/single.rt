@@ -75,7 +75,7 @@ impl Line {
         }
     }
 
-    /// Writes the numbers behind the first, each behind a comma, and the brace.
+    /// Writes the numbers after the first, each after a comma, and the brace.
     fn group_rest(&mut self, numbers: &[u16])
         ensures { self.new ≡ cut (self.old ++ line_text (group_rest (map (signed_number 16) numbers.now))) }
     {

@@ -77,7 +77,7 @@ sign_alone signs.Comma h = record { bare = refl; in_line = inside (44 ∷ []) re
 sign_alone signs.Minus h = record { bare = refl; in_line = inside (45 ∷ []) refl; ends = alone 45 refl refl refl refl refl refl }
 sign_alone sign h = absurd cc
 
--- no word goes on behind a line that doesn't begin with one
+-- no word goes on after a line that doesn't begin with one
 sign_begins : (sign : Sign) (text : List ℕ) → is_bare sign ≡ true → begins_word (sign_text sign ++ text) ≡ false
 sign_begins signs.OpenBrace text h = refl
 sign_begins signs.CloseBrace text h = refl

@@ -27,7 +27,7 @@ module _ (hidden : List ℕ → Bool) where
   margin_line : (depth : ℕ) (line : List Written) → IsLine line → IsLine (margin depth ++ line)
   margin_line depth line is = blanks_line (min depth 8) line is
 
-  -- what stands behind an item
+  -- what stands after an item
   pub record IsBehind (behind : List Written) : Type 0 where
     pub line : IsLine behind
     pub ends : begins_wordy behind ≡ false
@@ -43,7 +43,7 @@ module _ (hidden : List ℕ → Bool) where
   signed_apart (pos n) behind ends apart = rw (ends, apart) refl
   signed_apart (negsuc n) behind ends apart = rw (ends, apart) refl
 
-  -- a signed number, and what stands behind it, when something is put behind both
+  -- a signed number, and what stands after it, when something is put after both
   signed_then : (z : ℤ) (line behind : List Written) → begins_wordy (line ++ behind) ≡ false → are_apart (line ++ behind) ≡ true → are_apart ((signed_written z ++ line) ++ behind) ≡ true
   signed_then (pos n) line behind ends apart = rw (ends, apart) refl
   signed_then (negsuc n) line behind ends apart = rw (ends, apart) refl

@@ -53,7 +53,7 @@ has_tokens law text lines is =
       );
     }
 
--- The tokens of the lines, one behind the other.
+-- The tokens of the lines, one after the other.
 
 abbrev pub tokens_of : List RawLine → List (List Shape) → List Token
 tokens_of [] shapes = []

@@ -1,4 +1,4 @@
--- The pieces of a text, one behind the other, are its bytes.
+-- The pieces of a text, one after the other, are its bytes.
 use Rattle.std.proofs.Common.{◌≡◌, ℕ, zero, suc, ◌-◌, List, [], ◌∷◌, refl, ap, arith}
 use Rattle.std.specs.List.{flat_map, AllByRecursion}
 use Rattle.rz_core.specs.Numbers.{be}

@@ -1,4 +1,4 @@
--- Where the first statement ends, and how reading goes on behind it.
+-- Where the first statement ends, and how reading goes on after it.
 use Rattle.std.proofs.Common.{◌≡◌, ◌≢◌, ℕ, zero, suc, ◌+◌, ◌<◌, ◌≤◌, Bool, true, false, ◌||◌, inl, inr, List, [], ◌∷◌, ◌++◌, length, take, drop, refl, sym, ap, subst, ◌∙◌, arith, append_assoc, append-nil, length-append}
 use Rattle.std.specs.Prelude.{◌⊎◌, if◌then◌else◌}
 use Rattle.std.proofs.lemmas.Bool.{or_parts, or_right}
@@ -46,7 +46,7 @@ none_left (statement ∷ statements) (behind, are, inr (rest, none, no_others)) 
     empty [] ys is = refl
     empty (x ∷ xs) ys is = absurd (cc is)
 
--- whatever the rest of the tokens are, all are that behind the statements so far
+-- whatever the rest of the tokens are, all are that after the statements so far
 pub record Cutting (tokens rest : List Token) (start : ℕ) (spans : List Span) : Type 0 where
   pub leads : (statements : List (List Token)) → AreStatements rest statements
       → (all : List (List Token)) × AreStatements tokens all × (spans ++ spans_from start statements ≡ spans_from 0 all)

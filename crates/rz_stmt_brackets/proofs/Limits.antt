@@ -6,7 +6,7 @@ use Rattle.rz_lex.specs.declared.token.Token.{Token}
 use Rattle.rz_stmt_brackets.specs.Limit.{counted, depth_limit, ends_row, is_row, is_text, is_within_limits, keeps_limits, longest_row, row_behind, KeepsLimits}
 use Rattle.rz_stmt_brackets.specs.Statements.{open_behind, open_behind_all}
 
--- how long the last row is behind several tokens
+-- how long the last row is after several tokens
 abbrev rows_behind : List Token → ℕ → ℕ
 rows_behind [] row = row
 rows_behind (token ∷ tokens) row = rows_behind tokens (row_behind token.shape row)
@@ -30,7 +30,7 @@ in_a_row (token ∷ row) n is = by (ends_row token.shape) refl (is_text token.sh
     by false ends true text more = more n parts.1
     by false ends false text more = more (suc n) parts.1 ∙ omega arith
 
--- the last row of a front: all of it, behind those that stood before, or its own end
+-- the last row of a front: all of it, after those that stood before, or its own end
 record LastRow (front : List Token) (n : ℕ) : Type 0 where
   before : List Token
   row : List Token

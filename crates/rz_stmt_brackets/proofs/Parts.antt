@@ -22,7 +22,7 @@ module _ (P : Token → Type 0) where
   parted_behind : (divider : Divider) (tokens : List Token) (parted : Parted) → IsParted divider tokens parted → AllByRecursion P tokens → AllByRecursion P parted.behind
   parted_behind divider tokens parted is are = (behind_each parted.front (is.sign ∷ parted.behind) (subst (AllByRecursion P) is.are are)).1
 
-  -- in brackets, and behind them
+  -- in brackets, and after them
   pub within_each : (bracket : Bracket) (tokens : List Token) (parted : Parted) → IsBracketed bracket tokens parted → AllByRecursion P tokens → AllByRecursion P parted.front
   within_each bracket tokens parted is are = parted_front (closer bracket) is.rest parted is.closes (subst (AllByRecursion P) is.are are).1
 

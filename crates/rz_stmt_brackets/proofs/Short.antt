@@ -1,4 +1,4 @@
--- Pieces are no longer than the tokens, and what stands in brackets and behind them is shorter.
+-- Pieces are no longer than the tokens, and what stands in brackets and after them is shorter.
 use Rattle.std.proofs.Common.{ℕ, ◌+◌, ◌≤◌, List, [], ◌∷◌, length, length-append, ap, ◌∙◌, arith}
 use Rattle.std.specs.List.{AllByRecursion}
 use Rattle.rz_stmt_brackets.specs.Bracket.{IsBracketed}

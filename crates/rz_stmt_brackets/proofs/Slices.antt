@@ -3,7 +3,7 @@ use Rattle.std.proofs.Common.{◌≡◌, ◌≤◌, ◌<◌, ◌-◌, ℕ, List,
 use Rattle.std.proofs.lemmas.List.{length-drop, take_all}
 use Rattle.rz_lex.specs.declared.token.Token.{Token}
 
--- what stands behind the first so many, as a pattern has it
+-- what stands after the first so many, as a pattern has it
 abbrev pub behind_of : ℕ → List Token → List Token
 behind_of n tokens = take (length tokens - n) (drop n tokens)
 

@@ -28,7 +28,7 @@ closer Round = CloseParen
 closer Square = CloseBracket
 closer Curly = CloseBrace
 
--- the tokens are a bracket that opens, what stands within, the bracket that closes it, and what stands behind
+-- the tokens are a bracket that opens, what stands within, the bracket that closes it, and what stands after
 pub record IsBracketed (bracket : Bracket) (tokens : List Token) (parted : Parted) : Type 0 where
   pub opener : Token
   pub rest : List Token

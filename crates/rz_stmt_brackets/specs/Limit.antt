@@ -35,11 +35,11 @@ abbrev pub is_text : Shape → Bool
 is_text (shapes.Text bytes) = true
 is_text shape = false
 
--- how long a row is behind a token
+-- how long a row is after a token
 abbrev pub row_behind : Shape → ℕ → ℕ
 row_behind shape row = if ends_row shape then 0 else if is_text shape then row else suc row
 
--- behind each token no more brackets are open than may be, and no row is longer; so many are open before, and a row has
+-- after each token no more brackets are open than may be, and no row is longer; so many are open before, and a row has
 -- so many tokens
 abbrev pub keeps_limits : ℕ → ℕ → ℕ → List Token → Bool
 keeps_limits most depth row [] = true
@@ -63,7 +63,7 @@ abbrev pub counted : List Token → ℕ
 counted [] = 0
 counted (token ∷ tokens) = if is_text token.shape then counted tokens else suc (counted tokens)
 
--- behind no front of the tokens are more brackets open than may be, and no row among them is longer than it may be
+-- after no front of the tokens are more brackets open than may be, and no row among them is longer than it may be
 pub record KeepsLimits (tokens : List Token) : Type 0 where
   pub shallow : (front behind : List Token) → tokens ≡ front ++ behind → open_behind_all front 0 ≤ depth_limit tokens
   pub short : (front row behind : List Token) → tokens ≡ front ++ (row ++ behind) → is_row row ≡ true → counted row ≤ longest_row

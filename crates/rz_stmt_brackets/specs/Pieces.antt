@@ -32,12 +32,12 @@ abbrev pub has_divider : Divider → ℕ → List Token → Bool
 has_divider divider depth [] = false
 has_divider divider depth (token ∷ tokens) = divides_at divider depth token || has_divider divider (open_behind token.shape depth) tokens
 
--- what stands before such a token, and what behind it
+-- what stands before such a token, and what after it
 pub record Parted : Type 0 where
   pub front : List Token
   pub behind : List Token
 
--- the tokens are those of the front, the first such token outside brackets, and those behind it
+-- the tokens are those of the front, the first such token outside brackets, and those after it
 pub record IsParted (divider : Divider) (tokens : List Token) (parted : Parted) : Type 0 where
   pub sign : Token
   pub are : tokens ≡ parted.front ++ sign ∷ parted.behind

@@ -6,7 +6,7 @@ use Rattle.rz_lex.specs.declared.token.Shape.TheVariants as shapes
 use Rattle.rz_lex.specs.declared.token.Token.{Token}
 use Rattle.rz_stmt_brackets.specs.declared.span.Span.{Span}
 
--- how many brackets are open behind a token; one that closes none changes nothing
+-- how many brackets are open after a token; one that closes none changes nothing
 abbrev pub open_behind : Shape → ℕ → ℕ
 open_behind (shapes.Sign OpenParen) count = count + 1
 open_behind (shapes.Sign OpenBracket) count = count + 1
@@ -16,7 +16,7 @@ open_behind (shapes.Sign CloseBracket) count = count - 1
 open_behind (shapes.Sign CloseBrace) count = count - 1
 open_behind shape count = count
 
--- and behind several tokens
+-- and after several tokens
 abbrev pub open_behind_all : List Token → ℕ → ℕ
 open_behind_all [] count = count
 open_behind_all (token ∷ tokens) count = open_behind_all tokens (open_behind token.shape count)
@@ -52,7 +52,7 @@ pub record IsRest (tokens : List Token) : Type 0 where
   pub some : tokens ≢ []
   pub goes_on : has_end 0 tokens ≡ false
 
--- the tokens are these statements, one behind the other; a rest is the last of them
+-- the tokens are these statements, one after the other; a rest is the last of them
 abbrev pub AreStatements : List Token → List (List Token) → Type 0
 AreStatements tokens [] = tokens ≡ []
 AreStatements tokens (statement ∷ statements) =

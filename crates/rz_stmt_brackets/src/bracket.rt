@@ -1,4 +1,4 @@
-//! Brackets at the front of tokens, what stands in them and what behind; changes with `specs/Bracket`.
+//! Brackets at the front of tokens, what stands in them and what after; changes with `specs/Bracket`.
 
 ghost use Rattle.std.specs.Prelude.{◌≡◌, IfSome, option_map};
 ghost use Rattle.rz_stmt_brackets.specs.Bracket.{begins, closer, opens, IsBracketed};
@@ -19,7 +19,7 @@ pub enum Bracket {
     Curly,
 }
 
-/// What stands in such brackets at the front, and what stands behind the bracket that closes them. `None`
+/// What stands in such brackets at the front, and what stands after the bracket that closes them. `None`
 /// exactly where the first token doesn't open such brackets, or they aren't closed.
 pub fn bracketed(tokens: &[Token], bracket: Bracket) -> Option<Split<'_>>
     ensures found { IfSome result (λ split. IsBracketed bracket tokens.now (held_split split)) }

@@ -11,9 +11,9 @@ use rz_core::NoMemory;
 use rz_lex::{Shape, Sign, Token, Tokens};
 use std::alloc::Global;
 
-/// The statements of a program: its tokens are cut behind each `;` that stands outside all brackets, of
+/// The statements of a program: its tokens are cut after each `;` that stands outside all brackets, of
 /// whatever kind. A rest without such a `;` is the last statement. A bracket that closes none counts for
-/// nothing, and behind each cut none is open. (MPW Rez.)
+/// nothing, and after each cut none is open. (MPW Rez.)
 pub fn statements(alloc: Global, tokens: &Tokens) -> Result<Spans, NoMemory>
     ensures spans { IfOk result (HasSpans tokens.now) }
     ensures every { (spans : List Span) → HasSpans tokens.now spans → IfOk result (λ given. given ≡ spans) }

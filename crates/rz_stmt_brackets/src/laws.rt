@@ -15,7 +15,7 @@ pub fn all_tokens_are_statements()
     ensures { (tokens : List Token) → (statements : List (List Token)) × AreStatements tokens statements }
 {}
 
-/// A law, with nothing to run: a statement is within its limits exactly where behind none of its fronts more
+/// A law, with nothing to run: a statement is within its limits exactly where after none of its fronts more
 /// brackets are open than may be, and none of its rows without one of `{ } , ;` has more tokens other than
 /// texts than may be.
 pub fn limits_are_kept()
@@ -23,7 +23,7 @@ pub fn limits_are_kept()
 {}
 
 /// A law, with nothing to run: for each divider, all tokens are pieces, and they are so in one way; what stands
-/// before the first such token outside brackets, and what behind it, is one thing, and so is what stands in brackets
+/// before the first such token outside brackets, and what after it, is one thing, and so is what stands in brackets
 /// at the front.
 pub fn pieces_are_cut()
     ensures some { (divider : Divider) (tokens : List Token) → (pieces : List (List Token)) × AreCut divider tokens pieces }
@@ -36,7 +36,7 @@ pub fn pieces_are_cut()
 {}
 
 /// A law, with nothing to run: of all tokens it is decided what stands before the first dividing token outside brackets, and
-/// what behind it, and what stands in brackets at their front, and behind them: there is such a thing, or none.
+/// what after it, and what stands in brackets at their front, and after them: there is such a thing, or none.
 pub fn partings_are_decided()
     ensures first { (divider : Divider) (tokens : List Token) → (answer : Option Parted) × Decided (IsParted divider tokens) answer }
     ensures within { (bracket : Bracket) (tokens : List Token) → (answer : Option Parted) × Decided (IsBracketed bracket tokens) answer }

@@ -43,7 +43,7 @@ fn depth_limit(tokens: &[Token]) -> usize
     }
 }
 
-/// How long a row is behind a token.
+/// How long a row is after a token.
 fn row_behind(shape: &Shape, row: usize) -> usize
     requires { row + 1 < 2 ^ 64 }
     ensures row { result ≡ row_behind shape.now row }

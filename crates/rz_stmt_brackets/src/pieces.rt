@@ -33,16 +33,16 @@ pub enum Divider {
     CloseBrace,
 }
 
-/// The tokens before one that divides, and those behind it.
+/// The tokens before one that divides, and those after it.
 #[derive(Drop)]
 pub struct Split<'a> {
     /// The tokens before it.
     pub front: &'a [Token],
-    /// The tokens behind it.
+    /// The tokens after it.
     pub behind: &'a [Token],
 }
 
-/// The tokens before the first that divides outside brackets, and those behind it. `None` exactly where there is
+/// The tokens before the first that divides outside brackets, and those after it. `None` exactly where there is
 /// no such token.
 pub fn split_at(tokens: &[Token], divider: Divider) -> Option<Split<'_>>
     ensures found { IfSome result (λ split. IsParted divider tokens.now (held_split split)) }

@@ -7,7 +7,7 @@ use rz_core::Listing;
 pub struct Span {
     /// The position of its first token, from 0.
     pub start: u64,
-    /// The position behind its last token.
+    /// The position after its last token.
     pub end: u64,
 }
 

@@ -136,7 +136,7 @@ front_short : {tokens : List Token} {part : PlainPart} {behind : List Token} →
 front_short (alone token behind part is) = omega arith
 front_short (called word rest call parted part has brackets so) = omega (arith, bracket_sizes Round rest parted brackets)
 
--- and what stands behind it
+-- and what stands after it
 parts_in : (first : Token) (rest : List Token) (parts : List PlainPart) → AreParts (first ∷ rest) parts
     → (part : PlainPart) × (behind : List Token) × IsFront (first ∷ rest) part behind × HasParts behind
 parts_in first rest parts (one_part same behind part others is are) = (part, behind, is, (others, are))

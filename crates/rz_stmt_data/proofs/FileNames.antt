@@ -10,7 +10,7 @@ use Rattle.rz_lex.specs.declared.token.Shape.TheVariants as shapes
 use Rattle.rz_lex.specs.declared.token.Token.{Token}
 use Rattle.rz_stmt_data.specs.Files.{begins_with_text, behind_texts, file_in, past_text, text_of, texts_at_front, with_text, IsFile}
 
--- The texts, and what stands behind them.
+-- The texts, and what stands after them.
 
 none_at_front : (rest : List Token) → begins_with_text rest ≡ false → (texts_at_front rest ≡ []) × (behind_texts rest ≡ rest)
 none_at_front [] off = (refl, refl)
@@ -116,7 +116,7 @@ file_found tokens file rest name are is off =
 
 -- All of the tokens.
 
--- tokens that are a file are that which stands at their front, and nothing stands behind
+-- tokens that are a file are that which stands at their front, and nothing stands after
 pub whole_so : (tokens : List Token) (name : List ℕ) → IsFile tokens name → (file_in tokens ≡ Some name) × (behind_texts tokens ≡ [])
 whole_so tokens name is = file_found tokens tokens [] name (sym (append-nil tokens)) is refl
 

@@ -29,7 +29,7 @@ use Rattle.rz_stmt_data.specs.declared.head.Subject.TheVariants.{New}
 pub one_body : (tokens inside other : List Token) → IsBody tokens inside → IsBody tokens other → inside ≡ other
 one_body tokens inside other is also = sym is.3 ∙ ap (λ (p : Parted). p.front) (one_bracketed Curly tokens is.0 also.0 is.1 also.1) ∙ also.3
 
--- the brackets of a frame stand behind its type
+-- the brackets of a frame stand after its type
 pub brackets_behind : (keyword : Keyword) (tokens : List Token) (frame : Frame) (is : IsFrame keyword tokens frame) (typed : Typed) → IsTyped keyword tokens typed
     → IsBracketed Round typed.behind is.brackets
 brackets_behind keyword tokens frame is typed also =

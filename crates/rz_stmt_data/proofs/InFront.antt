@@ -10,7 +10,7 @@ use Rattle.rz_lex.specs.declared.token.Token.{Token}
 use Rattle.rz_stmt_brackets.specs.Kind.{kind_in}
 use Rattle.rz_stmt_data.specs.Typed.{IsTyped, Typed}
 
--- the word, the type, and what stands behind them
+-- the word, the type, and what stands after them
 pub same_tokens : (a b x y : Token) (us vs : List Token) → a ∷ b ∷ us ≡ x ∷ y ∷ vs → (a ≡ x) × (b ≡ y) × (us ≡ vs)
 same_tokens a b x y us vs is = (cc is, cc is, cc is)
 
@@ -40,6 +40,6 @@ module _ (keyword : Keyword) where
           let same = same_tokens word kind h.1.word h.1.kind behind h.0.behind h.1.are in
           (ap (λ (t : Token). is_keyword keyword t.shape) same.0 ∙ h.1.is_word, (h.0.kind, ap (λ (t : Token). kind_in t.shape) same.1 ∙ h.1.has_kind))
 
-  -- what holds of each token holds of each behind them
+  -- what holds of each token holds of each after them
   pub typed_each : (P : Token → Type 0) (tokens : List Token) (typed : Typed) → IsTyped keyword tokens typed → AllByRecursion P tokens → AllByRecursion P typed.behind
   typed_each P tokens typed is are = (subst (AllByRecursion P) is.are are).1.1

@@ -114,7 +114,7 @@ begun tokens term (binary xs ys t is loose left right) =
 pub expression_apart : (tokens : List Token) (term : Term) → IsExpression tokens term → begins_text tokens ≡ false
 expression_apart tokens term is = let it = begun tokens term is in ap begins_text it.are ∙ it.off
 
--- What stands behind a part, and the part.
+-- What stands after a part, and the part.
 
 pub same_behind : (tokens : List Token) (part another : PlainPart) (behind other : List Token) → IsFront tokens part behind → IsFront tokens another other → behind ≡ other
 same_behind tokens part another behind other (alone token rest p is) (alone same others q also) = refl

@@ -65,7 +65,7 @@ plain_begins piece pieces tokens are = parts_begin tokens (plain_texts (piece �
 
 -- `data` statements.
 
--- no sign divides them, and no bracket is open behind them
+-- no sign divides them, and no bracket is open after them
 none_divides : (divider : Divider) → ((bytes : List ℕ) → divides divider (shapes.Text bytes) ≡ false) → (pieces : List (List ℕ)) (tokens : List Token) → AreTextTokens tokens pieces
     → has_divider divider 0 tokens ≡ false
 none_divides divider none [] [] are = refl

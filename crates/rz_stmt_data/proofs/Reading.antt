@@ -17,7 +17,7 @@ use Rattle.rz_stmt_data.specs.Texts.{alone, called, no_argument, no_part, one_ar
 abbrev pub now_of : List (Bor (List Token)) → List (List Token)
 now_of pieces = map (λ piece. piece.now) pieces
 
--- the next piece, and those behind it
+-- the next piece, and those after it
 pub piece_next : (pieces : List (Bor (List Token))) (i : ℕ) (piece : Bor (List Token)) → i < length pieces → piece ≡ get_or pieces i piece
     → now_of (drop i pieces) ≡ piece.now ∷ now_of (drop (i + 1) pieces)
 piece_next pieces i piece less item =
@@ -42,7 +42,7 @@ pub record Leads (all rest : List Token) (so_far : List PlainPart) : Type 0 wher
 pub leads_first : (all : List Token) → Leads all all []
 leads_first all = record { forth = λ more are. are; back = λ parts are. (parts, are) }
 
--- the parts behind the first
+-- the parts after the first
 behind_first : (tokens behind : List Token) (part : PlainPart) (parts : List PlainPart) → IsFront tokens part behind → AreParts tokens parts
     → (others : List PlainPart) × AreParts behind others
 behind_first tokens behind part parts is no_part = absurd (front_some [] part behind is refl)
@@ -129,7 +129,7 @@ first_short size piece pieces are = are.0
 others_short : (size : ℕ) (piece : List Token) (pieces : List (List Token)) → AreShort size (piece ∷ pieces) → AreShort size pieces
 others_short size piece pieces are = are.1
 
--- the pieces behind the first
+-- the pieces after the first
 pub arguments_short : (tokens said : List Token) (others pieces : List (List Token)) → AreCut Comma tokens pieces → pieces ≡ said ∷ others → longest others ≤ length tokens
 arguments_short tokens said others pieces cut are =
     longest_short (length tokens) others

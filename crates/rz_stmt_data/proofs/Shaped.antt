@@ -7,7 +7,7 @@ use Rattle.rz_stmt_data.specs.Texts.{begins_text}
 use Rattle.rz_stmt_data.specs.declared.head.Subject.{Subject}
 
 module _ (subject : Subject) (pieces others : List (List Token)) (first : List Token) (are : pieces ≡ first ∷ others) where
-  -- what stands behind the id, by whether a text begins there
+  -- what stands after the id, by whether a text begins there
   pub rest_forth : (begins : Bool) → begins_text first ≡ begins → (rest : Option (List PlainPart) × List Attribute)
       → IsRestBy subject begins first others rest.0 rest.1 → IsRestOf subject pieces rest
   rest_forth begins on rest is =

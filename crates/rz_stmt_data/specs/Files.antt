@@ -33,7 +33,7 @@ abbrev pub texts_at_front : List Token → List ℕ
 texts_at_front [] = []
 texts_at_front (token ∷ tokens) = with_text (text_of token.shape) (texts_at_front tokens)
 
--- what stands behind them
+-- what stands after them
 abbrev pub past_text : Option (List ℕ) → List Token → List Token → List Token
 past_text None here past = here
 past_text (Some bytes) here past = past

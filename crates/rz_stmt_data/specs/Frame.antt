@@ -1,4 +1,4 @@
--- The frame of a statement that makes a resource: a word, a type, a head in brackets, and braces, with `;` behind them. (MPW Rez.)
+-- The frame of a statement that makes a resource: a word, a type, a head in brackets, and braces, with `;` after them. (MPW Rez.)
 use Rattle.std.specs.Prelude.{◌≡◌, ℕ, true, List}
 use Rattle.rz_words.specs.declared.keyword.Keyword.{Keyword}
 use Rattle.rz_lex.specs.declared.token.Token.{Token}
@@ -20,7 +20,7 @@ pub record Frame : Type 0 where
 abbrev pub frame_of : Framed → Frame
 frame_of framed = record { kind = framed.kind.code; head = head_of framed.head; inside = framed.inside.now }
 
--- braces with this in them, and the `;` behind them
+-- braces with this in them, and the `;` after them
 abbrev pub IsBody : List Token → List Token → Type 0
 IsBody tokens inside = (braces : Parted) × IsBracketed Curly tokens braces × (is_empty braces.behind ≡ true) × (braces.front ≡ inside)
 

@@ -73,7 +73,7 @@ AreAttributesFor subject [] attributes = attributes ≡ []
 AreAttributesFor subject (piece ∷ pieces) attributes =
     (first : Attribute) × (rest : List Attribute) × IsAttributeFor subject piece first × AreAttributesFor subject pieces rest × (attributes ≡ first ∷ rest)
 
--- what stands behind the id: the name where a text begins there, and all other pieces are attributes
+-- what stands after the id: the name where a text begins there, and all other pieces are attributes
 abbrev pub IsRestBy : Subject → Bool → List Token → List (List Token) → Option (List PlainPart) → List Attribute → Type 0
 IsRestBy subject true piece pieces name attributes =
     (parts : List PlainPart) × IsText (place_of subject) piece parts × AreAttributesFor subject pieces attributes × (name ≡ Some parts)
@@ -86,7 +86,7 @@ IsRestFor subject (piece ∷ pieces) name attributes = IsRestBy subject (begins_
 abbrev pub IsRestOf : Subject → List (List Token) → Option (List PlainPart) × List Attribute → Type 0
 IsRestOf subject pieces rest = IsRestFor subject pieces rest.0 rest.1
 
--- the pieces of a head of the subject: the id, and what stands behind it
+-- the pieces of a head of the subject: the id, and what stands after it
 abbrev pub IsHeadFor : Subject → List (List Token) → Head → Type 0
 IsHeadFor subject [] head = ⊥
 IsHeadFor subject (first ∷ others) head = IsSaidFor subject first head.id × IsRestFor subject others head.name head.attributes

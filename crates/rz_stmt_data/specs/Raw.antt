@@ -1,4 +1,4 @@
--- A `data` statement: `data`, a type, a head, and in braces a text, or nothing, with at most one `;` behind it. (MPW Rez.)
+-- A `data` statement: `data`, a type, a head, and in braces a text, or nothing, with at most one `;` after it. (MPW Rez.)
 use Rattle.std.specs.Prelude.{◌≡◌, ℕ, List, [], ◌∷◌}
 use Rattle.rz_words.specs.declared.keyword.Keyword.TheVariants as keywords
 use Rattle.rz_lex.specs.declared.token.Token.{Token}
@@ -24,7 +24,7 @@ abbrev pub IsMaybeText : List Token → List PlainPart → Type 0
 IsMaybeText [] texts = texts ≡ []
 IsMaybeText (token ∷ tokens) texts = IsText Data (token ∷ tokens) texts
 
--- such a piece alone, or with a `;` and nothing more behind it
+-- such a piece alone, or with a `;` and nothing more after it
 abbrev pub AreTexts : List (List Token) → List PlainPart → Type 0
 AreTexts (piece ∷ []) texts = IsMaybeText piece texts
 AreTexts (piece ∷ [] ∷ []) texts = IsMaybeText piece texts

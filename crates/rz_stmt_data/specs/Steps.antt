@@ -16,14 +16,14 @@ use Rattle.rz_stmt_data.specs.declared.texts.TextCall.{TextCall}
 
 -- Texts.
 
--- a part at the front, and what stands behind it
+-- a part at the front, and what stands after it
 abbrev pub held_front : Front → PlainPart × List Token
 held_front front = (plain_part front.part, front.behind.now)
 
 abbrev pub IsFrontPair : List Token → PlainPart × List Token → Type 0
 IsFrontPair tokens pair = IsFront tokens pair.0 pair.1
 
--- the brackets of a function, and what stands behind them
+-- the brackets of a function, and what stands after them
 abbrev pub IsCalledPair : TextCall → List Token → PlainPart × List Token → Type 0
 IsCalledPair call tokens pair = (parted : Parted) × IsBracketed Round tokens parted × IsCall call parted.front pair.0 × (pair.1 ≡ parted.behind)
 
@@ -40,7 +40,7 @@ IsFormatted text others part =
 
 -- Heads.
 
--- a name, and attributes behind it
+-- a name, and attributes after it
 abbrev pub IsNamedRest : Subject → List Token → List (List Token) → Option (List PlainPart) × List Attribute → Type 0
 IsNamedRest subject piece others rest = IsRestBy subject true piece others rest.0 rest.1
 

@@ -80,13 +80,13 @@ key_by (Number term) = ById term
 key_by (Text parts) = ByName parts
 
 mutual
-  -- the tokens are these parts, one behind the other
+  -- the tokens are these parts, one after the other
   pub data AreParts : List Token → List PlainPart → Type 0 where
     no_part : AreParts [] []
     one_part : (tokens behind : List Token) (part : PlainPart) (parts : List PlainPart)
         → IsFront tokens part behind → AreParts behind parts → AreParts tokens (part ∷ parts)
 
-  -- this part stands at the front of the tokens, and these stand behind it
+  -- this part stands at the front of the tokens, and these stand after it
   pub data IsFront : List Token → PlainPart → List Token → Type 0 where
     alone : (token : Token) (behind : List Token) (part : PlainPart) → part_in token.shape ≡ Some part → IsFront (token ∷ behind) part behind
     called : (word : Token) (rest : List Token) (call : TextCall) (parted : Parted) (part : PlainPart)

@@ -6,7 +6,7 @@ use Rattle.rz_lex.specs.declared.token.Token.{Token}
 use Rattle.rz_stmt_brackets.specs.Kind.{kind_in}
 use Rattle.rz_stmt_data.specs.declared.typed.Typed as code
 
--- the type, and what stands behind it
+-- the type, and what stands after it
 pub record Typed : Type 0 where
   pub kind : ℕ
   pub behind : List Token
@@ -14,7 +14,7 @@ pub record Typed : Type 0 where
 abbrev pub typed_of : code.Typed → Typed
 typed_of typed = record { kind = typed.kind.code; behind = typed.behind.now }
 
--- the tokens are the keyword, a type, and what stands behind it
+-- the tokens are the keyword, a type, and what stands after it
 pub record IsTyped (keyword : Keyword) (tokens : List Token) (typed : Typed) : Type 0 where
   pub word : Token
   pub kind : Token

@@ -58,7 +58,7 @@ fn texts_at_front(alloc: Global, tokens: &[Token]) -> Result<Bytes, NoMemory>
     Ok(bytes)
 }
 
-/// What stands behind the texts at the front.
+/// What stands after the texts at the front.
 pub fn behind_texts(tokens: &[Token]) -> &[Token]
     ensures { result.now ≡ behind_texts tokens.now }
 {

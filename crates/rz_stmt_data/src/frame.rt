@@ -51,7 +51,7 @@ pub fn read_frame<'a>(
     }
 }
 
-/// What stands in braces with `;` behind them.
+/// What stands in braces with `;` after them.
 fn in_braces(tokens: &[Token]) -> Option<&[Token]>
     ensures { Decided (IsBody tokens.now) (option_map (λ inside. inside.now) result) }
 {

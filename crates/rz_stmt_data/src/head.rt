@@ -91,7 +91,7 @@ pub fn read_head_for(
     }
 }
 
-/// The name and the attributes that the pieces behind an id are.
+/// The name and the attributes that the pieces after an id are.
 fn read_rest(
     alloc: Global,
     subject: Subject,
@@ -111,7 +111,7 @@ fn read_rest(
     }
 }
 
-/// The name that a piece is, and the attributes behind it.
+/// The name that a piece is, and the attributes after it.
 fn read_named(
     alloc: Global,
     subject: Subject,

@@ -34,7 +34,7 @@ pub fn one_data()
 }
 
 /// A law, with nothing to run: of all tokens it is decided which file they name, which parts of a text they are, one
-/// behind the other, and which text in each place: there is one that they are, or none.
+/// after the other, and which text in each place: there is one that they are, or none.
 pub fn texts_are_decided()
     ensures file { (tokens : List Token) → (answer : Option (List ℕ)) × Decided (IsFile tokens) answer }
     ensures parts { (tokens : List Token) → (answer : Option (List PlainPart)) × Decided (AreParts tokens) answer }

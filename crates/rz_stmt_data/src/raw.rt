@@ -48,7 +48,7 @@ pub fn read_raw(alloc: Global, tokens: &[Token]) -> Result<Option<RawStmt>, NoMe
     }
 }
 
-/// The texts that stand in braces, maybe with a `;` behind them.
+/// The texts that stand in braces, maybe with a `;` after them.
 fn read_inside(alloc: Global, tokens: &[Token]) -> Result<Option<Texts>, NoMemory>
     ensures { IfOk result (λ texts. Decided (IsInside tokens.now) (option_map plain_parts texts)) }
 {
@@ -56,7 +56,7 @@ fn read_inside(alloc: Global, tokens: &[Token]) -> Result<Option<Texts>, NoMemor
     read_texts(alloc, &pieces)
 }
 
-/// The texts that the first piece is, where no piece but an empty one stands behind it.
+/// The texts that the first piece is, where no piece but an empty one stands after it.
 fn read_texts(alloc: Global, pieces: &[&[Token]]) -> Result<Option<Texts>, NoMemory>
     ensures { IfOk result (λ texts. Decided (AreTexts (map (λ piece. piece.now) pieces.now)) (option_map plain_parts texts)) }
 {

@@ -31,7 +31,7 @@ pub enum TextCall {
     Format,
 }
 
-/// A part at the front of tokens, and what stands behind it.
+/// A part at the front of tokens, and what stands after it.
 #[derive(Drop)]
 struct Front<'a> {
     part: TextPart,
@@ -78,7 +78,7 @@ fn starts_text(shape: &Shape) -> bool
     }
 }
 
-/// The parts that the tokens are, one behind the other.
+/// The parts that the tokens are, one after the other.
 #[cycle(texts)]
 fn read_parts(alloc: Global, tokens: &[Token]) -> Result<Option<Texts>, NoMemory>
     ensures { IfOk result (λ texts. Decided (AreParts tokens.now) (option_map plain_parts texts)) }

@@ -9,16 +9,16 @@ use rz_expr::{Keyword, is_keyword};
 use rz_lex::Token;
 use rz_stmt_brackets::kind_in;
 
-/// What stands behind a word and a type.
+/// What stands after a word and a type.
 #[derive(Drop)]
 pub struct Typed<'a> {
     /// The type.
     pub kind: OsType,
-    /// What stands behind it.
+    /// What stands after it.
     pub behind: &'a [Token],
 }
 
-/// The type behind this keyword, and what stands behind it. `None` exactly where the keyword and a type don't stand in
+/// The type after this keyword, and what stands after it. `None` exactly where the keyword and a type don't stand in
 /// front. (MPW Rez.)
 pub fn read_typed(tokens: &[Token], keyword: Keyword) -> Option<Typed<'_>>
     ensures { Decided (IsTyped keyword tokens.now) (option_map typed_of result) }

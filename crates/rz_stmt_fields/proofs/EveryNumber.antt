@@ -24,7 +24,7 @@ use Rattle.rz_types_fields.specs.Range.{own_width}
 use Rattle.rz_types_fields.specs.declared.field.NumForm.{NumForm}
 
 module _ (one : OneExpression) (expression : EveryExpression) (cut : OneCut) (some : SomePieces) (within : OneWithin) (bracket : EveryWithin) (form : NumForm) where
-  -- What stands behind the type.
+  -- What stands after the type.
 
   abbrev HasTail : List Token → Type 0
   HasTail tokens = (tail : NumberTail) × IsTail form tokens tail

@@ -9,7 +9,7 @@ use Rattle.rz_stmt_fields.specs.declared.field_word.Modifier.{Modifier}
 use Rattle.rz_stmt_fields.specs.declared.field_word.Modifier.TheVariants.{Shown, Unsigned}
 use Rattle.rz_types_fields.specs.declared.field.Radix.{Radix}
 
--- words that may stand behind some, and what is said by all of them
+-- words that may stand after some, and what is said by all of them
 data Adds : Bool → Option Radix → List Modifier → Bool → Option Radix → Type 0 where
   none : {signs : Bool} {radix : Option Radix} → Adds signs radix [] signs radix
   one_unsigned : {signs : Bool} {radix last : Option Radix} {more : List Modifier} → Adds true radix more signs last → Adds false radix (Unsigned ∷ more) signs last
@@ -36,7 +36,7 @@ to_adds modifiers signs last (shown radix) = one_shown radix none
 to_adds modifiers signs last (unsigned_shown radix) = one_unsigned (one_shown radix none)
 to_adds modifiers signs last (shown_unsigned radix) = one_shown radix (one_unsigned none)
 
--- the front behind some words
+-- the front after some words
 record Onward (signs : Bool) (radix : Option Radix) (tokens : List Token) (front : FieldFront) : Type 0 where
   words : List Token
   modifiers : List Modifier

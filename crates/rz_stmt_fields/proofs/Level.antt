@@ -1,4 +1,4 @@
--- Tokens behind which as many brackets are open as before them: expressions, and what stands in brackets.
+-- Tokens after which as many brackets are open as before them: expressions, and what stands in brackets.
 use Rattle.std.proofs.Common.{◌≡◌, ℕ, ◌+◌, ◌-◌, ◌&&◌, Bool, true, false, if◌then◌else◌, List, [], ◌∷◌, ◌++◌, Some, None, refl, sym, ap, subst, ◌∙◌, append_assoc, arith}
 use Rattle.std.specs.List.{AllByRecursion}
 use Rattle.rz_core.proofs.Tests.{both}
@@ -158,7 +158,7 @@ separator_plain = plain_by (λ s. separates (after_of s) ≡ true) ((λ h. cc), 
 named_plain : (function : Function) (shape : Shape) (word : Word) → named_by function shape ≡ Some word → IsPlain shape
 named_plain function shape word = plain_by (λ s. named_by function s ≡ Some word) ((λ h. cc), (λ h. cc), (λ h. cc), (λ h. cc), (λ h. cc), (λ h. cc)) shape
 
--- the brackets of a function up to what ends its name, or goes on behind it
+-- the brackets of a function up to what ends its name, or goes on after it
 record IsArgument (function : Function) (a b c : Token) : Type 0 where
   opens : Opens a.shape
   name : IsPlain b.shape

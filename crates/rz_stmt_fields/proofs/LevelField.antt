@@ -1,4 +1,4 @@
--- Behind the tokens of a field with no fields of its own as many brackets are open as before them.
+-- After the tokens of a field with no fields of its own as many brackets are open as before them.
 use Rattle.std.proofs.Common.{◌≡◌, ℕ, ℤ, Bool, true, false, List, [], ◌∷◌, length, Option, Some, None, refl, sym, subst}
 use Rattle.std.specs.List.{AllByRecursion}
 use Rattle.std.proofs.lemmas.List.{nil_from_length}

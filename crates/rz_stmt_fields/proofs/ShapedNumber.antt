@@ -59,7 +59,7 @@ each_name form [] symbols is are = subst AreNamesShaped (sym is) tt
 each_name form (piece ∷ pieces) symbols is are =
     subst AreNamesShaped (sym is.4) (symbol_name form piece is.0 is.2 are.0, each_name form pieces is.1 is.3 are.1)
 
--- What stands behind the type.
+-- What stands after the type.
 
 abbrev pub IsFixedShaped : List NamedTerm → Option Term → Type 0
 IsFixedShaped symbols None = Unit {0}

@@ -44,7 +44,7 @@ IsPointsField rect front field = (points : PlainPoints) × (is_bare front ≡ tr
 
 -- Filling.
 
--- a constant in square brackets, behind which nothing stands
+-- a constant in square brackets, after which nothing stands
 abbrev pub IsCount : List Token → Term → Type 0
 IsCount tokens count = (parted : Parted) × IsBracketed Square tokens parted × (length parted.behind ≡ 0) × IsConstant parted.front count
 

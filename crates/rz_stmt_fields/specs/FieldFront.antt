@@ -20,7 +20,7 @@ pub data Say : List Modifier → Bool → Option Radix → Type 0 where
   unsigned_shown : (radix : Radix) → Say (Unsigned ∷ Shown radix ∷ []) true (Some radix)
   shown_unsigned : (radix : Radix) → Say (Shown radix ∷ Unsigned ∷ []) true (Some radix)
 
--- the tokens are such words, the word that says what the field is, and what stands behind it
+-- the tokens are such words, the word that says what the field is, and what stands after it
 pub record IsFront (tokens : List Token) (front : FieldFront) : Type 0 where
   pub words : List Token
   pub modifiers : List Modifier

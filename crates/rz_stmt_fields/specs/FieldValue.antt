@@ -11,7 +11,7 @@ use Rattle.rz_types_fields.specs.Value.{is_fixed_expression, is_size_expression}
 use Rattle.rz_types_fields.specs.declared.field.NumForm.{NumForm}
 use Rattle.rz_types_fields.specs.declared.field.NumForm.TheVariants.{Char}
 
--- an expression that may stand for a size: it may name labels, by themselves, in a row and with the bits behind them, and arrays by
+-- an expression that may stand for a size: it may name labels, by themselves, in a row and with the bits after them, and arrays by
 -- the row around, but not by the number of their rows
 abbrev pub IsSizeExpression : List Token → Term → Type 0
 IsSizeExpression tokens term = IsExpression tokens term × (is_size_expression term ≡ true)
@@ -24,7 +24,7 @@ abbrev pub byte_in : Shape → Option ℕ
 byte_in (shapes.Text (byte ∷ [])) = Some byte
 byte_in shape = None
 
--- behind `char` a text alone may be a byte
+-- after `char` a text alone may be a byte
 abbrev pub one_byte : NumForm → List Token → Option ℕ
 one_byte Char (token ∷ []) = byte_in token.shape
 one_byte form tokens = None

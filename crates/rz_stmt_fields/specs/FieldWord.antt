@@ -54,7 +54,7 @@ modifier_word keyword = None
 abbrev pub modifier_in : Shape → Option Modifier
 modifier_in shape = option_and_then modifier_word (keyword_in shape)
 
--- what stands before the word that says what a field is, that word, and what stands behind it
+-- what stands before the word that says what a field is, that word, and what stands after it
 pub record FieldFront : Type 0 where
   pub unsigned : Bool
   pub radix : Option Radix

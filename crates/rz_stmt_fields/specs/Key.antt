@@ -32,6 +32,6 @@ IsKeyOf word front field = ⊥
 abbrev pub IsKeyFront : FieldFront → FieldForm → Type 0
 IsKeyFront front field = IsKeyOf front.word front field
 
--- what stands behind `key`
+-- what stands after `key`
 abbrev pub IsKey : List Token → FieldForm → Type 0
 IsKey tokens field = (front : FieldFront) × IsFront tokens front × IsKeyFront front field

@@ -18,7 +18,7 @@ use Rattle.rz_types_fields.specs.declared.field.NumForm.{NumForm}
 use Rattle.rz_types_fields.specs.declared.field.Radix.{Radix}
 use Rattle.rz_types_fields.specs.declared.field.Radix.TheVariants.{Plain}
 
--- What stands behind the type: symbols, or the fixed value.
+-- What stands after the type: symbols, or the fixed value.
 
 pub record NumberTail : Type 0 where
   pub symbols : List NamedTerm
@@ -27,7 +27,7 @@ pub record NumberTail : Type 0 where
 abbrev pub tail_of : Tail → NumberTail
 tail_of tail = record { symbols = map named_of tail.symbols; fixed = option_map boxed_term tail.fixed }
 
--- behind `=` a fixed value
+-- after `=` a fixed value
 abbrev pub IsFixed : NumForm → List Token → NumberTail → Type 0
 IsFixed form tokens tail = (term : Term) × IsFixedValue form tokens term × (tail ≡ record { symbols = []; fixed = Some term })
 

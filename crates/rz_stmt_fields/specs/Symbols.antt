@@ -15,7 +15,7 @@ abbrev pub name_in : Shape → Option Word
 name_in (shapes.Word word) = if is_name (role_of word.bytes) then Some word else None
 name_in shape = None
 
--- behind the name stands nothing, or `=` and a value
+-- after the name stands nothing, or `=` and a value
 abbrev pub IsGiven : NumForm → List Token → Option Term → Type 0
 IsGiven form [] value = value ≡ None
 IsGiven form (token ∷ tokens) value = (is_equals token.shape ≡ true) × (term : Term) × IsSymbolValue form tokens term × (value ≡ Some term)

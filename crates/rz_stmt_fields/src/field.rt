@@ -91,7 +91,7 @@ fn is_bare(front: &Front) -> bool
     !front.unsigned && front.radix.is_none()
 }
 
-/// The point or rectangle that the tokens behind its type are.
+/// The point or rectangle that the tokens after its type are.
 fn read_points(alloc: Global, rect: bool, tokens: &[Token]) -> Result<Option<PointField>, NoMemory>
     ensures { IfOk result (λ points. Decided (IsPoints rect tokens.now) (option_map plain_points points)) }
 {
@@ -133,7 +133,7 @@ fn count_of(rect: bool) -> usize
     if rect { 4 } else { 2 }
 }
 
-/// The `fill` that the tokens behind the word are: a unit, and a count where it isn't 1.
+/// The `fill` that the tokens after the word are: a unit, and a count where it isn't 1.
 fn read_fill(alloc: Global, tokens: &[Token]) -> Result<Option<FieldExpr>, NoMemory>
     ensures { IfOk result (λ field. Decided (IsFill tokens.now) (option_map field_form field)) }
 {
@@ -152,7 +152,7 @@ fn read_fill(alloc: Global, tokens: &[Token]) -> Result<Option<FieldExpr>, NoMem
     }
 }
 
-/// The constant that stands in square brackets, where nothing stands behind them.
+/// The constant that stands in square brackets, where nothing stands after them.
 fn read_count(alloc: Global, tokens: &[Token]) -> Result<Option<Expr>, NoMemory>
     ensures { IfOk result (λ count. Decided (IsCount tokens.now) (option_map term_of count)) }
 {
@@ -166,7 +166,7 @@ fn read_count(alloc: Global, tokens: &[Token]) -> Result<Option<Expr>, NoMemory>
     }
 }
 
-/// The unit that the tokens behind `align` are.
+/// The unit that the tokens after `align` are.
 fn align_of(tokens: &[Token]) -> Option<u8>
     ensures { result ≡ align_of tokens.now }
 {

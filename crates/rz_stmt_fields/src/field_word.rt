@@ -32,7 +32,7 @@ pub enum Modifier {
     Shown(Radix),
 }
 
-/// A field up to the word that says what it is, and what stands behind it.
+/// A field up to the word that says what it is, and what stands after it.
 #[derive(Drop)]
 pub struct Front<'a> {
     pub unsigned: bool,

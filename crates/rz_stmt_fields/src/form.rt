@@ -35,7 +35,7 @@ pub enum MadeExpr {
     Copy(OsType, Option<Expr>),
 }
 
-/// A field as it is written. What few fields have stands behind a `Box`, so that millions of plain ones take little
+/// A field as it is written. What few fields have stands after a `Box`, so that millions of plain ones take little
 /// memory. (MPW Rez.)
 #[derive(Drop)]
 #[cycle(form)]

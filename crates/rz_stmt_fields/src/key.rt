@@ -17,7 +17,7 @@ use rz_stmt_brackets::pieces_are_cut;
 use rz_types_fields::NumForm;
 use std::alloc::Global;
 
-/// The key that the tokens behind `key` are: a number of a type that a key may have, with a constant as its fixed
+/// The key that the tokens after `key` are: a number of a type that a key may have, with a constant as its fixed
 /// value. `None` exactly where they are none. (MPW Rez.)
 pub fn read_key(alloc: Global, tokens: &[Token]) -> Result<Option<FieldExpr>, NoMemory>
     ensures { IfOk result (λ field. Decided (IsKey tokens.now) (option_map field_form field)) }

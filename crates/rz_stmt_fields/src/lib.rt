@@ -2,7 +2,7 @@
 //! words that a field begins with, `read_front` exactly the field that such a front begins, of those that are no
 //! texts and have no fields of their own, and `read_key` the key of a case; or none. `form` has the whole statement
 //! too, whose texts, arrays and switches `rz_stmt_type` reads.
-//! A field begins with the words of `field_word`; behind them stand values (`value`), or of a number its width, its
+//! A field begins with the words of `field_word`; after them stand values (`value`), or of a number its width, its
 //! symbols and its fixed value (`number_field`, `symbols`).
 //! It rests on `rz_core`, `rz_lex`, `rz_words`, `rz_expr`, `rz_types_fields` and `rz_stmt_brackets`.
 //! A new kind of field changes `form` and `field_word` here, and `field`, where it has no fields of its own, each with

@@ -17,7 +17,7 @@ use rz_stmt_brackets::{Bracket, Divider, bracketed, pieces_by};
 use rz_types_fields::{NumForm, Radix, own_width};
 use std::alloc::Global;
 
-/// What stands behind the type of a number: symbols, or the fixed value.
+/// What stands after the type of a number: symbols, or the fixed value.
 #[derive(Drop)]
 struct Tail {
     symbols: Names,
@@ -95,7 +95,7 @@ fn shown(radix: Option<Radix>) -> Radix
     }
 }
 
-/// What the tokens behind the type of a number are.
+/// What the tokens after the type of a number are.
 fn read_tail(alloc: Global, form: NumForm, tokens: &[Token]) -> Result<Option<Tail>, NoMemory>
     ensures { IfOk result (λ tail. Decided (IsTail form tokens.now) (option_map tail_of tail)) }
 {

@@ -63,7 +63,7 @@ pub fn name_in(token: &Token) -> Option<&Word>
     }
 }
 
-/// What stands behind the name of a symbol: nothing, or `=` and its value.
+/// What stands after the name of a symbol: nothing, or `=` and its value.
 fn read_given(
     alloc: Global,
     form: NumForm,

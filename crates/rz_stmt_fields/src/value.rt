@@ -47,7 +47,7 @@ fn read_fixed_expression(alloc: Global, tokens: &[Token]) -> Result<Option<Expr>
     }
 }
 
-/// The fixed value of a number field that the tokens are: an expression, or behind `char` a text of one byte.
+/// The fixed value of a number field that the tokens are: an expression, or after `char` a text of one byte.
 pub fn read_fixed_value(
     alloc: Global,
     form: NumForm,
@@ -61,7 +61,7 @@ pub fn read_fixed_value(
     }
 }
 
-/// The value of a symbol that the tokens are: a constant, or behind `char` a text of one byte.
+/// The value of a symbol that the tokens are: a constant, or after `char` a text of one byte.
 pub fn read_symbol_value(
     alloc: Global,
     form: NumForm,
@@ -75,7 +75,7 @@ pub fn read_symbol_value(
     }
 }
 
-/// The byte that a text alone is, behind `char`.
+/// The byte that a text alone is, after `char`.
 fn one_byte(form: NumForm, tokens: &[Token]) -> Option<u8>
     ensures { result ≡ one_byte form tokens.now }
 {

@@ -24,7 +24,7 @@ stripped_more (token ∷ piece) (last rest none) = refl
 stripped_more [] (more whole parted pieces is are) = refl
 stripped_more (token ∷ piece) (more whole parted pieces is are) = refl
 
--- The tokens before a separator are an item, and those behind it items.
+-- The tokens before a separator are an item, and those after it items.
 module _ (tokens : List Token) (parted : Parted) (is : IsParted Separator tokens parted) where
   pub parted_short : length parted.front + length parted.behind + 1 ≤ length tokens
   parted_short = omega (arith, ap (λ (ts : List Token). length ts) is.are, length-append parted.front (is.sign ∷ parted.behind))

@@ -41,7 +41,7 @@ module _ {F V : Type 0} (one : ℕ → F → PlainItem → Result V Fault) (IsOf
         (complete (before + 1) field item value fit.0)
         ∙ ap (λ (r : Result (List V) Fault). r >>= λ values. Ok (value ∷ values)) (of_fit (before + 1) fields items values fit.1)
 
-    -- what breaks behind what fits is the fault
+    -- what breaks after what fits is the fault
     module _ (blames : (position : ℕ) (field : F) (item : PlainItem) (fault : Fault) → IsFaultOf position field item fault → one position field item ≡ Err fault) where
       of_break : (before : ℕ) (others : List F) (rest : List PlainItem) (fault : Fault)
           → BreaksAt IsFaultOf place all (before + 1) others rest fault → matched_all one place all before others rest ≡ Err fault

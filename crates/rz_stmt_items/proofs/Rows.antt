@@ -58,7 +58,7 @@ module _ (known : Facts) where
   next_row true field others one so items row (item, rest, value, more, are, has, is, fits) = (more, (value, one item value is, has), so rest more fits)
   next_row false field others one so items row fits = (row, refl, so items row fits)
 
-  -- rows one behind the other
+  -- rows one after the other
   rows_are : (body : PlainBody) → ((items : List PlainItem) (row : List Tree) → Fits known body items row → IsRow body row)
       → (items : List PlainItem) (rows : List (List Tree)) → RowsFit (Fits known body) items rows → AllByRecursion (IsRow body) rows
   rows_are body so items [] fit = tt

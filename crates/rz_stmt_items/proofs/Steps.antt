@@ -1,4 +1,4 @@
--- A walk over fields and items: what is computed of the rest, behind the values so far.
+-- A walk over fields and items: what is computed of the rest, after the values so far.
 use Rattle.std.proofs.Common.{◌≡◌, ℕ, suc, ◌+◌, ◌-◌, ◌<◌, ◌≤◌, List, [], ◌∷◌, ◌++◌, length, map, drop, get_or, refl, sym, ap, ◌∙◌, append_assoc, arith}
 use Rattle.std.proofs.lemmas.List.{at_drop_more, drop_all, append-nil}
 use Rattle.std.specs.Prelude.{replicate, Ok, Err}
@@ -37,7 +37,7 @@ pub replicate_end : {A : Type 0} (count i : ℕ) (x : A) → count ≤ i → rep
 replicate_end count i x past = let none : count - i ≡ 0 = omega arith in ap (λ n. replicate n x) none
 
 module _ {F V : Type 0} (one : ℕ → F → PlainItem → Result V Fault) (place : Mark) (all : List PlainItem) where
-  -- so far no fault: the whole is what the rest gives behind these values
+  -- so far no fault: the whole is what the rest gives after these values
   abbrev pub Walked : Result (List V) Fault → List V → ℕ → List F → List PlainItem → Type 0
   Walked whole values before fields items = whole ≡ behind values (matched_all one place all before fields items)
 

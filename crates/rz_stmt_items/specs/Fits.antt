@@ -79,7 +79,7 @@ WithList (Number term mark) IsSo = ⊥
 WithList (Text parts mark) IsSo = ⊥
 WithList (Named name items mark) IsSo = ⊥
 
--- the name and the items in braces behind it
+-- the name and the items in braces after it
 abbrev pub WithNamed : PlainItem → (List ℕ → List PlainItem → Type 0) → Type 0
 WithNamed (Named name items mark) IsSo = IsSo name (list_of items)
 WithNamed (Number term mark) IsSo = ⊥
@@ -92,7 +92,7 @@ NextFits true IsOne Others items row =
     (item : PlainItem) × (rest : List PlainItem) × (value : Tree) × (values : List Tree) × (items ≡ item ∷ rest) × (row ≡ value ∷ values) × IsOne item value × Others rest values
 NextFits false IsOne Others items row = Others items row
 
--- the items are those of rows, one row behind the other, each of one item at least
+-- the items are those of rows, one row after the other, each of one item at least
 abbrev pub RowsFit : (List PlainItem → List Tree → Type 0) → List PlainItem → List (List Tree) → Type 0
 RowsFit IsRow items [] = items ≡ []
 RowsFit IsRow items (row ∷ rows) =

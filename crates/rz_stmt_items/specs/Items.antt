@@ -21,7 +21,7 @@ name_in shape = None
 abbrev pub name_before : Shape → List Token → Option (List ℕ)
 name_before shape behind = if begins Curly behind then name_in shape else None
 
--- pieces without the last of them, where that is empty: a separator may stand behind the last item
+-- pieces without the last of them, where that is empty: a separator may stand after the last item
 abbrev pub stripped : List (List Token) → List (List Token)
 stripped [] = []
 stripped ([] ∷ []) = []
@@ -52,6 +52,6 @@ mutual
     one_more : (piece : List Token) (pieces : List (List Token)) (one : PlainItem) (items : List PlainItem)
         → IsItem piece one → AreEach pieces items → AreEach (piece ∷ pieces) (one ∷ items)
 
--- the tokens are items in braces, and nothing behind them
+-- the tokens are items in braces, and nothing after them
 abbrev pub AreBraced : List Token → List PlainItem → Type 0
 AreBraced tokens items = (parted : Parted) × IsBracketed Curly tokens parted × (parted.behind ≡ []) × AreItems parted.front items

@@ -73,7 +73,7 @@ group_for known position rect item = Err (wrong_kind position (mark_of item))
 
 -- Rows.
 
--- a row, how many items of the list are behind it then, and the items that are left
+-- a row, how many items of the list are after it then, and the items that are left
 pub record Line : Type 0 where
   pub row : List Tree
   pub before : ℕ

@@ -60,7 +60,7 @@ other_count place stated given = record { number = 217; mark = Some place; kept 
 
 -- Lists of one kind.
 
--- what is wrong behind the fields and items that fit: the next item has this fault, or there is none for the next field, or
+-- what is wrong after the fields and items that fit: the next item has this fault, or there is none for the next field, or
 -- there is no field for it
 abbrev pub BreaksAt : {F : Type 0} → (ℕ → F → PlainItem → Fault → Type 0) → Mark → List PlainItem → ℕ → List F → List PlainItem → Fault → Type 0
 BreaksAt IsFaultOf place items position [] [] fault = ⊥
@@ -125,7 +125,7 @@ IsGroupFault known position rect item fault = fault ≡ wrong_kind position (mar
 
 -- Rows.
 
--- the next item has this fault, or it fits and those behind it have the fault; or there is none for the field
+-- the next item has this fault, or it fits and those after it have the fault; or there is none for the field
 abbrev pub NextUnfit : Bool → (PlainItem → Tree → Type 0) → (ℕ → PlainItem → Fault → Type 0) → (ℕ → List PlainItem → Fault → Type 0) → Mark → List PlainItem
     → ℕ → List PlainItem → Fault → Type 0
 NextUnfit true IsOne IsFaultOf Others place all before [] fault = fault ≡ too_few place all
@@ -138,14 +138,14 @@ abbrev pub IsOtherCount : Mark → Option ℤ → ℕ → Fault → Type 0
 IsOtherCount place None given fault = ⊥
 IsOtherCount place (Some stated) given fault = (stated ≢ pos given) × (fault ≡ other_count place stated given)
 
--- some rows fit, and the items behind them are none; or they all fit, and are others than stated
+-- some rows fit, and the items after them are none; or they all fit, and are others than stated
 abbrev pub RowsUnfit : (List PlainItem → List Tree → Type 0) → (ℕ → List PlainItem → Fault → Type 0) → Mark → Option ℤ → List PlainItem → Fault → Type 0
 RowsUnfit IsRow RowUnfit place count items fault =
     ((front : List PlainItem) × (item : PlainItem) × (rest : List PlainItem) × (rows : List (List Tree)) × (items ≡ front ++ item ∷ rest) × RowsFit IsRow front rows
     × RowUnfit (length front) (item ∷ rest) fault)
     ⊎ ((rows : List (List Tree)) × RowsFit IsRow items rows × IsOtherCount place count (length rows) fault)
 
--- the items of a list are no row, or they are one and an item stands behind them
+-- the items of a list are no row, or they are one and an item stands after them
 abbrev pub WholeUnfit : (List PlainItem → List Tree → Type 0) → (ℕ → List PlainItem → Fault → Type 0) → List PlainItem → Fault → Type 0
 WholeUnfit IsRow RowUnfit items fault =
     RowUnfit 0 items fault

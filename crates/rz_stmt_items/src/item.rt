@@ -13,7 +13,7 @@ pub enum Item {
     Text(Texts, Mark),
     /// Items in braces.
     List(Items, Mark),
-    /// A name, and items in braces behind it.
+    /// A name, and items in braces after it.
     Named(Word, Items, Mark),
 }
 

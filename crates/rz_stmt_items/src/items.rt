@@ -82,7 +82,7 @@ fn listed(items: Option<Items>, mark: Mark) -> Option<Item>
     }
 }
 
-/// A name with items in braces behind it, as an item.
+/// A name with items in braces after it, as an item.
 fn named(name: Word, items: Option<Items>, mark: Mark) -> Option<Item>
     ensures { option_map plain_item result ≡ option_map (λ items. Named name.bytes (items_of items) mark) (option_map plain_items items) }
 {

@@ -27,7 +27,7 @@ use std::alloc::Global;
 
 /// The row of the items of a statement at this place under a template, where of the resource so much is known: one
 /// value for each field that has none of its own, given by the next item. Each number is from 0 to below 2 to the
-/// power of the width of its field in bits; the items of an array are cut into rows, one behind the other. The first
+/// power of the width of its field in bits; the items of an array are cut into rows, one after the other. The first
 /// fault from left to right is the answer, and the end of a list comes after its items: 206, an item of another kind
 /// (kept: its position in its list, from 1), at the item; 208, a missing item (kept: how many items the list has), at
 /// the place of the statement, or at the item in whose braces it is missing; 209, an item too many (kept: the same), at
@@ -92,7 +92,7 @@ fn match_all(
     }
 }
 
-/// The row of the items of a list, behind so many of them.
+/// The row of the items of a list, after so many of them.
 #[cycle(matching)]
 fn match_row(
     alloc: Global,

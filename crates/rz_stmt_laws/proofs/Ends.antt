@@ -44,7 +44,7 @@ empty_ends [] is = absurd (true_false (sym is))
 empty_ends (token ∷ []) is = rw is refl
 empty_ends (token ∷ next ∷ rest) is = absurd (true_false (sym is))
 
--- some tokens, behind which no bracket is open
+-- some tokens, after which no bracket is open
 front_ends : (front rest : List Token) (count : ℕ) → has_end (open_behind_all front count) rest ≡ true → has_end count (front ++ rest) ≡ true
 front_ends [] rest count ends = ends
 front_ends (token ∷ front) rest count ends = or_right (is_end token.shape count) _ (front_ends front rest (open_behind token.shape count) ends)
@@ -69,7 +69,7 @@ kind_flat (shapes.Sign sign) code is = absurd (none_some code is)
 
 -- Brackets.
 
--- where one bracket more is open in front, at most one more is open behind
+-- where one bracket more is open in front, at most one more is open after
 one_more : (shape : Shape) (n m : ℕ) → n ≤ 1 + m → open_behind shape n ≤ 1 + open_behind shape m
 one_more (shapes.Sign signs.OpenParen) n m few = omega (arith, few)
 one_more (shapes.Sign signs.OpenBracket) n m few = omega (arith, few)
@@ -99,7 +99,7 @@ closed_one Round _ count is few = absurd (true_false (sym is))
 closed_one Square _ count is few = absurd (true_false (sym is))
 closed_one Curly _ count is few = absurd (true_false (sym is))
 
--- what stands in brackets, and a `;` behind them
+-- what stands in brackets, and a `;` after them
 bracketed_ends : (bracket : Bracket) (tokens : List Token) (parted : Parted) → IsBracketed bracket tokens parted → Ends parted.behind → Ends tokens
 bracketed_ends bracket tokens parted is ends =
     let sign = is.closes.sign in
@@ -199,7 +199,7 @@ parsed_ends tokens parsed (beyond out so) = absurd (cc so)
 parsed_ends tokens parsed (statement within is) = statement_ends tokens (Ok parsed) is
 parsed_ends tokens parsed (none within never so) = absurd (cc so)
 
--- One behind the other.
+-- One after the other.
 
 pub go_on : (front back : List Token) (statements others : List (List Token)) → AreStatements front statements → AreStatements back others
     → AllByRecursion (λ tokens. has_end 0 tokens ≡ true) statements → AreStatements (front ++ back) (statements ++ others)

@@ -8,7 +8,7 @@ use Rattle.rz_stmt_data.specs.Files.{behind_texts, file_in, IsFile}
 use Rattle.rz_stmt_lists.proofs.Parts.{part_no_text}
 use Rattle.rz_stmt_lists.specs.Include.{Include, IsInclude, IsPart}
 
--- what stands behind the word
+-- what stands after the word
 pub record IsIncludeBehind (behind : List Token) (include : Include) : Type 0 where
   pub file : List Token
   pub rest : List Token
@@ -28,7 +28,7 @@ include_after tokens behind word are include is = record {
     tails : is.word ∷ is.behind ≡ word ∷ behind → is.behind ≡ behind
     tails e = cc e
 
--- the file, and what stands behind it
+-- the file, and what stands after it
 pub included : (tokens behind : List Token) (word : Token) → tokens ≡ word ∷ behind → (include : Include) → IsInclude tokens include
     → (file_in behind ≡ Some include.file) × IsPart (behind_texts behind) include.part
 included tokens behind word are include is =

@@ -9,7 +9,7 @@ use Rattle.rz_stmt_lists.specs.Brackets.{IsMaybe}
 use Rattle.rz_stmt_lists.specs.Clause.{Clause, IsClause}
 
 module _ (keyword : Keyword) (tokens : List Token) where
-  -- the brackets stand behind the type
+  -- the brackets stand after the type
   pub maybe_behind : (clause : Clause) → IsClause keyword tokens clause → (typed : Typed) → IsTyped keyword tokens typed → IsMaybe typed.behind clause.inside clause.rest
   maybe_behind clause is typed also =
       subst (λ (t : Typed). IsMaybe t.behind clause.inside clause.rest) (one_typed keyword tokens _ typed is.typed also) is.in_brackets

@@ -34,7 +34,7 @@ use Rattle.rz_stmt_lists.specs.Read.{IsNamed, IsRead, Read}
 use Rattle.rz_stmt_lists.specs.Renaming.{IsHeadIn, IsRenaming, Renaming}
 use Rattle.rz_stmt_lists.specs.Steps.{IsGoneOn, IsMaybePair, IsOfType, IsOthers}
 
--- a file, and the end behind it
+-- a file, and the end after it
 abbrev HasName : List Token → Type 0
 HasName tokens = (name : List ℕ) × IsNamed tokens name
 
@@ -45,7 +45,7 @@ is_named tokens = by (is_true (is_empty (behind_texts tokens)))
     by (yes ends) = known_of (IsNamed tokens) (file_in tokens, named_decided tokens ends (file_in tokens) refl)
     by (no never) = no (λ h. never (named_so tokens h.0 h.1).1)
 
--- what stands behind `not`
+-- what stands after `not`
 is_others : (tokens : List Token) → Dec ((part : Part) × IsOthers tokens part)
 is_others [] = no (λ h. none h.1.0 h.1.1 h.1.3)
   where

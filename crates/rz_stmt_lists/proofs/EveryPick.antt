@@ -69,7 +69,7 @@ module _ (within : EveryBracket) where
       let same = one_maybe tokens a.0 b.0 a.1 b.1 is also in
       λ i. (same.0 i, same.1 i)
 
-  -- with more that is decided of what stands in them, and behind them
+  -- with more that is decided of what stands in them, and after them
   pub maybe_with : (Q : MaybePair → Type 0) → ((pair : MaybePair) → Dec (Q pair)) → (tokens : List Token) → Dec ((pair : MaybePair) × IsMaybePair tokens pair × Q pair)
   maybe_with Q each tokens = known_with (IsMaybePair tokens) Q (one_pair tokens) (has_maybe tokens) (λ pair is. each pair)
 
@@ -86,7 +86,7 @@ module _ (within : EveryBracket) where
       from : (clause : Clause) × IsClause keyword tokens clause → (typed : Typed) × IsTyped keyword tokens typed × ((pair : MaybePair) × IsMaybePair typed.behind pair)
       from (clause, h) = (record { kind = clause.kind; behind = h.behind }, h.typed, ((clause.inside, clause.rest), h.in_brackets))
 
-  -- with more that is decided of what stands in their brackets, and behind them
+  -- with more that is decided of what stands in their brackets, and after them
   pub clause_with : (keyword : Keyword) (Q : Clause → Type 0) → ((clause : Clause) → Dec (Q clause)) → (tokens : List Token)
       → Dec ((clause : Clause) × IsClause keyword tokens clause × Q clause)
   clause_with keyword Q each tokens = known_with (IsClause keyword tokens) Q (one_clause keyword tokens) (has_clause keyword tokens) (λ clause is. each clause)

@@ -32,7 +32,7 @@ use Rattle.rz_stmt_lists.specs.Read.{IsNamed, IsRead, Read}
 use Rattle.rz_stmt_lists.specs.Renaming.{IsHeadIn, IsRenaming, Renaming}
 use Rattle.rz_stmt_lists.specs.Steps.{IsGoneOn, IsOfType, IsOthers}
 
--- the brackets of a `read` statement stand behind its type
+-- the brackets of a `read` statement stand after its type
 pub read_brackets : (tokens : List Token) (read : Read) (is : IsRead tokens read) (typed : Typed) → IsTyped keywords.Read tokens typed → IsBracketed Round typed.behind is.parted
 read_brackets tokens read is typed also = subst (λ (t : Typed). IsBracketed Round t.behind is.parted) (one_typed keywords.Read tokens _ typed is.typed also) is.in_brackets
 

@@ -1,4 +1,4 @@
--- What stands behind the file of an `include` statement, part by part, and in the words of the language.
+-- What stands after the file of an `include` statement, part by part, and in the words of the language.
 use Rattle.std.proofs.Common.{◌≡◌, ℕ, Bool, true, false, List, [], ◌∷◌, Option, Some, None, refl, sym, ap, subst, ◌∙◌}
 use Rattle.std.specs.Option.{is_some}
 use Rattle.rz_core.proofs.Tests.{none_some, same_some, true_false}
@@ -48,7 +48,7 @@ kind_no_text (shapes.Literal bytes) code has = refl
 kind_no_text (shapes.Text bytes) code has = absurd (none_some code has)
 kind_no_text (shapes.Sign sign) code has = refl
 
--- what stands behind a file begins with no text
+-- what stands after a file begins with no text
 pub part_no_text : (rest : List Token) (part : Part) → IsPart rest part → begins_with_text rest ≡ false
 part_no_text rest part (all ends so) = end_no_text rest ends
 part_no_text rest part (all_but word kind behind code are is has ends so) = ap (λ (ts : List Token). begins_with_text ts) are ∙ keyword_no_text keywords.Not word.shape is
@@ -149,7 +149,7 @@ module _ (tokens : List Token) where
       none_here none part (renamed kind behind other inside more pick renaming are also maybe picked becomes so) =
           none_some other (sym none ∙ ap (λ (t : Token). kind_in t.shape) (sym (same kind behind are).0) ∙ also)
 
--- What stands behind a type.
+-- What stands after a type.
 
 pub no_gone_on : (kind : ℕ) (pick : Pick) (tokens : List Token) → is_empty tokens ≡ false → ((renaming : Renaming) → IsRenaming keywords.As pick tokens renaming → ⊥)
     → (part : Part) → IsGoneOn (is_empty tokens) kind pick tokens part → ⊥

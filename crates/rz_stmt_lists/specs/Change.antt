@@ -1,4 +1,4 @@
--- A `change` statement: `change`, a type, maybe a pick in brackets, and behind `to` what the picked resources become. (MPW
+-- A `change` statement: `change`, a type, maybe a pick in brackets, and after `to` what the picked resources become. (MPW
 -- Rez.)
 use Rattle.std.specs.Prelude.{ℕ, List, Option, option_map}
 use Rattle.rz_words.specs.declared.keyword.Keyword.TheVariants as keywords

@@ -7,7 +7,7 @@ use Rattle.rz_stmt_data.specs.Typed.{IsTyped}
 use Rattle.rz_stmt_lists.specs.Brackets.{IsMaybe}
 use Rattle.rz_stmt_lists.specs.declared.clause.Clause as code
 
--- the type, what stands in the brackets, where some are there, and what stands behind
+-- the type, what stands in the brackets, where some are there, and what stands after
 pub record Clause : Type 0 where
   pub kind : ℕ
   pub inside : Option (List Token)

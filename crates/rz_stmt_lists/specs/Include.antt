@@ -34,7 +34,7 @@ part_of (parts.Renamed kind pick new_kind head) = Renamed kind.code (pick_of pic
 abbrev pub include_of : IncludeStmt → Include
 include_of stmt = record { file = stmt.file; part = part_of stmt.part }
 
--- what stands behind the file, with the `;` that ends the statement
+-- what stands after the file, with the `;` that ends the statement
 pub data IsPart (tokens : List Token) (part : Part) : Type 0 where
   -- nothing: all of them
   all : is_empty tokens ≡ true → part ≡ All → IsPart tokens part

@@ -29,12 +29,12 @@ IsOneId id pick = (term : Term) × IsSaidFor New id term × (pick ≡ Id term)
 abbrev pub AreTwoIds : List Token → List Token → Pick → Type 0
 AreTwoIds first last pick = (from to : Term) × IsSaidFor New first from × IsSaidFor New last to × (pick ≡ Range from to)
 
--- What stands behind `not`, and behind a type.
+-- What stands after `not`, and after a type.
 
 abbrev pub IsOthers : List Token → Part → Type 0
 IsOthers tokens part = (kind : Token) × (behind : List Token) × (code : ℕ) × (tokens ≡ kind ∷ behind) × (kind_in kind.shape ≡ Some code) × (is_empty behind ≡ true) × (part ≡ Not code)
 
--- behind a pick the statement ends, or goes on with what is picked
+-- after a pick the statement ends, or goes on with what is picked
 abbrev pub IsGoneOn : Bool → ℕ → Pick → List Token → Part → Type 0
 IsGoneOn true kind pick rest part = part ≡ Chosen kind pick
 IsGoneOn false kind pick rest part = (renaming : Renaming) × IsRenaming keywords.As pick rest renaming × (part ≡ Renamed kind pick renaming.kind renaming.head)

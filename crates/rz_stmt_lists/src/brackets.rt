@@ -7,12 +7,12 @@ ghost use Rattle.rz_stmt_lists.specs.Steps.{held_maybe, IsMaybePair};
 use rz_lex::Token;
 use rz_stmt_brackets::{Bracket, begins, bracketed};
 
-/// What stands in brackets at the front, where some are there, and what stands behind.
+/// What stands in brackets at the front, where some are there, and what stands after.
 #[derive(Drop)]
 pub struct Maybe<'a> {
     /// What stands in them.
     pub inside: Option<&'a [Token]>,
-    /// What stands behind them.
+    /// What stands after them.
     pub behind: &'a [Token],
 }
 

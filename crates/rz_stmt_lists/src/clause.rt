@@ -10,14 +10,14 @@ use rz_expr::Keyword;
 use rz_lex::Token;
 use rz_stmt_data::read_typed;
 
-/// A type behind a word, and brackets that may stand behind it.
+/// A type after a word, and brackets that may stand after it.
 #[derive(Drop)]
 pub struct Clause<'a> {
     /// The type.
     pub kind: OsType,
     /// What stands in the brackets, where some are there.
     pub inside: Option<&'a [Token]>,
-    /// What stands behind them.
+    /// What stands after them.
     pub behind: &'a [Token],
 }
 

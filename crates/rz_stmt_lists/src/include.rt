@@ -58,7 +58,7 @@ pub fn read_include(alloc: Global, tokens: &[Token]) -> Result<Option<IncludeStm
     }
 }
 
-/// What stands behind the file.
+/// What stands after the file.
 fn read_part(alloc: Global, tokens: &[Token]) -> Result<Option<IncludePart>, NoMemory>
     ensures { IfOk result (λ part. Decided (IsPart tokens.now) (option_map part_of part)) }
 {
@@ -77,7 +77,7 @@ fn read_part(alloc: Global, tokens: &[Token]) -> Result<Option<IncludePart>, NoM
     }
 }
 
-/// The type that stands behind `not`.
+/// The type that stands after `not`.
 fn others(tokens: &[Token]) -> Option<IncludePart>
     ensures { Decided (IsOthers tokens.now) (option_map part_of result) }
 {
@@ -90,7 +90,7 @@ fn others(tokens: &[Token]) -> Option<IncludePart>
     }
 }
 
-/// What stands behind the type.
+/// What stands after the type.
 fn read_of_type(
     alloc: Global,
     kind: OsType,
@@ -108,7 +108,7 @@ fn read_of_type(
     }
 }
 
-/// What stands behind the pick.
+/// What stands after the pick.
 fn read_gone_on(
     alloc: Global,
     kind: OsType,

@@ -53,7 +53,7 @@ pub fn read_read(alloc: Global, tokens: &[Token]) -> Result<Option<ReadStmt>, No
     }
 }
 
-/// The file that the tokens are, with the end of a statement behind it.
+/// The file that the tokens are, with the end of a statement after it.
 fn read_named(alloc: Global, tokens: &[Token]) -> Result<Option<Bytes>, NoMemory>
     ensures { IfOk result (λ file. Decided (IsNamed tokens.now) file) }
 {

@@ -47,7 +47,7 @@ use Rattle.rz_types_fields.specs.Field as made
 use Rattle.rz_types_fields.specs.Field.{PlainBody, PlainCases, PlainField}
 use Rattle.rz_types_fields.specs.Shape.{body_depth, cases_depth, field_depth}
 
--- Room: behind no front of the tokens are more brackets open than may be, where so many are open before.
+-- Room: after no front of the tokens are more brackets open than may be, where so many are open before.
 
 abbrev pub HasRoom : (most count : ℕ) → List Token → Type 0
 HasRoom most count [] = Unit {0}
@@ -71,11 +71,11 @@ room_behind : (most count : ℕ) (xs ys : List Token) → HasRoom most count (xs
 room_behind most count [] ys room = room
 room_behind most count (x ∷ xs) ys room = room_behind most (open_behind x.shape count) xs ys room.1
 
--- behind level tokens
+-- after level tokens
 room_after : (most count : ℕ) (xs ys : List Token) → IsLevel xs → HasRoom most count (xs ++ ys) → HasRoom most count ys
 room_after most count xs ys level room = subst (λ (n : ℕ). HasRoom most n ys) (level count) (room_behind most count xs ys room)
 
--- Some tokens behind others, with as many brackets open; and some in braces.
+-- Some tokens after others, with as many brackets open; and some in braces.
 
 record IsPassed (tokens behind : List Token) : Type 0 where
   front : List Token
@@ -114,7 +114,7 @@ bracket_room : (most count : ℕ) (bracket : Bracket) (tokens : List Token) (par
 bracket_room most count bracket tokens parted is room =
     room_front most (count + 1) parted.front (is.closes.sign ∷ parted.behind) (bracket_opened most count bracket tokens parted is room).1
 
--- behind brackets some are open
+-- after brackets some are open
 bracket_behind : (most count : ℕ) (bracket : Bracket) (tokens : List Token) (parted : Parted) → IsBracketed bracket tokens parted → HasRoom most count tokens
     → (n : ℕ) × HasRoom most n parted.behind
 bracket_behind most count bracket tokens parted is room = (
@@ -232,7 +232,7 @@ no_semicolon = ((λ h. cc), (λ h. cc), (λ h. cc), (λ h. cc), (λ h. cc), (λ 
 no_case_word : OfNone (λ shape. divides Case shape ≡ true)
 no_case_word = ((λ h. cc), (λ h. cc), (λ h. cc), (λ h. cc), (λ h. cc), (λ h. cc))
 
--- Behind fields as many brackets are open as before.
+-- After fields as many brackets are open as before.
 
 is_start : (tokens : List Token) (start : FieldStart) → start_of tokens ≡ start → IsPassedStart start tokens
 is_start tokens start is = subst (λ (s : FieldStart). IsPassedStart s tokens) is (start_passed tokens)

@@ -35,7 +35,7 @@ use Rattle.rz_stmt_fields.specs.Form.{BodyForm, CasesForm, FieldForm}
 use Rattle.rz_stmt_fields.specs.Key.{IsKey}
 use Rattle.rz_lex.specs.declared.token.Token.{Token}
 
--- What stands behind the first word of an array or a switch is shorter.
+-- What stands after the first word of an array or a switch is shorter.
 abbrev IsShort : FieldStart → List Token → Type 0
 IsShort (Array behind) tokens = suc (length behind) ≤ length tokens
 IsShort (Switch behind) tokens = suc (length behind) ≤ length tokens
@@ -61,7 +61,7 @@ start_short (token ∷ tokens) = by (keyword_in token.shape)
     by (Some keywords.Switch) = omega arith
     by (Some other) = tt
 
--- Behind two tokens.
+-- After two tokens.
 
 tails : (a b c d : Token) (xs ys : List Token) → a ∷ b ∷ xs ≡ c ∷ d ∷ ys → xs ≡ ys
 tails a b c d xs ys e = cc e

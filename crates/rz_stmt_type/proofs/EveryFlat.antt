@@ -41,7 +41,7 @@ of_pieces divider tokens P each =
     known_with (AreCut divider tokens) P (one_cut divider tokens) (yes (some_pieces divider (length tokens) tokens (omega arith))) each
 
 module _ (within : EveryWithin) where
-  -- what is decided of what stands in brackets, and behind them
+  -- what is decided of what stands in brackets, and after them
   pub of_brackets : (bracket : Bracket) (tokens : List Token) (P : Parted → Type 0)
       → ((parted : Parted) → IsBracketed bracket tokens parted → Dec (P parted)) → Dec ((parted : Parted) × IsBracketed bracket tokens parted × P parted)
   of_brackets bracket tokens P each =

@@ -20,7 +20,7 @@ FieldLeads in_case all rest so_far = Leads no_fields field_and (AreFields in_cas
 pub fields_first : (in_case : Bool) (all : List (List Token)) → FieldLeads in_case all all []
 fields_first in_case all = leads_first no_fields field_and (AreFields in_case) all
 
--- behind an empty piece, and behind a field
+-- after an empty piece, and after a field
 pub skip_split : (in_case : Bool) (pieces : List (List Token)) (body : BodyForm) → AreFields in_case ([] ∷ pieces) body → AreFields in_case pieces body
 skip_split in_case pieces body (empty same_case others all are) = are
 skip_split in_case pieces body (labelled same_case piece rest front others has are) = absurd (none_some front has)
@@ -32,7 +32,7 @@ field_split in_case token tokens pieces body none_here (labelled same_case piece
     absurd (none_some front (sym none_here ∙ has))
 field_split in_case token tokens pieces body none_here (more same_case first rest behind field others is are) = (field, others, is, are)
 
--- behind a label
+-- after a label
 pub label_split : (in_case : Bool) (piece : List Token) (pieces : List (List Token)) (front : LabelFront) (body : BodyForm)
     → label_front piece ≡ Some front → AreFields in_case (piece ∷ pieces) body
     → (others : BodyForm) × (body ≡ field_and (Label front.name) others) × AreFields in_case (front.behind ∷ pieces) others

@@ -39,7 +39,7 @@ module _ (fits : ℤ → Bool) (mark : Mark) where
         by None none = ap (λ (z : ℤ). Ok z) (sym (own.onward none))
         by (Some term) has = own.given term has
 
-    -- the first symbol, and what comes of those behind it
+    -- the first symbol, and what comes of those after it
     goes_on : values_of fits mark first (named ∷ names)
         ≡ (values_of fits mark (reduced (symbol.value +ℤ pos 1)) names >>= (λ others. Ok (record { name = named.name; value = symbol.value } ∷ others)))
     goes_on =

@@ -24,7 +24,7 @@ use Rattle.rz_types_fields.specs.Shape.{is_label_name}
 
 -- The first two tokens.
 
--- the tokens are this label, and what stands behind it
+-- the tokens are this label, and what stands after it
 pub record IsLabelled (tokens : List Token) (front : LabelFront) : Type 0 where
   pub first : Token
   pub second : Token

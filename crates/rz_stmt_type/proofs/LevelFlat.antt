@@ -1,4 +1,4 @@
--- Behind the tokens of a text, and of a field with no fields of its own, as many brackets are open as before them.
+-- After the tokens of a text, and of a field with no fields of its own, as many brackets are open as before them.
 use Rattle.std.proofs.Common.{◌≡◌, ℕ, Bool, true, false, List, [], ◌∷◌, map, Option, Some, None, ap}
 use Rattle.std.specs.List.{AllByRecursion}
 use Rattle.rz_stmt_brackets.specs.Bracket.{begins}

@@ -45,7 +45,7 @@ mutual
         → IsField in_case (token ∷ tokens) field → AreFields in_case pieces others
         → AreFields in_case ((token ∷ tokens) ∷ pieces) (form.field_and field others)
 
-  -- the tokens are cases: nothing stands before the first `case`, and behind each its name, `:` and its fields
+  -- the tokens are cases: nothing stands before the first `case`, and after each its name, `:` and its fields
   pub data AreCases : List Token → CasesForm → Type 0 where
     cut_cases : (tokens : List Token) (pieces : List (List Token)) (cases : CasesForm)
         → AreCut Case tokens ([] ∷ pieces) → AreEachCase pieces cases → AreCases tokens cases

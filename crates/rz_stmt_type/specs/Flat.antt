@@ -55,6 +55,6 @@ IsFlatBy None front field = IsFieldFront front field
 abbrev pub IsFlatFront : FieldFront → FieldForm → Type 0
 IsFlatFront front field = IsFlatBy (text_form front.word) front field
 
--- the tokens are such a field: what stands before the word that says what it is, that word, and what stands behind it
+-- the tokens are such a field: what stands before the word that says what it is, that word, and what stands after it
 abbrev pub IsFlat : List Token → FieldForm → Type 0
 IsFlat tokens field = (front : FieldFront) × IsFront tokens front × IsFlatFront front field

@@ -33,7 +33,7 @@ IsFaultOf fits mark next named fault =
     (given_or mark next named.value ≡ Err fault)
     ⊎ ((value : ℤ) × (given_or mark next named.value ≡ Ok value) × (fits value ≡ false) × (fault ≡ out_of_range mark value))
 
--- so many symbols have their values, and the one behind them has this fault
+-- so many symbols have their values, and the one after them has this fault
 pub record GoWrong (fits : ℤ → Bool) (mark : Mark) (first : ℤ) (names : List NamedTerm) (fault : Fault) : Type 0 where
   pub count : ℕ
   pub symbols : List Symbol

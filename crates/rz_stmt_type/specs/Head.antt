@@ -12,7 +12,7 @@ use Rattle.rz_stmt_brackets.specs.Pieces.{Parted}
 use Rattle.rz_stmt_brackets.specs.declared.bracket.Bracket.TheVariants.{Curly, Square}
 use Rattle.rz_stmt_fields.specs.Symbols.{name_in}
 
--- the tokens are braces, in which this stands, and nothing behind them
+-- the tokens are braces, in which this stands, and nothing after them
 abbrev pub IsBraced : List Token → List Token → Type 0
 IsBraced tokens inside = (parted : Parted) × IsBracketed Curly tokens parted × (parted.behind ≡ []) × (inside ≡ parted.front)
 
@@ -40,7 +40,7 @@ IsCounted tokens front =
     (parted : Parted) × (count : Term) × (row : List Token) × IsBracketed Square tokens parted × IsConstant parted.front count × IsBraced parted.behind row
     × (front ≡ record { name = None; count = Some count; row = row })
 
--- what stands behind `array`
+-- what stands after `array`
 pub data IsArrayFront (tokens : List Token) (front : ArrayFront) : Type 0 where
   bare : IsBare tokens front → IsArrayFront tokens front
   named : IsNamed tokens front → IsArrayFront tokens front
@@ -52,7 +52,7 @@ abbrev pub is_colon : Shape → Bool
 is_colon (shapes.Sign signs.Colon) = true
 is_colon shape = false
 
--- the name of a case, and what stands behind its `:`
+-- the name of a case, and what stands after its `:`
 pub record CaseFront : Type 0 where
   pub name : Word
   pub row : List Token
@@ -62,7 +62,7 @@ case_front [] = None
 case_front (first ∷ []) = None
 case_front (first ∷ second ∷ row) = if is_colon second.shape then option_map (λ name. record { name = name; row = row }) (name_in first.shape) else None
 
--- the pieces behind a first one that is empty
+-- the pieces after a first one that is empty
 abbrev pub behind_empty : List (List Token) → Option (List (List Token))
 behind_empty [] = None
 behind_empty ([] ∷ pieces) = Some pieces

@@ -12,7 +12,7 @@ abbrev pub label_in : Shape → Option Word
 label_in (shapes.Word word) = if is_label (role_of word.bytes) then Some word else None
 label_in shape = None
 
--- the name of a label, and what stands behind its `:`
+-- the name of a label, and what stands after its `:`
 pub record LabelFront : Type 0 where
   pub name : Word
   pub behind : List Token
@@ -24,7 +24,7 @@ label_front (first ∷ []) = None
 label_front (first ∷ second ∷ behind) =
     if is_colon second.shape then option_map (λ name. record { name = name; behind = behind }) (label_in first.shape) else None
 
--- the labels at the front, and what stands behind them all
+-- the labels at the front, and what stands after them all
 pub data AreLabels : List Token → List Word → List Token → Type 0 where
   no_label : (tokens : List Token) → label_front tokens ≡ None → AreLabels tokens [] tokens
   label_more : (tokens : List Token) (front : LabelFront) (names : List Word) (behind : List Token)

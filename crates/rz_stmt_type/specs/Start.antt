@@ -5,7 +5,7 @@ use Rattle.rz_words.specs.declared.keyword.Keyword.{Keyword}
 use Rattle.rz_words.specs.declared.keyword.Keyword.TheVariants as keywords
 use Rattle.rz_lex.specs.declared.token.Token.{Token}
 
--- what it says, and what stands behind it
+-- what it says, and what stands after it
 pub data FieldStart : Type 0 where
   -- `key`
   Key : (behind : List Token) → FieldStart
@@ -16,7 +16,7 @@ pub data FieldStart : Type 0 where
   -- any other word, or none: a field with no fields of its own
   Flat : FieldStart
 
--- behind `wide` stands `array`
+-- after `wide` stands `array`
 abbrev pub wide_start : List Token → FieldStart
 wide_start [] = Flat
 wide_start (token ∷ tokens) = if is_keyword keywords.Array token.shape then Array tokens else Flat

@@ -21,7 +21,7 @@ given_or mark next (Some term) = constant_value mark term
 abbrev pub out_of_range : Mark → ℤ → Fault
 out_of_range mark value = record { number = 207; mark = Some mark; kept = kept.Number value }
 
--- a symbol with its value in front of those behind it, which go on from the next value
+-- a symbol with its value in front of those after it, which go on from the next value
 abbrev pub with_value : (ℤ → Bool) → Mark → Word → (ℤ → Result (List Symbol) Fault) → ℤ → Result (List Symbol) Fault
 with_value fits mark name more value =
     if fits value then more (reduced (value +ℤ pos 1)) >>= (λ others. Ok (record { name = name; value = value } ∷ others))

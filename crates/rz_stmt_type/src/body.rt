@@ -59,7 +59,7 @@ fn read_field(alloc: Global, in_case: bool, tokens: &[Token]) -> Result<Option<F
     }
 }
 
-/// The array that the tokens behind `array` are. No key may stand directly in it.
+/// The array that the tokens after `array` are. No key may stand directly in it.
 #[cycle(body)]
 fn read_array(alloc: Global, tokens: &[Token]) -> Result<Option<FieldExpr>, NoMemory>
     ensures { IfOk result (λ field. Decided (IsArray tokens.now) (option_map field_form field)) }
@@ -86,7 +86,7 @@ fn read_array(alloc: Global, tokens: &[Token]) -> Result<Option<FieldExpr>, NoMe
     }
 }
 
-/// The switch that the tokens behind `switch` are.
+/// The switch that the tokens after `switch` are.
 #[cycle(body)]
 fn read_switch(alloc: Global, tokens: &[Token]) -> Result<Option<FieldExpr>, NoMemory>
     ensures { IfOk result (λ field. Decided (IsSwitch tokens.now) (option_map field_form field)) }
@@ -119,7 +119,7 @@ fn read_cases(alloc: Global, tokens: &[Token]) -> Result<Option<CaseExprs>, NoMe
     Ok(Some(cases))
 }
 
-/// The case that the tokens behind `case` are.
+/// The case that the tokens after `case` are.
 #[cycle(body)]
 fn read_case(alloc: Global, tokens: &[Token]) -> Result<Option<CaseExpr>, NoMemory>
     ensures { IfOk result (λ case. Decided (IsCase tokens.now) (option_map case_form case)) }

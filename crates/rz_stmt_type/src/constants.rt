@@ -165,7 +165,7 @@ fn value_body(alloc: Global, mark: Mark, fields: FieldExprs) -> Result<Body, Sto
     Ok(body)
 }
 
-/// Gives back the memory behind the fields, once it is that of many and more than an eighth of all.
+/// Gives back the memory after the fields, once it is that of many and more than an eighth of all.
 fn give_back(left: &mut Vec<FieldExpr>)
     ensures { left.new.items ≡ left.old.items }
 {

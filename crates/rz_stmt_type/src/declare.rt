@@ -42,7 +42,7 @@ struct Scoped {
     made: MadeExpr,
 }
 
-/// What stands behind the type that is declared.
+/// What stands after the type that is declared.
 fn read_scoped(alloc: Global, tokens: &[Token]) -> Result<Option<Scoped>, NoMemory>
     ensures { IfOk result (λ parts. Decided (AreScoped tokens.now) (option_map scoped_form parts)) }
 {

@@ -55,7 +55,7 @@ fn read_text_field(
     }
 }
 
-/// The text that the tokens behind its type are: a size, where there is one, and the fixed text.
+/// The text that the tokens after its type are: a size, where there is one, and the fixed text.
 fn read_text(
     alloc: Global,
     hex: bool,

@@ -20,14 +20,14 @@ pub struct ArrayFront<'a> {
     pub row: &'a [Token],
 }
 
-/// A case up to its fields: its name, and what stands behind its `:`.
+/// A case up to its fields: its name, and what stands after its `:`.
 #[derive(Drop)]
 pub struct CaseFront<'a> {
     pub name: &'a Word,
     pub row: &'a [Token],
 }
 
-/// What stands behind `array`.
+/// What stands after `array`.
 pub fn read_array_front(alloc: Global, tokens: &[Token]) -> Result<Option<ArrayFront<'_>>, NoMemory>
     ensures { IfOk result (λ front. Decided (IsArrayFront tokens.now) (option_map held_array front)) }
 {
@@ -131,7 +131,7 @@ pub fn is_colon(token: &Token) -> bool
     matches!(token.shape, Shape::Sign(Sign::Colon))
 }
 
-/// The pieces behind a first one that is empty.
+/// The pieces after a first one that is empty.
 pub fn behind_empty<'a, 'b>(pieces: &'b [&'a [Token]]) -> Option<&'b [&'a [Token]]>
     ensures { option_map (λ others. map (λ piece. piece.now) others.now) result ≡ behind_empty (map (λ piece. piece.now) pieces.now) }
 {

@@ -14,16 +14,16 @@ use rz_lex::{Shape, Token};
 use rz_stmt_fields::{FieldExpr, FieldExprs};
 use std::alloc::Global;
 
-/// A label: its name, and what stands behind its `:`.
+/// A label: its name, and what stands after its `:`.
 #[derive(Drop)]
 pub struct LabelFront<'a> {
     /// The name.
     pub name: &'a Word,
-    /// What stands behind.
+    /// What stands after.
     pub behind: &'a [Token],
 }
 
-/// Pushes the labels that stand at the front, and gives what stands behind them.
+/// Pushes the labels that stand at the front, and gives what stands after them.
 pub fn read_labels<'a>(
     alloc: Global,
     tokens: &'a [Token],

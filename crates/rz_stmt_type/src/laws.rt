@@ -43,7 +43,7 @@ pub fn type_statements_are_decided()
 /// A law, with nothing to run: symbols have these values exactly where there are as many as names; each has its
 /// name, a value in the range, and the one that is given, or else one more than the symbol before, wrapped to 32
 /// bits; the first value at the front. They have this fault exactly where some symbols at the front have such
-/// values, and the one behind them has that fault: that of the value that is given, or 207 for a value outside
+/// values, and the one after them has that fault: that of the value that is given, or 207 for a value outside
 /// the range.
 pub fn symbols_have_values()
     ensures values { (fits : ℤ → Bool) (mark : Mark) (names : List NamedTerm) (first : ℤ) (symbols : List Symbol)

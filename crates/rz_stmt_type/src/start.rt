@@ -7,7 +7,7 @@ ghost use Rattle.rz_stmt_type.specs.Start.{start_of, wide_start};
 use rz_expr::{Keyword, is_keyword, keyword_in};
 use rz_lex::Token;
 
-/// What the first word of a field says, and what stands behind it.
+/// What the first word of a field says, and what stands after it.
 #[derive(Drop)]
 pub enum Start<'a> {
     /// `key`
@@ -36,7 +36,7 @@ pub fn start_of(tokens: &[Token]) -> Start<'_>
     }
 }
 
-/// How a field starts whose first word is `wide`: `array` stands behind it.
+/// How a field starts whose first word is `wide`: `array` stands after it.
 fn wide_start(tokens: &[Token]) -> Start<'_>
     ensures { held_start result ≡ wide_start tokens.now }
 {

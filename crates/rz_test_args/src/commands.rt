@@ -120,7 +120,7 @@ derez ~ => derez
 derez é => derez é
 derez -f => word 2
 derez f -p => word 3
-// type files behind it
+// type files after it
 derez f g => derez f g
 derez f g h => derez f g h
 derez f f => derez f f

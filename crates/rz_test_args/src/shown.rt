@@ -35,7 +35,7 @@ fn show_files(alloc: Global, command: &Command<'_>, text: &mut Text) -> Result<(
     Ok(())
 }
 
-/// What stands behind the definitions, as text.
+/// What stands after the definitions, as text.
 fn show_behind(alloc: Global, command: &Command<'_>, text: &mut Text) -> Result<(), NoMemory> {
     show_switch(b" -rd", command.has(Switch::Redeclare), text);
     show_switch(b" -a", command.has(Switch::Append), text);
@@ -58,7 +58,7 @@ fn word_of_into(command: CommandName) -> &'static [u8] {
     }
 }
 
-/// Names behind a word, as text.
+/// Names after a word, as text.
 fn show_names(word: &[u8], names: &FileNames, text: &mut Text) {
     for k in 0..names.len() {
         text.put(word);
@@ -85,14 +85,14 @@ fn show_switch(word: &[u8], asked: bool, text: &mut Text) {
     }
 }
 
-/// Types behind a word, as text.
+/// Types after a word, as text.
 fn show_kinds(word: &[u8], kinds: &Kinds, text: &mut Text) {
     for kind in kinds.as_slice() {
         show_kind(word, Some(*kind), text);
     }
 }
 
-/// A type behind a word, where there is one, as text.
+/// A type after a word, where there is one, as text.
 fn show_kind(word: &[u8], kind: Option<OsType>, text: &mut Text) {
     if let Some(kind) = kind {
         text.put(word);
@@ -100,7 +100,7 @@ fn show_kind(word: &[u8], kind: Option<OsType>, text: &mut Text) {
     }
 }
 
-/// A form behind a word, where there is one, as text.
+/// A form after a word, where there is one, as text.
 fn show_form(word: &[u8], form: Option<Form>, text: &mut Text) {
     if let Some(form) = form {
         text.put(word);

@@ -1,6 +1,6 @@
 //! BinHex.
 
-/// Names, both forks, and the text. Behind the line that says what it is stand 64 and 65 characters in the last two.
+/// Names, both forks, and the text. After the line that says what it is stand 64 and 65 characters in the last two.
 /// Worked out by another program.
 pub const WRITTEN: &str = r##"
 a|\00| => (This file must be converted with BinHex 4.0)\0A:!@%!9%9B9(4dH(3KJ!!!!!%!N!6(9!#3"3:\0A
@@ -31,7 +31,7 @@ a|\07\07\07|«\09×5» => BinHex 93 a|\07\07\07|«\09×5»
 
 /// Texts, and the first broken rule.
 pub const TOLD: &str = r##"
-// without a line that says what they are, or without a colon behind it
+// without a line that says what they are, or without a colon after it
  => 441 0 0 0 0
 no line at all => 441 0 0 0 0
 This file must be converted with BinHex\0A:!@%!9%9B9(4dH(3KJ!!!!!%!N!6(9!#3"3:\0A => 441 0 0 0 0

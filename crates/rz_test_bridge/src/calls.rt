@@ -14,7 +14,7 @@ use std::process::Abort;
 /// What the cases of a table call, and what the text of a case is for it.
 #[derive(Clone, Copy)]
 pub enum Call {
-    /// The check of bytes, in hexadecimal; behind `|` it goes on.
+    /// The check of bytes, in hexadecimal; after `|` it goes on.
     Check,
     /// The codes of bytes.
     RunsWritten,

@@ -86,7 +86,7 @@ ab|«\07×129»|\09 ..512 => none
 
 /// Files with edits, and the files that are read.
 pub const READ: &str = r#"
-// empty forks may lie behind the file
+// empty forks may lie after the file
 ab|«\07×129»|\09 86=0 90=0 121=1 ..128 mended => ab||
 // a secondary header is skipped
 ab|«\07×129»|\09 121=1 ..128 mended +«\AA×128»«\07×129»«\BB×127»\09 => ab|«\07×129»|\09

@@ -25,10 +25,10 @@ const GOING_ON: [Option<(u32, u8)>; 4] = [
     Some((7, 0)),
 ];
 
-/// The bytes of these, with four zero bits behind them.
+/// The bytes of these, with four zero bits after them.
 const AS_BYTES: [u8; 5] = [0xB1, 0x23, 0x45, 0x67, 0x80];
 
-/// Widths of the numbers that are taken of them, one behind another, each with what comes.
+/// Widths of the numbers that are taken of them, one after another, each with what comes.
 const TAKEN: [(u8, Option<u32>); 7] = [
     (3, Some(5)),
     (1, Some(1)),

@@ -1,7 +1,7 @@
 //! Where statements are cut.
 
 /// Texts, and where their statements stand among their tokens: the position of the first token, a `-` and the position
-/// behind the last, each with a `.` behind it.
+/// after the last, each with a `.` after it.
 pub const CUTS: &str = r#"
 // no token, a rest, and statements
  => none

@@ -33,7 +33,7 @@ pub fn content_of(alloc: Global, kind: &str, entry: &Entry<'_>) -> Result<Vec<u8
 }
 
 /// Appends the bytes that a line spells, in pieces with blanks between them: hexadecimal digits, as often as a `*` and a
-/// number after them say; numbers that count up, as `0000..3FFF`, each with the digits after a `:` behind it; and texts
+/// number after them say; numbers that count up, as `0000..3FFF`, each with the digits after a `:` after it; and texts
 /// between quote marks.
 pub fn append_bytes(line: &str, into: &mut Vec<u8>, entry: &Entry<'_>) -> Result<(), Trouble> {
     let mut in_text = false;
@@ -78,7 +78,7 @@ fn append_repeated(piece: &str, into: &mut Vec<u8>, entry: &Entry<'_>) -> Result
     Ok(())
 }
 
-/// Appends the numbers from the first to the last, each with what stands behind a `:` after the last.
+/// Appends the numbers from the first to the last, each with what stands after a `:` after the last.
 fn append_numbers(
     first: &str,
     rest: &str,

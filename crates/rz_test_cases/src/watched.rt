@@ -59,7 +59,7 @@ impl Folder for WatchedFolder {
     }
 }
 
-/// Keeps a name behind others, where there is memory for it.
+/// Keeps a name after others, where there is memory for it.
 fn is_kept(names: &mut Vec<String>, name: &str) -> bool {
     match String::from_str(*names.allocator(), name) {
         Ok(name) => names.push(name).is_ok(),

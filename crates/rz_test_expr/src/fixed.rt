@@ -109,7 +109,7 @@ impl Env for Fixed {
     ghost law = { Prim.search rules };
 }
 
-/// The place of `cell` in the row of this number: rows have 16 bits, and it stands behind the first 8.
+/// The place of `cell` in the row of this number: rows have 16 bits, and it stands after the first 8.
 fn place_in(row: i32) -> Option<i32>
     ensures { result ≡ place_in row }
 {

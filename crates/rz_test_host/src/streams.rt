@@ -10,7 +10,7 @@ use std::cell::Cell;
 use std::io::Write;
 use std::{fs, io};
 
-/// The calls of streams with a buffer and without one. Behind each stands how many calls of the host's were made so far: one
+/// The calls of streams with a buffer and without one. After each stands how many calls of the host's were made so far: one
 /// makes the file, and one writes three bytes at most. After them stand the faults, how many bytes the file has, and the
 /// first of them. A write to a pipe that nobody reads fails, and doesn't end the process.
 pub const STREAMS: &str = "
@@ -80,7 +80,7 @@ fn stream_over<W: Write + Drop>(
 }
 
 /// Shows what the calls of a stream give, of which `!` is a flush, and each other word a piece; then the faults. The stream
-/// is dropped behind them.
+/// is dropped after them.
 fn show_calls<W: Write + Drop>(
     stream: RealSink<W>,
     calls: &str,

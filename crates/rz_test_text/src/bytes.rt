@@ -1,4 +1,4 @@
-//! Each byte alone, between quote marks and behind a backslash.
+//! Each byte alone, between quote marks and after a backslash.
 
 use crate::outcome::show_outcome;
 use rz_core::Attr;
@@ -41,7 +41,7 @@ fn show_quoted(alloc: Global, byte: u8, wanted: &mut Text, came: &mut Text) {
     }
 }
 
-/// The same of a byte behind a backslash, where it makes no escape.
+/// The same of a byte after a backslash, where it makes no escape.
 fn show_escaped(alloc: Global, byte: u8, wanted: &mut Text, came: &mut Text) {
     if !b"\n\r".contains(&byte) && !(b' '..=b'~').contains(&byte) {
         wanted.put(b"109 on 1 \"\\");

@@ -76,7 +76,7 @@ pub const WRONG_ESCAPES: &str = r#"
 '\400abcde' => [109 on 1 '\400abcde']
 "#;
 
-/// Literals, texts, and hex texts behind a `$`.
+/// Literals, texts, and hex texts after a `$`.
 pub const QUOTED: &str = r#"
 # literals have one to four bytes
 '' => [110 on 1 '']

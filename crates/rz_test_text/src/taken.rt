@@ -22,7 +22,7 @@ a \␊/* b␊c => [107 on 1 107 on 1 ]
 const MOST: usize = 1_000_000;
 
 /// Shows the lines of a source as they are asked for one by one: of each its file and line, its bytes, and its tokens.
-/// What comes behind them, the end or a fault, is asked for twice.
+/// What comes after them, the end or a fault, is asked for twice.
 pub fn show_lines(alloc: Global, text: &[u8], came: &mut Text) {
     if text.len() > MOST {
         came.fail();

@@ -18,7 +18,7 @@ enum Call {
     Entries,
     /// The fields of the template.
     Template,
-    /// The row that is read of bytes, which stand behind ` @` in hexadecimal.
+    /// The row that is read of bytes, which stand after ` @` in hexadecimal.
     Read,
 }
 

@@ -147,7 +147,7 @@ fn show_rectangle(points: &PointField, came: &mut Text) {
     came.put(b"rect;");
 }
 
-/// Shows zeros, behind their word, of a unit in bits.
+/// Shows zeros, after their word, of a unit in bits.
 fn show_zeros(word: &[u8], unit: u8, came: &mut Text) {
     came.put(word);
     match unit {

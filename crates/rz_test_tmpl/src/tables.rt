@@ -1,6 +1,6 @@
 //! Entries of templates, worked out by another program.
 
-/// Each word is a code behind a label of one byte, and one that begins with `$` is bytes in hexadecimal as they stand: how
+/// Each word is a code after a label of one byte, and one that begins with `$` is bytes in hexadecimal as they stand: how
 /// many entries there are, or the number and the offset of the fault.
 pub const ENTRIES: &str = r#"
 DBYT DWRD DLNG HBYT HWRD HLNG FBYT FWRD FLNG AWRD ALNG PSTR CSTR CHAR TNAM RECT HEXD => 17
@@ -15,7 +15,7 @@ pub const TEMPLATES: &str = r#"
 $05436F756E744F434E54 $012A4C535443 $045465787450535452 $012A4C535445 => integer = $$CountOf(L1); array L1 { pstring; };
 $05436F756E744F434E54 $012A4C535443 $045465787450535452 => 453 25
 $01414F434E54 $014244425954 => 454 12
-// each code, behind no label and behind a long one
+// each code, after no label and after a long one
  => 
 DBYT DWRD DLNG HBYT HWRD HLNG FBYT FWRD FLNG AWRD ALNG PSTR CSTR CHAR TNAM RECT HEXD => byte; integer; longint; hex byte; hex integer; hex longint; fill byte; fill word; fill long; align word; align long; pstring; cstring; char; literal longint; rect; hex string;
 OCNT LSTC DBYT LSTE ZCNT LSTC DBYT LSTE LSTB DBYT LSTE => integer = $$CountOf(L1); array L1 { byte; }; integer = $$CountOf(L2) - 1; array L2 { byte; }; array { byte; };
@@ -57,7 +57,7 @@ OCNT LSTC FBYT ALNG LSTE => 455 24
 LSTB AWRD $00 => 451 12
 "#;
 
-/// The same, and behind ` @` the bytes of a resource in hexadecimal: the row that is read of them under the template, or `none`.
+/// The same, and after ` @` the bytes of a resource in hexadecimal: the row that is read of them under the template, or `none`.
 pub const READS: &str = r#"
 // each field and its ends
 DBYT DWRD DLNG @ 80 FFFF 80000000 => 128 65535 2147483648
@@ -97,7 +97,7 @@ ZCNT DBYT LSTC DBYT FBYT LSTE @ 0000 09 0501 => none
 OCNT LSTC ZCNT LSTC CHAR LSTE LSTE @ 0003 FFFF 0000 41 0001 4243 => {{}|{65}|{66|67}}
 OCNT LSTC OCNT LSTC DBYT AWRD LSTE LSTE DBYT @ 0001 0002 0100 0200 07 => {{1|2}} 7
 OCNT LSTC OCNT LSTC DBYT AWRD LSTE LSTE DBYT @ 0001 0002 0100 0201 07 => none
-// lists and texts to the end, and what may stand behind
+// lists and texts to the end, and what may stand after
 LSTB DWRD LSTE @ => {}
 LSTB DWRD LSTE @ 0001 0002 => {1|2}
 LSTB DWRD LSTE @ 0001 00 => none

@@ -56,7 +56,7 @@ fixed_one Pascal = refl
 fixed_one ZeroEnded = refl
 fixed_one Rest = refl
 
--- a list stands behind a count that waits
+-- a list stands after a count that waits
 unfixed : (left k : ℕ) (items : Items) → is_kept left true items ≡ true → waits true items ≡ false → is_some (fixed_widths (body_from k items)) ≡ false
 unfixed left k none kept ends = no_more ends
 unfixed left k (one plain rest) kept ends =

@@ -27,7 +27,7 @@ is_inner (count less rest) = is_inner rest
 is_inner (list true row rest) = is_inner row && is_inner rest
 is_inner (list false row rest) = false
 
--- behind a text to the end, or a list without a count, all have a fixed length
+-- after a text to the end, or a list without a count, all have a fixed length
 abbrev pub is_closed : Items → Bool
 is_closed none = true
 is_closed (one Rest rest) = is_fixed rest

@@ -49,7 +49,7 @@ body_in part = plain_body (reverse part.fields.items)
 abbrev pub closing_of : Items → Closing
 closing_of items = record { fixed = is_fixed items; inner = is_inner items; closed = is_closed items }
 
--- it is the end of a body whose first counted list, or the next one behind, has this number
+-- it is the end of a body whose first counted list, or the next one after, has this number
 pub record IsPart (number : ℕ) (items : Items) (part : Part) : Type 0 where
   pub body : body_in part ≡ body_from number items
   pub next : part.next ≡ next_named number items
@@ -62,7 +62,7 @@ AreParts number [] (part ∷ parts) = ⊥
 AreParts number (items ∷ outer) [] = ⊥
 AreParts number (items ∷ outer) (part ∷ parts) = IsPart number items part × AreParts (number + lists_of items) outer parts
 
--- what is kept is so behind so many counted lists
+-- what is kept is so after so many counted lists
 pub record Holds (lists : ℕ) (ends : Ends) (parts : Parts) : Type 0 where
   pub number : parts.number ≡ lists + 1
   pub inner : IsPart (lists + 1) ends.inner parts.inner

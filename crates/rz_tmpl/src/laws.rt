@@ -45,7 +45,7 @@ pub fn every_tmpl_has_a_body()
 }
 
 /// A law, with nothing to run: the fields that bytes have as a template, fewer than 2^64, have the shape of a declaration
-/// and keep the rules of declarations. Their fault has one of the numbers 451 to 456, and its offset isn't behind their end.
+/// and keep the rules of declarations. Their fault has one of the numbers 451 to 456, and its offset isn't after their end.
 pub fn tmpl_types_are_templates()
     ensures shaped { (bytes : List ℕ) (body : PlainBody) → length bytes < 2 ^ 64 → HasBody bytes (Ok body) → is_well_shaped body ≡ true }
     ensures kept { (bytes : List ℕ) (body : PlainBody) → length bytes < 2 ^ 64 → HasBody bytes (Ok body) → keeps_rules body ≡ true }

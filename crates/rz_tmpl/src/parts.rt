@@ -18,7 +18,7 @@ use std::alloc::Global;
 pub struct Part {
     /// The fields, the last first.
     pub fields: Vec<Field>,
-    /// The number of the first counted list of the body itself among them, or that of the next one behind.
+    /// The number of the first counted list of the body itself among them, or that of the next one after.
     pub next: u64,
     /// Where the bytes of the fields end.
     pub closing: Closing,
@@ -31,7 +31,7 @@ pub struct Parts {
     pub inner: Part,
     /// Those of the bodies around it, the innermost of them last.
     pub outer: Vec<Part>,
-    /// The number of the first counted list of all, or that of the next one behind.
+    /// The number of the first counted list of all, or that of the next one after.
     pub number: u64,
 }
 

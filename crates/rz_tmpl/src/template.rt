@@ -31,7 +31,7 @@ pub fn template_of(alloc: Global, bytes: &[u8]) -> Result<Template, Stop<TmplFau
     Ok(Template::of(part.into_body(), readable))
 }
 
-/// The fields of the entries of a body. They are read from the last to the first, so that a count is met behind its list.
+/// The fields of the entries of a body. They are read from the last to the first, so that a count is met after its list.
 fn part_of(alloc: Global, entries: &[Entry]) -> Result<Part, NoMemory>
     requires { (items : Items) × (entries.now ≡ entries_of items) }
     ensures few { 1 + starts_in entries.now ≤ 2 ^ 64 }

@@ -21,7 +21,7 @@ sound_code true full outermost waiting valued found is = absurd cc
 sound_code false full outermost waiting valued None is = absurd cc
 sound_code false full outermost waiting valued (Some entry) is = (refl, (entry, refl, is))
 
--- where there is no fault, the place behind the next entry
+-- where there is no fault, the place after the next entry
 record Next (bytes : List ℕ) (most : ℕ) : Type 0 where
   pub place : Place
   pub rest : List ℕ

@@ -1,4 +1,4 @@
--- What is kept behind an entry was kept before it, and the entry has no fault; and so the other way round.
+-- What is kept after an entry was kept before it, and the entry has no fault; and so the other way round.
 use Rattle.std.proofs.Common.{◌≡◌, ℕ, zero, suc, Bool, true, false, Option, Some, None, refl, sym, ap, ◌∙◌}
 use Rattle.std.specs.Prelude.{◌&&◌, not, if◌then◌else◌, option_map}
 use Rattle.std.specs.Option.{is_none}
@@ -14,7 +14,7 @@ abbrev pub none_left : ℕ → Bool
 none_left zero = true
 none_left (suc left) = false
 
--- the fault of an entry at a place behind which so many more lists may be open, in a list or in none
+-- the fault of an entry at a place after which so many more lists may be open, in a list or in none
 abbrev pub place_fault : (left : ℕ) (outermost : Bool) → Place → Entry → Option ℕ
 place_fault left outermost (at items) entry = entry_fault (none_left left) outermost (waits false items) (has_value items) entry
 place_fault zero outermost (inside before counted place) entry = None

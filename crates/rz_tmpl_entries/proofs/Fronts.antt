@@ -68,7 +68,7 @@ ends bytes rest bodies entries front on =
 
 -- The next entry.
 
--- it is a label and a code, with the rest behind them
+-- it is a label and a code, with the rest after them
 pub record Whole (rest : List ℕ) (next : Next) : Type 0 where
   pub one : Labelled
   pub is : IsLabelled one
@@ -122,7 +122,7 @@ stands_next bytes rest more place next entry one stands is cut known goes sound 
   kept = kept_behind most_open true place entry next goes ∙ ap (λ (t : Bool). t && is_none (place_fault most_open true place entry)) stands.kept ∙ ap is_none sound;
 }
 
--- the code goes from places that it shows to the places behind an entry
+-- the code goes from places that it shows to the places after an entry
 abbrev pub Moves : Bodies → Entry → Bodies → Type 0
 Moves old entry new = (place next : Place) → Shows place old → behind place entry ≡ Some next → Shows next new
 

@@ -7,7 +7,7 @@ use Rattle.rz_tmpl_entries.specs.declared.entry.Entry.{Entry}
 use Rattle.rz_tmpl_entries.specs.declared.entry.Entry.TheVariants.{Count, End, One, Start}
 use Rattle.rz_tmpl_entries.specs.declared.entry.Plain.{Plain}
 
--- the place behind several entries
+-- the place after several entries
 abbrev pub behind_all : Place → List Entry → Option Place
 behind_all place [] = Some place
 behind_all place (entry ∷ entries) = option_and_then (λ next. behind_all next entries) (behind place entry)
@@ -24,7 +24,7 @@ append_append (one plain rest) b c = ap (one plain) (append_append rest b c)
 append_append (count less rest) b c = ap (count less) (append_append rest b c)
 append_append (list counted row rest) b c = ap (list counted row) (append_append rest b c)
 
--- items behind a place
+-- items after a place
 abbrev pub with : Place → Items → Place
 with (at items) more = at (append items more)
 with (inside before counted place) more = inside before counted (with place more)
@@ -78,7 +78,7 @@ items_step p (list counted row rest) es =
     joined [] b c = refl
     joined (x ∷ xs) b c = ap (λ l. x ∷ l) (joined xs b c)
 
--- one place behind another, in the innermost list
+-- one place after another, in the innermost list
 abbrev within : Place → Place → Place
 within (at items) (at more) = at (append items more)
 within (at items) (inside before counted place) = inside (append items before) counted place

@@ -91,7 +91,7 @@ entries_opened (inside before other place) counted =
     ap (λ (l : List Entry). entries_of before ++ Start other ∷ l) (entries_opened place counted)
     ∙ sym (append_assoc (entries_of before) (Start other ∷ entries_before place) (Start counted ∷ []))
 
--- the entries before the place behind an entry
+-- the entries before the place after an entry
 pub one_more : (place : Place) (entry : Entry) (next : Place) → behind place entry ≡ Some next → entries_before next ≡ entries_before place ++ entry ∷ []
 one_more place (One plain) next is = ap entries_before (sym (some_same _ _ (sym (plain_step place plain) ∙ is))) ∙ entries_with place (one plain none)
 one_more place (Count less) next is = ap entries_before (sym (some_same _ _ (sym (count_step place less) ∙ is))) ∙ entries_with place (count less none)
@@ -106,7 +106,7 @@ one_more (inside before counted place) End next is =
     ∙ append_assoc (entries_before found.outer ++ Start found.counted ∷ []) (entries_of found.row) (End ∷ [])
     ∙ append_assoc (entries_before found.outer) (Start found.counted ∷ []) (entries_of found.row ++ End ∷ []))
 
--- behind an entry without a fault there is a place
+-- after an entry without a fault there is a place
 pub place_behind : (full waiting valued : Bool) (place : Place) (entry : Entry) → entry_fault full (length (waiting_outside place) == 0) waiting valued entry ≡ None
     → (next : Place) × (behind place entry ≡ Some next)
 place_behind full waiting valued place (One plain) sound = (with place (one plain none), plain_step place plain)
@@ -166,7 +166,7 @@ not_full true outermost false valued true is = absurd cc
 not_full true outermost waiting valued false is = absurd cc
 not_full false outermost waiting valued counted is = refl
 
--- behind a list that may begin there is room
+-- after a list that may begin there is room
 pub has_room : (bodies : Bodies) (counted : Bool) → fault_of bodies (Start counted) ≡ None → length bodies.outside.items ≤ 60 → length bodies.outside.items < 60
 has_room bodies counted sound few =
     let n = length bodies.outside.items in

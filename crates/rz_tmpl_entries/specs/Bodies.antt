@@ -1,4 +1,4 @@
--- The place behind an entry, and what the code keeps of a place.
+-- The place after an entry, and what the code keeps of a place.
 use Rattle.std.specs.Prelude.{◌≡◌, ℕ, ◌≤◌, ◌+◌, ◌==◌, Bool, false, List, [], ◌∷◌, length, take, drop, Option, Some, None, option_map}
 use Rattle.rz_tmpl_entries.specs.Cut.{entry_fault, most_open, next_fault}
 use Rattle.rz_tmpl_entries.specs.Entry.{entry_of}
@@ -8,19 +8,19 @@ use Rattle.rz_tmpl_entries.specs.declared.entry.Entry.TheVariants.{Count, End, O
 use Rattle.rz_tmpl_entries.specs.declared.bodies.Next.{Next}
 use Rattle.rz_tmpl_entries.specs.declared.bodies.Bodies.{Bodies}
 
--- a body behind another
+-- a body after another
 abbrev pub append : Items → Items → Items
 append none more = more
 append (one plain rest) more = one plain (append rest more)
 append (count less rest) more = count less (append rest more)
 append (list counted row rest) more = list counted row (append rest more)
 
--- the place behind the end of the innermost list, where the inner place that is open ends so
+-- the place after the end of the innermost list, where the inner place that is open ends so
 abbrev pub close : Items → Bool → Place → Option Place → Option Place
 close before counted (at items) closed = Some (at (append before (list counted items none)))
 close before counted (inside more other place) closed = option_map (inside before counted) closed
 
--- the place behind an entry; the end of a list has one in a list alone
+-- the place after an entry; the end of a list has one in a list alone
 abbrev pub behind : Place → Entry → Option Place
 behind (at items) (One plain) = Some (at (append items (one plain none)))
 behind (at items) (Count less) = Some (at (append items (count less none)))

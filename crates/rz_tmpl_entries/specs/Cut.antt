@@ -12,7 +12,7 @@ use Rattle.rz_tmpl_entries.specs.declared.fault.TmplFault.{TmplFault}
 abbrev pub most_open : ℕ
 most_open = 60
 
--- an entry as it stands in the bytes: a label behind its length, which nothing reads, and a code of four bytes
+-- an entry as it stands in the bytes: a label after its length, which nothing reads, and a code of four bytes
 pub record Labelled : Type 0 where
   pub label : List ℕ
   pub code : List ℕ
@@ -25,7 +25,7 @@ entry_bytes entry = length entry.label ∷ (entry.label ++ entry.code)
 
 -- Faults.
 
--- the fault of an entry behind which no list more may be open, or one may, in no list or in one, in a body where a count waits or
+-- the fault of an entry after which no list more may be open, or one may, in no list or in one, in a body where a count waits or
 -- none does, and that has a value or none
 abbrev pub entry_fault : (full outermost waiting valued : Bool) → Entry → Option ℕ
 entry_fault full outermost waiting valued (One plain) = None
@@ -50,7 +50,7 @@ next_fault lists waiting valued (label ∷ bytes) =
     if nat_lt (length bytes) (label + 4) then Some 451
     else code_fault (lists == most_open) (lists == 0) waiting valued (entry_of (take 4 (drop label bytes)))
 
--- the fault of the bytes behind a place at their first entry, or at their end
+-- the fault of the bytes after a place at their first entry, or at their end
 abbrev pub fault_behind : Place → List ℕ → Option ℕ
 fault_behind place bytes = next_fault (length (waiting_outside place)) (waits false (innermost place)) (has_value (innermost place)) bytes
 

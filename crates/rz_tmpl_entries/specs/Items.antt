@@ -18,7 +18,7 @@ entries_of (one plain rest) = One plain ∷ entries_of rest
 entries_of (count less rest) = Count less ∷ entries_of rest
 entries_of (list counted row rest) = Start counted ∷ (entries_of row ++ End ∷ entries_of rest)
 
--- a count waits for its list behind a body, where one waits in front of it or none does
+-- a count waits for its list after a body, where one waits in front of it or none does
 abbrev pub waits : Bool → Items → Bool
 waits waiting none = waiting
 waits waiting (one plain rest) = waits waiting rest
@@ -38,7 +38,7 @@ abbrev pub may_start : (counted waiting : Bool) → Bool
 may_start true waiting = waiting
 may_start false waiting = true
 
--- a count waits behind a list
+-- a count waits after a list
 abbrev pub waits_behind : (counted waiting : Bool) → Bool
 waits_behind true waiting = false
 waits_behind false waiting = waiting
@@ -56,7 +56,7 @@ is_kept (suc left) waiting (list counted row rest) =
 
 -- Places.
 
--- what stands before a place: whole items, or a list that is open behind such, and what stands before the place in it
+-- what stands before a place: whole items, or a list that is open after such, and what stands before the place in it
 pub data Place : Type 0 where
   at : (items : Items) → Place
   inside : (before : Items) (counted : Bool) (place : Place) → Place
@@ -77,7 +77,7 @@ abbrev pub innermost : Place → Items
 innermost (at items) = items
 innermost (inside before counted place) = innermost place
 
--- for each open list, from the outermost on, whether a count will wait behind it
+-- for each open list, from the outermost on, whether a count will wait after it
 abbrev pub waiting_outside : Place → List Bool
 waiting_outside (at items) = []
 waiting_outside (inside before counted place) = waits_behind counted (waits false before) ∷ waiting_outside place

@@ -19,7 +19,7 @@ pub struct Bodies {
     pub waiting: bool,
     /// Whether a row of that body has a value.
     pub valued: bool,
-    /// For each open list, from the outermost on, whether a count will wait behind it.
+    /// For each open list, from the outermost on, whether a count will wait after it.
     pub outside: ArrayVec<bool, MOST_OPEN>,
 }
 
@@ -122,7 +122,7 @@ impl Bodies {
         }
     }
 
-    /// Goes behind an entry without a fault.
+    /// Goes after an entry without a fault.
     pub fn take(&mut self, entry: Entry)
         requires sound { fault_of self.old entry ≡ None }
         requires few { length self.old.outside.items ≤ 60 }
@@ -136,7 +136,7 @@ impl Bodies {
         }
     }
 
-    /// Goes behind an entry that is a field by itself.
+    /// Goes after an entry that is a field by itself.
     fn add(&mut self, plain: Plain)
         ensures valued { self.new.valued ≡ (self.old.valued || takes plain) }
         ensures waiting { self.new.waiting ≡ self.old.waiting }

@@ -30,9 +30,9 @@ pub enum Plain {
     Zeros(Size),
     /// `AWRD`, `ALNG`, zero bytes to the next multiple of so many.
     Aligned(Size),
-    /// `PSTR`, a text behind a byte with its length.
+    /// `PSTR`, a text after a byte with its length.
     Pascal,
-    /// `CSTR`, a text with a zero byte behind it.
+    /// `CSTR`, a text with a zero byte after it.
     ZeroEnded,
     /// `HEXD`, a text to the end, shown in hexadecimal.
     Rest,

@@ -34,7 +34,7 @@ abbrev pub HasValue : (takes_one : Bool) → Option Tree → Type 0
 HasValue true value = (tree : Tree) × (value ≡ Some tree)
 HasValue false value = value ≡ None
 
--- the values behind that of an entry
+-- the values after that of an entry
 pub others_are : (takes_one : Bool) (value : Option Tree) (row rest : List Tree) → HasValue takes_one value → row ≡ put value rest → (if takes_one then drop 1 row else row) ≡ rest
 others_are true value row rest (tree, is) whole = ap (drop 1) (whole ∙ ap (λ (v : Option Tree). put v rest) is)
 others_are false value row rest is whole = whole ∙ ap (λ (v : Option Tree). put v rest) is

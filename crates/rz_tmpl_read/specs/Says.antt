@@ -68,7 +68,7 @@ stored_count less rows = if less then (rows + 65535) % 65536 else rows
 
 -- Bodies.
 
--- rows one behind the other, each by a rule, from one place to another
+-- rows one after the other, each by a rule, from one place to another
 abbrev pub RowsSay : (List Tree → ℕ → ℕ → Type 0) → List (List Tree) → ℕ → ℕ → Type 0
 RowsSay RowSays [] place after = after ≡ place
 RowsSay RowSays (row ∷ rows) place after = (next : ℕ) × RowSays row place next × RowsSay RowSays rows next after

@@ -1,4 +1,4 @@
--- What the sources of rez mean, one part behind another.
+-- What the sources of rez mean, one part after another.
 use Rattle.std.proofs.Common.{◌≡◌, inl, List, Option, Some, None, Ok, Err, subst}
 use Rattle.std.specs.Prelude.{IfSome}
 use Rattle.std.specs.declared.result.Result.{Result}

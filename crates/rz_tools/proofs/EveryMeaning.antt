@@ -45,7 +45,7 @@ has_beside made answers (output, is) = (said_beside made.files made.work.warning
 
 -- A statement.
 
--- what holds of the fields of all declarations, and of those of a `type` statement where they keep the rules, holds behind
+-- what holds of the fields of all declarations, and of those of a `type` statement where they keep the rules, holds after
 -- the statement; what changes the list alone leaves the declarations as they are
 module _ (Q : PlainBody → Type 0) where
   abbrev pub HoldsOf : Statement → Type 0

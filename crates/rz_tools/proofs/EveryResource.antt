@@ -148,7 +148,7 @@ taken : (own body : PlainBody) (fault : Option TypeFault) → broken own ≡ fau
 taken own body None none is = (ap is_none none, same_ok {F = TypeFault} own body is)
 taken own body (Some fault) some is = absurd (ok_or_err {F = TypeFault} body fault (sym is))
 
--- what holds of all declarations, and of the statement's own fields where they keep the rules, holds behind the statement
+-- what holds of all declarations, and of the statement's own fields where they keep the rules, holds after the statement
 module _ (Q : PlainBody → Type 0) where
   abbrev pub HoldsOfMade : PlainMade → Type 0
   HoldsOfMade made = (own : PlainBody) → made ≡ Fields own → IsKept own → Q own

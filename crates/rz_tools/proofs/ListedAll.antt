@@ -21,7 +21,7 @@ text_added (Ok done) old new entries added P of are = λ row is. added ∙ ap (�
 text_added (Err stop) old new entries added P of are = tt
 
 module _ (types : List Declaration) (moment : Moment) (list : List Resource) (before : List ℕ) where
-  -- behind the texts of the first resources stand those of the others
+  -- after the texts of the first resources stand those of the others
   abbrev pub IsSoFar : List Resource → List ℕ → Type 0
   IsSoFar rest text = (entries : List Entry) → IsCatalogue types moment list entries
       → (others : List Entry) × IsCatalogue types moment rest others × (before ++ entries_text entries ≡ text ++ entries_text others)

@@ -1,4 +1,4 @@
--- What `strings` and `restring` make, one part behind another.
+-- What `strings` and `restring` make, one part after another.
 use Rattle.std.proofs.Common.{◌≡◌, ℕ, true, List, [], Option, Some, None, Ok, Err, inl, inr, refl, sym, ap, subst, ◌∙◌}
 use Rattle.std.specs.Prelude.{IfOk, IfSome}
 use Rattle.std.specs.FinMap as map
@@ -71,7 +71,7 @@ pub beside_told : (compiled : Compiled) (result : Result Made (Halt Failing)) (o
 beside_told compiled result output said Answers None told = tt
 beside_told compiled result output said Answers (Some files) told = halted_beside compiled result output said (Answers files) told
 
--- One answer behind another, where the files are told.
+-- One answer after another, where the files are told.
 
 module _ {X Y : Type 0} (First : Files → Result X Fault → Type 0) (Next : Files → X → Result Y Fault → Type 0) (before : Option Files) where
   pub next_told : (value : X) → IfSome before (λ files. First files (Ok value)) → (end : Result Y (Halt Fault)) → IfSome before (λ files. Yields end (Next files value))

@@ -141,7 +141,7 @@ pub answers_so : (P : Files → Answer → Type 0) (reply : Reply) (answer : Ans
 answers_so P reply answer is None answers = tt
 answers_so P reply answer is (Some files) answers = answers answer is
 
--- A text that was put, and what was said behind it.
+-- A text that was put, and what was said after it.
 
 files_kept : (files left : Option Files) → left ≡ files → IfSome files (λ files. left ≡ Some files)
 files_kept None left same = tt

@@ -1,4 +1,4 @@
--- Words that are shown are reserved, so none of them is live behind a program.
+-- Words that are shown are reserved, so none of them is live after a program.
 use Rattle.std.proofs.Common.{◌≡◌, ◌↔◌, ◌⊎◌, inl, inr, ℕ, Bool, true, false, if◌then◌else◌, List, [], ◌∷◌, Option, Some, None, refl, sym, ap, subst, ◌∙◌}
 use Rattle.std.specs.Prelude.{◌==◌, ◌||◌, codes, is_some}
 use Rattle.std.specs.Char.{to_ascii_lowercase}

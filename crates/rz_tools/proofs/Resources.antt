@@ -1,4 +1,4 @@
--- The list behind a `resource` statement.
+-- The list after a `resource` statement.
 use Rattle.std.proofs.Common.{◌≡◌, inl, inr, Bool, List, Result, Ok, Err, refl, sym, ap, subst, ◌∙◌}
 use Rattle.std.specs.Prelude.{IfErr, IfOk}
 use Rattle.rz_core.specs.Answers.{Then}

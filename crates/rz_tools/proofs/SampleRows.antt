@@ -18,7 +18,7 @@ each_more f n =
     ap (λ k. flat_map f (range_with_len 0 k)) on ∙ ap (flat_map f) (range_more 0 n n at)
     ∙ flat_map-append f (range_with_len 0 n) (n ∷ []) ∙ ap (λ xs. flat_map f (range_with_len 0 n) ++ xs) (append-nil (f n))
 
--- a row behind others
+-- a row after others
 row_behind : (row : List ℕ) (rows : List (List ℕ)) (last : List ℕ)
     → rows_text (row ∷ (rows ++ last ∷ [])) ≡ rows_text (row ∷ rows) ++ (codes ", " ++ last)
 row_behind row rows last =
@@ -31,7 +31,7 @@ next_row f (suc n) lt =
     let at : 0 + suc n ≡ suc n = omega arith in
     ap rows_text (map-range_with_len_more f 0 (suc n) (suc n) at) ∙ row_behind (f 0) (map f (range_with_len 1 n)) (f (suc n))
 
--- Written behind what stood there.
+-- Written after what stood there.
 
 pub first_written : (f : ℕ → List ℕ) (start into new : List ℕ) (n : ℕ) → n ≤ 0
     → into ≡ start ++ rows_text (map f (range_with_len 0 n)) → new ≡ into ++ f n → new ≡ start ++ rows_text (map f (range_with_len 0 (n + 1)))

@@ -109,7 +109,7 @@ module _ (count : ℕ) (moment : Moment) (fork text : Making) (compiled : Compil
         ),
       )
 
--- the four lines, one behind the other
+-- the four lines, one after the other
 pub lines_written : (count counted : ℕ) (fork text again none first second third all : List ℕ) → none ≡ [] → counted ≡ count
     → first ≡ none ++ number_line (codes "resources ") counted → second ≡ first ++ number_line (codes "fork ") (length fork)
     → third ≡ second ++ number_line (codes "text ") (length text) → all ≡ third ++ number_line (codes "again ") (length again)

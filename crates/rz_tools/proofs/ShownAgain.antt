@@ -43,7 +43,7 @@ ForksAreReadAgain =
     (bytes : List ℕ) → IsFile bytes → (fork : Fork) → admitted bytes ≡ Ok fork → (only skip : List OsType) → AreShort (chosen only skip fork.list)
     → (known : Known) → SparesWords known.is_macro → (text : List ℕ) → ShowsEach known (chosen only skip fork.list) text → MeansAgain known text (chosen only skip fork.list)
 
--- the law of the macros behind type files
+-- the law of the macros after type files
 abbrev pub WordsAreSpared : Type 0
 WordsAreSpared =
     (around : Around) (start : Work) (names paths : List (List ℕ)) (defs : List Def) (compiled : Compiled) → AreFree defs

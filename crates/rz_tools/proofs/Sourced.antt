@@ -104,7 +104,7 @@ beside compiled answers (Err (Refused fault)) result meets says =
     made_so (λ answer. answer ≡ said_beside compiled.files compiled.work.warnings (Err fault)) (SaidBeside compiled answers) (λ answer is. (Err fault, meets, is)) result says
 beside compiled answers (Err NoMemory) result meets says = subst (λ (r : Result Made (Halt Failing)). Yields (seen making_of r) (SaidBeside compiled answers)) (sym says) tt
 
--- One part behind another, of calls that give what is made.
+-- One part after another, of calls that give what is made.
 
 module _ {X : Type 0} (First : Files → Result X Failing → Type 0) (Next : Files → X → Result Making Failing → Type 0) where
   pub then_made : (value : X) (before : Option Files) → IfSome before (λ files. First files (Ok value)) → (end : Result Making (Halt Failing))
@@ -124,7 +124,7 @@ read_stopped First Next None stop read = tt
 read_stopped First Next (Some files) stop read =
     halt_so stop (OfProgram (First files)) (Then (First files) (Next files)) (λ failing is. inr (failing, is, refl)) read
 
--- what is made behind a program that was read, whose state is not told
+-- what is made after a program that was read, whose state is not told
 pub read_made : {Y : Type 0} (First : Files → Result State Failing → Type 0) (Next : Files → State → Result Y Failing → Type 0) (program : Program) (before : Option Files)
     → IfSome before (λ files. Yields (Ok program) (OfProgram (First files))) → (end : Result Y (Halt Failing))
     → IfSome before (λ files. (s : State) → IsProgram program s → Yields end (Next files s)) → IfSome before (λ files. Yields end (Then (First files) (Next files)))
@@ -132,7 +132,7 @@ read_made First Next program None read end next = tt
 read_made First Next program (Some files) read end next =
     yields_so (Next files read.0) (Then (First files) (Next files)) (λ answer is. inl (read.0, read.2, is)) end (next read.0 read.1)
 
--- What there is to begin with behind a program, and what is made of it.
+-- What there is to begin with after a program, and what is made of it.
 
 module _ {X Y : Type 0} (Answers : Files → Result X Fault → Type 0) (Next : Files → State → X → Result Y Failing → Type 0) (program : Program) where
   pub begun_made : (begun : X) (before : Option Files) → IfSome before (λ files. Answers files (Ok begun)) → (end : Result Y (Halt Failing))

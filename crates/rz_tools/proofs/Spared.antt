@@ -1,4 +1,4 @@
--- No word of statements and attributes is a macro behind sources.
+-- No word of statements and attributes is a macro after sources.
 use Rattle.std.proofs.Common.{◌≡◌, ◌⊎◌, inl, inr, ℕ, List, Ok, Err, None, sym, subst}
 use Rattle.std.specs.declared.result.Result.{Result}
 use Rattle.rz_folder.specs.Folder.{Files}
@@ -13,7 +13,7 @@ use Rattle.rz_tools_values.specs.Around.{Around}
 use Rattle.rz_tools_work.specs.Work.{Work}
 use Rattle.rz_tools.proofs.Reserved.{words_spared, AttributesAreSpelled, KeywordsAreSpelled}
 
--- the law of what is live behind a program
+-- the law of what is live after a program
 abbrev pub LiveNamesAreFree : Type 0
 LiveNamesAreFree =
     (files : Files) (tool : Tool) (names paths : List (List ℕ)) (defs : List Def) (state : State) → AreFree defs

@@ -1,4 +1,4 @@
--- What the type files mean, behind the types that the file of templates declares.
+-- What the type files mean, after the types that the file of templates declares.
 use Rattle.std.proofs.Common.{inl, inr, List, [], Ok}
 use Rattle.rz_core.proofs.Once.{ok_or_err}
 use Rattle.rz_core.specs.declared.moment.Moment.{Moment}
@@ -9,7 +9,7 @@ use Rattle.rz_tools_tmpl.specs.Templates.{TypesOf}
 use Rattle.rz_tools_work.specs.Work.{begun}
 use Rattle.rz_types_table.specs.Table.{Declaration}
 
--- they are compiled behind these types
+-- they are compiled after these types
 pub record AreBehind (moment : Moment) (asked : TypesAsked) (files : Files) (made : Compiled) : Type 0 where
   pub types : List Declaration
   pub declared : TypesOf asked.tmpl files (Ok types)

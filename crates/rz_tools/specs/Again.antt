@@ -41,7 +41,7 @@ SparesWords is_macro = AllByRecursion (λ word. is_macro word ≡ false) shown_w
 abbrev pub HasMacros : (List ℕ → Bool) → Live → Type 0
 HasMacros is_macro live = (name : List ℕ) → is_some (live (str_to_ascii_lowercase name)) ≡ is_macro name
 
--- the tokens mean these resources to Rez, where what is known is known: as statements, behind the same declarations and
+-- the tokens mean these resources to Rez, where what is known is known: as statements, after the same declarations and
 -- at the same moment, they make this list of nothing, declare nothing and are warned of nowhere
 abbrev pub MeanResources : Known → List Token → List Resource → Type 0
 MeanResources known tokens list =
@@ -50,7 +50,7 @@ MeanResources known tokens list =
     → Means around (record { types = known.types; list = []; warnings = warnings }) statements
     (Ok (record { types = known.types; list = list; warnings = warnings })))
 
--- a text means these resources to Rez, where so much is known: as a file of whatever name, behind whatever was read
+-- a text means these resources to Rez, where so much is known: as a file of whatever name, after whatever was read
 -- before with the same names of macros, it is read to its end, leaves all macros as they are, and its tokens mean the
 -- resources
 pub record MeansAgain (known : Known) (text : List ℕ) (list : List Resource) : Type 0 where
@@ -77,7 +77,7 @@ CompilesAlone text list =
 abbrev pub HoldsFile : Option Form → List ℕ → Type 0
 HoldsFile form bytes = (file : MacFile) → file_in None form bytes [] ≡ Ok file → IsFile file.res_fork
 
--- where the fork's file holds such a fork, the type files mean something, and behind what the output had stands a text
+-- where the fork's file holds such a fork, the type files mean something, and after what the output had stands a text
 -- that under it means again the resources that are shown
 abbrev pub ShowsAgain : Moment → DeRezAsked → Files → List ℕ → Option (List ℕ) → Type 0
 ShowsAgain moment asked files before after =

@@ -27,7 +27,7 @@ abbrev pub IsPutBack : List Declaration → Moment → List Resource → List �
 IsPutBack types moment list text =
     (file : ℕ) → (entries : List Entry) × HasEntries file text (Ok entries) × ((over : Bool) → Applied types moment over list entries (own_answer over list entries))
 
--- where the fork's file holds a fork, the type files mean something, and behind what the output had stands the text of exactly the
+-- where the fork's file holds a fork, the type files mean something, and after what the output had stands the text of exactly the
 -- catalogue that the fork's resources have under them, which gives these resources again
 abbrev pub ListsBack : Moment → StringsAsked → Files → List ℕ → Option (List ℕ) → Type 0
 ListsBack moment asked files before after =

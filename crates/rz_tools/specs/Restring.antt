@@ -66,13 +66,13 @@ abbrev pub IsChangedBy : Moment → List Declaration → RestringAsked → Base 
 IsChangedBy moment types asked base entries =
     Then (Applied types moment asked.over base.fork.list entries) (IsOutput (target_named asked.output) moment base)
 
--- what the fork's file holds, then the entries of the catalogue behind so many files, and then the file that is written
+-- what the fork's file holds, then the entries of the catalogue after so many files, and then the file that is written
 abbrev pub IsRestrungUnder : Moment → List Declaration → ℕ → RestringAsked → Files → Result (List ℕ) Fault → Type 0
 IsRestrungUnder moment types file asked files =
     Then (λ base. base_held asked.from asked.file (map.get files asked.file) ≡ base) (λ base.
     Then (HasCatalogueFile file asked.catalogue (map.get files asked.catalogue)) (IsChangedBy moment types asked base))
 
--- the catalogue is a file behind those that were opened
+-- the catalogue is a file after those that were opened
 abbrev pub with_file : Compiled → List ℕ → Compiled
 with_file compiled name = record compiled { files = compiled.files ++ name ∷ [] }
 

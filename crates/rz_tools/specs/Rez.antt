@@ -79,7 +79,7 @@ around_of moment asked files = record { setting = setting_of moment asked; paths
 abbrev pub HasOutput : Moment → Target → Base → Compiled → Result Making Failing → Type 0
 HasOutput moment target base compiled = SaidBeside compiled (IsOutput target moment base compiled.work.list)
 
--- the file of what the statements of a program make, behind the types and the resources to begin with
+-- the file of what the statements of a program make, after the types and the resources to begin with
 abbrev pub IsMadeBehind : Moment → RezAsked → Files → State → List Declaration → Base → Result Making Failing → Type 0
 IsMadeBehind moment asked files program types base =
     Then (HasWork (around_of moment asked files) (begun types base.fork.list) program) (HasOutput moment asked.target base)

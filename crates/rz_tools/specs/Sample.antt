@@ -50,7 +50,7 @@ abbrev pub ShowsSample : Moment → List ℕ → Result Making Failing → Type 
 ShowsSample moment fork =
     Shows moment (derez_of (codes "fork") (codes "types")) (in_memory ((codes "fork", fork) ∷ (codes "types", sample_types) ∷ []))
 
--- and its text is compiled behind these types
+-- and its text is compiled after these types
 abbrev pub CompilesAgain : Moment → List ℕ → Result Making Failing → Type 0
 CompilesAgain moment text =
     Compiles moment (rez_of (codes "types" ∷ codes "text" ∷ [])) (in_memory ((codes "types", sample_types) ∷ (codes "text", text) ∷ []))
@@ -65,7 +65,7 @@ sample_lines count fork text again =
     number_line (codes "resources ") count ++ number_line (codes "fork ") (length fork) ++ number_line (codes "text ") (length text)
     ++ number_line (codes "again ") (length again)
 
--- the lines of a sample, behind a fork and its text, and behind a fork; warnings, of which none is known to come, aren't said
+-- the lines of a sample, after a fork and its text, and after a fork; warnings, of which none is known to come, aren't said
 abbrev pub IsSampledWith : ℕ → Moment → List ℕ → List ℕ → Result Making Failing → Type 0
 IsSampledWith count moment fork text =
     Then (CompilesAgain moment text) (λ again answer. answer ≡ Ok (record { bytes = sample_lines count fork text again.bytes; said = [] }))

@@ -16,7 +16,7 @@ use Rattle.rz_tools_work.specs.Work.{Work}
 use Rattle.rz_tools.specs.Step.{Means, WarnedFault}
 use Rattle.rz_tools_answer.specs.Warning.{said_beside, warning_lines}
 
--- what the statements of sources made, which names, in whatever case, are macros behind them, and the files that were opened
+-- what the statements of sources made, which names, in whatever case, are macros after them, and the files that were opened
 pub record Compiled : Type 0 where
   pub work : Work
   pub is_macro : List ℕ → Bool
@@ -34,7 +34,7 @@ Unsaid answers (Err failing) = answers (Err (record { fault = failing.fault; fil
 abbrev pub unsaid : List (List ℕ) → Fault → Failing
 unsaid files fault = record { fault = fault; files = files; said = [] }
 
--- what there is to begin with behind a program, or its fault, before which nothing was said
+-- what there is to begin with after a program, or its fault, before which nothing was said
 abbrev pub Begins : {X : Type 0} → State → (Result X Fault → Type 0) → Result X Failing → Type 0
 Begins program answers (Ok begun) = answers (Ok begun)
 Begins program answers (Err failing) = answers (Err failing.fault) × (failing ≡ unsaid program.files failing.fault)

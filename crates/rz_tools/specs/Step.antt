@@ -33,16 +33,16 @@ done_by tools.DeRez (Lists one) = Empty
 done_by tools.DeRez (Compiles one) = Empty
 done_by tools.DeRez (Declares one) = Declares one
 
--- the list behind a `data` statement on this line
+-- the list after a `data` statement on this line
 abbrev pub list_behind : Around → Mark → List Resource → Raw → Result (List Resource) Fault
 list_behind around mark list raw = resource_of around mark raw >>= list_with mark around.setting.over list
 
--- the list behind a `resource` statement on this line
+-- the list after a `resource` statement on this line
 abbrev pub IsListBehind : Around → Mark → List Declaration → List Resource → Compile → Result (List Resource) Fault → Type 0
 IsListBehind around mark types list one =
     Then (IsResource around mark types one) (λ resource answer. answer ≡ list_with mark around.setting.over list resource)
 
--- what is made behind a statement on this line
+-- what is made after a statement on this line
 abbrev pub IsBehind : Around → Mark → Work → Statement → Result Work Fault → Type 0
 IsBehind around mark work Empty = λ answer. answer ≡ Ok work
 IsBehind around mark work (Data raw) = λ answer. answer ≡ with_list work (list_behind around mark work.list raw)
@@ -56,7 +56,7 @@ pub record WarnedFault : Type 0 where
   pub fault : Fault
   pub warnings : List Fault
 
--- an answer whose fault comes behind these warnings
+-- an answer whose fault comes after these warnings
 abbrev pub WithWarnings : {X : Type 0} → List Fault → (Result X Fault → Type 0) → Result X WarnedFault → Type 0
 WithWarnings warnings answers (Ok value) = answers (Ok value)
 WithWarnings warnings answers (Err stopped) = answers (Err stopped.fault) × (stopped.warnings ≡ warnings)
@@ -82,6 +82,6 @@ pub record IsSpan (tokens : List Token) (span : Span) : Type 0 where
   pub some : span.start < span.end
   pub within : span.end ≤ length tokens
 
--- what a call gave, with the work that it left, or its fault behind the warnings that are left
+-- what a call gave, with the work that it left, or its fault after the warnings that are left
 abbrev pub with_work : Work → Result (Unit {0}) (Halt Fault) → Result Work (Halt WarnedFault)
 with_work work result = left work (refusal_seen (λ fault. record { fault = fault; warnings = work.warnings }) result)

@@ -45,7 +45,7 @@ types_setting moment asked = record { tool = tools.DeRez; redeclare = asked.rede
 abbrev pub types_around : Moment → TypesAsked → Files → Around
 types_around moment asked files = record { setting = types_setting moment asked; paths = []; files = files }
 
--- what the statements of a program make, behind the types that the file of templates declares and no resource
+-- what the statements of a program make, after the types that the file of templates declares and no resource
 abbrev pub AreTyped : Moment → TypesAsked → Files → State → Result Compiled Failing → Type 0
 AreTyped moment asked files program =
     Then (Begins program (TypesOf asked.tmpl files)) (λ types. HasWork (types_around moment asked files) (begun types []) program)
@@ -55,6 +55,6 @@ AreTyped moment asked files program =
 abbrev pub TypesAre : Moment → TypesAsked → Files → Result Compiled Failing → Type 0
 TypesAre moment asked files = Then (IsProgramOf (types_around moment asked files) asked.files asked.paths asked.defs) (AreTyped moment asked files)
 
--- what is known behind the type files
+-- what is known after the type files
 abbrev pub known_by : Moment → Compiled → Known
 known_by moment compiled = record { types = compiled.work.types; is_macro = compiled.is_macro; moment = moment }

@@ -12,7 +12,7 @@ use rz_core::{Bytes, Fault, FileNames, Halt, Stop};
 use rz_tools_answer::{Failing, Faults, Made, say_beside};
 use std::alloc::Global;
 
-/// What a command makes by a call that reads files, with the lines of the warnings, or the refusal behind them.
+/// What a command makes by a call that reads files, with the lines of the warnings, or the refusal after them.
 pub fn halt_beside(
     alloc: Global,
     output: Result<Bytes, Halt<Fault>>,

@@ -89,7 +89,7 @@ pub fn every_answer()
     every_application();
 }
 
-/// A law, with nothing to run: no reserved word is a macro behind sources, if the definitions before them are of none: so
+/// A law, with nothing to run: no reserved word is a macro after sources, if the definitions before them are of none: so
 /// no word of statements and attributes is.
 pub fn reserved_words_are_spared()
     ensures { (around : Around) (start : Work) (names paths : List (List ℕ)) (defs : List Def) (compiled : Compiled) → AreFree defs

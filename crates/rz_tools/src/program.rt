@@ -79,7 +79,7 @@ pub fn run<F: Folder, O: Sink, E: Sink>(
     ensures every_usage { (position : ℕ) → IsMisplaced (map string_bytes words.now) position
         → (result ≡ Outcome.Usage (record { position = position })) ⊎ (result ≡ Outcome.NoMemory) }
 
-    // What is shown of a fork means the resources again that are shown, when rez reads it behind the same declarations.
+    // What is shown of a fork means the resources again that are shown, when rez reads it after the same declarations.
     ensures again { result ≡ Outcome.Done → (asked : DeRezAsked) → IsDeRez (map string_bytes words.now) asked
         → IfSome (F.files folder.old) (λ files. IfSome (O.written out.old) (λ before. ShowsAgain moment asked files before (O.written out.new))) }
 

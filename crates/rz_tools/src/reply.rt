@@ -35,7 +35,7 @@ pub enum Reply {
 
 impl Reply {
     /// Carries it out: a plan as [`carry_out`] does; of a fork the text is put line by line, and then what is to be said is
-    /// said, behind it the line of what went wrong. NoMemory comes for a text alone.
+    /// said, after it the line of what went wrong. NoMemory comes for a text alone.
     pub fn carry_out<F: Folder, O: Sink, E: Sink>(
         self,
         alloc: Global,

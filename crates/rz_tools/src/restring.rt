@@ -120,7 +120,7 @@ fn restring_fork<F: Folder>(
     }
 }
 
-/// The same under what the type files made. The catalogue counts as a file behind them.
+/// The same under what the type files made. The catalogue counts as a file after them.
 fn restring_under<F: Folder>(
     alloc: Global,
     folder: &mut F,
@@ -164,7 +164,7 @@ fn restring_under<F: Folder>(
     made
 }
 
-/// The file to write under these types, where the catalogue is behind so many files.
+/// The file to write under these types, where the catalogue is after so many files.
 fn restrung<F: Folder>(
     alloc: Global,
     folder: &mut F,
@@ -209,7 +209,7 @@ fn restrung_by<F: Folder>(
     }
 }
 
-/// The entries of the catalogue of this name, which is behind so many files.
+/// The entries of the catalogue of this name, which is after so many files.
 fn read_catalogue<F: Folder>(
     alloc: Global,
     folder: &mut F,

@@ -92,7 +92,7 @@ fn target_of<'a>(command: &Command<'a>) -> Target<'a>
     }
 }
 
-/// The answer to the words of `rez`: the sources that they name are compiled into a resource fork, behind what there is to begin
+/// The answer to the words of `rez`: the sources that they name are compiled into a resource fork, after what there is to begin
 /// with, and its file is to be written. The sources are read first, then the file of templates, then the file to
 /// begin with, then the files of statements.
 pub fn plan_rez<F: Folder>(
@@ -141,7 +141,7 @@ pub fn compile<F: Folder>(
     }
 }
 
-/// The file that a program means, behind the types of the file of templates.
+/// The file that a program means, after the types of the file of templates.
 fn compile_under<F: Folder>(
     alloc: Global,
     folder: &mut F,
@@ -163,7 +163,7 @@ fn compile_under<F: Folder>(
     }
 }
 
-/// The file that a program means, behind these types and what else there is to begin with.
+/// The file that a program means, after these types and what else there is to begin with.
 fn compile_from_base<F: Folder>(
     alloc: Global,
     folder: &mut F,
@@ -186,7 +186,7 @@ fn compile_from_base<F: Folder>(
     }
 }
 
-/// The file that a program means, behind this.
+/// The file that a program means, after this.
 fn compile_behind<F: Folder>(
     alloc: Global,
     folder: &mut F,

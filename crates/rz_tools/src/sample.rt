@@ -110,7 +110,7 @@ fn whole_text(alloc: Global, shown: ForkShown) -> Result<Made, NoMemory>
     }
 }
 
-/// The fork of a text, behind the type of the source.
+/// The fork of a text, after the type of the source.
 fn compile_text(alloc: Global, text: &Bytes, moment: Moment) -> Result<Made, Halt<Failing>>
     ensures made { Yields (seen making_of result) (CompilesAgain moment text.now) }
     ensures sayable { OnRefusal result IsSayable }

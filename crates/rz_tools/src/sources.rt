@@ -31,7 +31,7 @@ use std::alloc::Global;
 pub struct Compiled {
     /// What their statements made.
     pub work: Work,
-    /// The names, in lower case, that are macros behind them.
+    /// The names, in lower case, that are macros after them.
     pub macros: Words,
     /// The names under which files were opened.
     pub files: FileNames,
@@ -84,7 +84,7 @@ pub fn read_program<F: Folder>(
 }
 
 /// What the statements of a program make of the work to begin with; or what stopped the command, with the lines of what was
-/// warned of before. The files of statements are looked for behind the paths. No file changes.
+/// warned of before. The files of statements are looked for after the paths. No file changes.
 pub fn compile_program<F: Folder>(
     alloc: Global,
     folder: &mut F,

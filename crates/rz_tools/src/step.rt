@@ -32,7 +32,7 @@ use std::alloc::Global;
 /// and `type` alone does anything. A resource with the type and id of an earlier one takes its place, unless that one is
 /// protected and protected ones aren't given up (219), and every other one goes to the end. A type that is declared again
 /// goes to the end of the table, and is warned of unless the setting allows it. The files of statements are looked for
-/// under their names and then behind the paths; no file changes. One statement is held at a time. Work and memory are in
+/// under their names and then after the paths; no file changes. One statement is held at a time. Work and memory are in
 /// proportion to the tokens of `data` statements, and of `resource` statements also to the fields of their types; a name
 /// in an item is looked for among the symbols of its field. Each declaration of a type and each `resource` statement goes
 /// once over the declarations of its type, and a type that is declared again over the whole table; a declaration that

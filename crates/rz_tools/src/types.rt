@@ -42,7 +42,7 @@ pub struct TypesWords<'a> {
 }
 
 impl<'a> TypesWords<'a> {
-    /// What these items ask for, where the files behind so many are the type files.
+    /// What these items ask for, where the files after so many are the type files.
     pub fn behind(
         alloc: Global,
         files: &FileNames,
@@ -62,7 +62,7 @@ impl<'a> TypesWords<'a> {
     }
 }
 
-/// The names behind so many.
+/// The names after so many.
 fn names_behind(alloc: Global, names: &FileNames, count: u64) -> Result<FileNames, NoMemory>
     requires { count ≤ length names.now }
     ensures { IfOk result (λ behind. behind ≡ drop count names.now) }
@@ -102,7 +102,7 @@ pub fn compile_types<F: Folder>(
     }
 }
 
-/// What a program means, behind the types of the file of templates.
+/// What a program means, after the types of the file of templates.
 fn compile_under<F: Folder>(
     alloc: Global,
     folder: &mut F,

@@ -1,4 +1,4 @@
--- Puts of lines, one behind the other.
+-- Puts of lines, one after the other.
 use Rattle.std.proofs.Common.{◌≡◌, ℕ, ◌+◌, ◌≤◌, List, ◌++◌, length, take, Some, None, refl, sym, ap, subst, ◌∙◌, arith, append_assoc}
 use Rattle.std.specs.declared.option.Option.{Option}
 use Rattle.rz_folder.proofs.Fronts.{flushed, front_behind, front_of}

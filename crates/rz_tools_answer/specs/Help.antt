@@ -4,7 +4,7 @@ use Rattle.std.specs.List.{flat_map}
 use Rattle.rz_tools_args.specs.Syntax.{commands, syntax_of}
 use Rattle.rz_tools_args.specs.declared.name.CommandName.{CommandName}
 
--- the usage of a command, behind the program's name
+-- the usage of a command, after the program's name
 unfoldable pub usage_of : CommandName → List ℕ
 usage_of command = codes "  rezkit " ++ (syntax_of command).usage
 

@@ -21,7 +21,7 @@ pub record IsSayable (failing : Failing) : Type 0 where
   pub nameable : IsNameable (length failing.files) failing.fault
   pub warned : IsWarningText failing.said
 
--- the call gave these bytes and the lines of the warnings of these files, or this fault behind them; where memory was
+-- the call gave these bytes and the lines of the warnings of these files, or this fault after them; where memory was
 -- refused for the output, it was refused
 abbrev pub SaysBeside : List (List ℕ) → List Fault → Result (List ℕ) (Stop Fault) → Result Made (Halt Failing) → Type 0
 SaysBeside files warnings (Ok bytes) result = Yields (seen making_of result) (λ answer. answer ≡ said_beside files warnings (Ok bytes))

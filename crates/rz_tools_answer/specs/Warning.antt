@@ -23,7 +23,7 @@ warning_lines files warnings = flat_map (fault_line files) warnings
 abbrev pub IsWarningText : List ℕ → Type 0
 IsWarningText text = (files : List (List ℕ)) × (warnings : List Fault) × AreWarnings (length files) warnings × (text ≡ warning_lines files warnings)
 
--- bytes and the lines of the warnings of these files, or a fault behind these lines
+-- bytes and the lines of the warnings of these files, or a fault after these lines
 abbrev pub said_beside : List (List ℕ) → List Fault → Result (List ℕ) Fault → Result Making Failing
 said_beside files warnings (Ok bytes) = Ok (record { bytes = bytes; said = warning_lines files warnings })
 said_beside files warnings (Err fault) = Err (record { fault = fault; files = files; said = warning_lines files warnings })

@@ -19,7 +19,7 @@ pub fn help_text(alloc: Global) -> Result<Bytes, NoMemory>
     Ok(text)
 }
 
-/// Appends the usage of a command, behind the program's name.
+/// Appends the usage of a command, after the program's name.
 #[tactic(auto, unfolding(crate::specs::Help::usage_of))]
 fn append_usage(command: CommandName, text: &mut Bytes) -> Result<(), NoMemory>
     ensures { OnOk result (text.new ≡ text.old ++ usage_of command) }

@@ -14,7 +14,7 @@ use std::alloc::Global;
 /// A list of faults.
 pub type Faults = Listing<Fault>;
 
-/// What a command makes, with the lines of the warnings, or the refusal behind them.
+/// What a command makes, with the lines of the warnings, or the refusal after them.
 pub fn say_beside(
     alloc: Global,
     output: Result<Bytes, Stop<Fault>>,
@@ -39,7 +39,7 @@ pub fn say_beside(
     }
 }
 
-/// The refusal with a fault, behind the lines of the warnings.
+/// The refusal with a fault, after the lines of the warnings.
 pub fn refusal(
     alloc: Global,
     fault: Fault,

@@ -39,7 +39,7 @@ module _ (one_text : (source text other : List ℕ) → IsTextOf source text →
   -- Items.
 
   module _ (syntax : Syntax) (first : List ℕ) (behind : Words) where
-    -- an option behind which a value stands
+    -- an option after which a value stands
     module _ (no_place : is_place first ≡ false) (no_switch : named syntax.switches first ≡ None) (flag : Flag) (named_so : named syntax.flags first ≡ Some flag) where
       valued : (words : Words) → IsFront syntax (first ∷ words)
       valued [] = inr (1, stuck_missing syntax back first flag no_place no_switch named_so)
@@ -62,13 +62,13 @@ module _ (one_text : (source text other : List ℕ) → IsTextOf source text →
         by_test (IsFront syntax (first ∷ behind)) (is_place first) (λ holds. inl (Place first, (first ∷ [], behind, refl, place_item first refl holds refl)))
         (λ no_place. switched no_place (named syntax.switches first) refl)
 
-  -- Items one behind the other.
+  -- Items one after the other.
 
   module _ (command : CommandName) (words : Words) where
     abbrev syntax : Syntax
     syntax = syntax_of command
 
-    -- the words behind the name of a command are items, or stop at a position
+    -- the words after the name of a command are items, or stop at a position
     abbrev AreAllRead : Type 0
     AreAllRead =
         ((items : List Item) × AreItems syntax words items × MayBegin syntax.places (places_of items)) ⊎ ((position : ℕ) × IsMisplaced (syntax.name ∷ words) position)

@@ -41,7 +41,7 @@ module _ (syntax : Syntax) where
         says = says;
       }
 
-  -- the value is the one that stands behind, and the option is the one that the first word is
+  -- the value is the one that stands after, and the option is the one that the first word is
   value_is : (first spelled : List ℕ) (rest : List (List ℕ)) (flag : Flag) → named syntax.flags first ≡ Some flag → (v : Valued first (spelled ∷ rest))
       → IsValue (sort_of flag) spelled v.value
   value_is first spelled rest flag named_so v =

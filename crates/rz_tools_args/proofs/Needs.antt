@@ -49,7 +49,7 @@ all_there items (need ∷ needs) are =
     and_from (list_any (says need) items) (list_all (λ flag. list_any (says flag) items) needs)
     (true_from_ne_false (list_any (says need) items) (λ fails. are.0 (is_none need items fails))) (all_there items needs are.1)
 
--- behind other items they still are
+-- after other items they still are
 any_behind : (flag : Flag) (front items : List Item) → list_any (says flag) items ≡ true → list_any (says flag) (front ++ items) ≡ true
 any_behind flag [] items is = is
 any_behind flag (one ∷ front) items is = or_right (says flag one) (list_any (says flag) (front ++ items)) (any_behind flag front items is)

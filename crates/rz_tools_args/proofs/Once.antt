@@ -121,7 +121,7 @@ module _ (one_text : (source text others : List ℕ) → IsTextOf source text �
         let rest = one_list b items others are (subst (λ (ws : Words). AreItems syntax ws others) (sym same.1) are_too) in
         λ i. first i ∷ rest i
 
-    -- behind a front of items come the items of the rest
+    -- after a front of items come the items of the rest
     pub behind_items : (front rest : Words) (items others : List Item) → AreItems syntax front items → AreItems syntax (front ++ rest) others
         → (behind : List Item) × AreItems syntax rest behind × (others ≡ items ++ behind)
     behind_items front rest [] others none are = (others, subst (λ (ws : Words). AreItems syntax (ws ++ rest) others) none are, refl)

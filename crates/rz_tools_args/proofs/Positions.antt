@@ -118,7 +118,7 @@ module _ (one_text : (source text others : List ℕ) → IsTextOf source text �
   abbrev name : List ℕ
   name = (syntax_of command).name
 
-  -- behind items no item stands
+  -- after items no item stands
   never : (front rest : Words) (items : List Item) → AreItems syntax front items → rest ≢ [] → ((one : Item) → BeginsWith syntax rest one → ⊥)
       → (any : Asked) → IsCommand (name ∷ (front ++ rest)) any → ⊥
   never front rest items read filled none any is =

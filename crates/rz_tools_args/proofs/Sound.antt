@@ -1,4 +1,4 @@
--- What each table of words keeps, and what follows of it: an option stands alone, or a value stands behind it.
+-- What each table of words keeps, and what follows of it: an option stands alone, or a value stands after it.
 use Rattle.std.proofs.Common.{◌≡◌, inl, inr, ℕ, true, false, List, [], ◌∷◌, Option, Some, None, refl, sym, ap, ◌∙◌}
 use Rattle.std.specs.Prelude.{◌&&◌, ◌||◌, leb, not, Bool, is_some, if◌then◌else◌}
 use Rattle.std.specs.List.{list_all, list_any}

@@ -11,7 +11,7 @@ at_end : (front behind : List ℕ) (b : ℕ) → get_or (front ++ b ∷ behind) 
 at_end [] behind b = refl
 at_end (x ∷ front) behind b = at_end front behind b
 
--- bytes with an `=` behind some have one
+-- bytes with an `=` after some have one
 pub has_sign : (value front behind : List ℕ) → value ≡ front ++ 61 ∷ behind → HasNoSign value → ⊥
 has_sign value front behind is lacks =
     lacks (length front) (omega (arith, ap (λ (bs : List ℕ). length bs) is, length-append front (61 ∷ behind)))

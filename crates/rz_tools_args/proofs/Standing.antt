@@ -65,7 +65,7 @@ are_enough (places.AtLeast count) words are = are
 are_enough (places.Exactly count) words are = omega (arith, are)
 are_enough (places.Count most) words (number, is, some, few) = omega (arith, ap (λ (ws : Words). length ws) is)
 
--- What is missing behind a front.
+-- What is missing after a front.
 
 pub record Filled (places : Places) (words : Words) : Type 0 where
   pub rest : Words

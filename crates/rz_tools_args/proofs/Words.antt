@@ -1,4 +1,4 @@
--- The words of items, one behind the other.
+-- The words of items, one after the other.
 use Rattle.std.proofs.Common.{◌≡◌, ℕ, suc, ◌+◌, ◌≤◌, true, false, List, [], ◌∷◌, ◌++◌, length, take, refl, sym, ap, subst, ◌∙◌, arith, append_assoc, append-nil, length-append}
 use Rattle.std.specs.Prelude.{is_some}
 use Rattle.std.proofs.lemmas.Bool.{or_left, or_right}
@@ -36,7 +36,7 @@ few_alone (Place word) = omega arith
 few_alone (Valued flag value) = omega arith
 few_alone (On switch) = omega arith
 
--- the words outside options of items and of those behind them
+-- the words outside options of items and of those after them
 pub places_more : (items others : List Item) → places_of (items ++ others) ≡ places_of items ++ places_of others
 places_more [] others = refl
 places_more (Place word ∷ items) others = ap (λ (ws : Words). word ∷ ws) (places_more items others)
@@ -103,7 +103,7 @@ module _ (syntax : Syntax) (sound : is_sound syntax ≡ true) where
         length-append (places_of (one ∷ [])) (places_of items),
       )
 
--- items behind items
+-- items after items
 pub append_items : (syntax : Syntax) (front rest : Words) (items others : List Item) → AreItems syntax front items → AreItems syntax rest others
     → AreItems syntax (front ++ rest) (items ++ others)
 append_items syntax front rest [] others none are = subst (λ (ws : Words). AreItems syntax (ws ++ rest) others) (sym none) are

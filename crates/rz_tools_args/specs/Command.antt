@@ -65,7 +65,7 @@ pub data IsItem (syntax : Syntax) (words : List (List ℕ)) (item : Item) : Type
   value_item : (word spelled : List ℕ) (flag : Flag) (value : Value) → words ≡ word ∷ spelled ∷ [] → named syntax.flags word ≡ Some flag
       → IsValue (sort_of flag) spelled value → item ≡ Valued flag value → IsItem syntax words item
 
--- the words are these items, one behind the other
+-- the words are these items, one after the other
 abbrev pub AreItems : Syntax → List (List ℕ) → List Item → Type 0
 AreItems syntax words [] = words ≡ []
 AreItems syntax words (item ∷ items) =

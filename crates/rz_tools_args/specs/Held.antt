@@ -64,19 +64,19 @@ size_of (command.On switch) = 1
 abbrev pub IsCount : ℕ → List ℕ → Type 0
 IsCount most word = (number : ℕ) × (word ≡ decimal_of number) × (1 ≤ number) × (number ≤ most)
 
--- behind so many words outside options one more may stand, and be this
+-- after so many words outside options one more may stand, and be this
 abbrev pub MayStand : Places → ℕ → List ℕ → Type 0
 MayStand (places.AtLeast fewest) count word = Unit {0}
 MayStand (places.Exactly most) count word = count < most
 MayStand (places.Count most) count word = (count ≡ 0) × IsCount most word
 
--- behind so many words outside options this item may stand
+-- after so many words outside options this item may stand
 abbrev pub MayFollow : Places → ℕ → command.Item → Type 0
 MayFollow places count (command.Place word) = MayStand places count word
 MayFollow places count (command.Valued flag said) = Unit {0}
 MayFollow places count (command.On switch) = Unit {0}
 
--- these words may stand outside options, and more behind them if they are too few
+-- these words may stand outside options, and more after them if they are too few
 abbrev pub MayBegin : Places → List (List ℕ) → Type 0
 MayBegin (places.AtLeast fewest) words = Unit {0}
 MayBegin (places.Exactly most) words = length words ≤ most

@@ -12,7 +12,7 @@ use Rattle.rz_tools_args.specs.declared.name.CommandName.TheVariants as names
 use Rattle.rz_tools_args.specs.declared.syntax.Places.{Places}
 use Rattle.rz_tools_args.specs.declared.syntax.Places.TheVariants as places
 
--- what the value behind an option is
+-- what the value after an option is
 abbrev pub sort_of : Flag → Sort
 sort_of flags.Output = sorts.Name
 sort_of flags.Path = sorts.Name
@@ -27,8 +27,8 @@ sort_of flags.Into = sorts.Form
 sort_of flags.From = sorts.Form
 sort_of flags.Templates = sorts.Name
 
--- What a command takes: its name, the options behind which a value stands, the options without a value, what stands outside
--- options, and the options that must be there; and how its usage is told, behind the program's name.
+-- What a command takes: its name, the options after which a value stands, the options without a value, what stands outside
+-- options, and the options that must be there; and how its usage is told, after the program's name.
 pub record Syntax : Type 0 where
   pub name : List ℕ
   pub flags : List (List ℕ × Flag)

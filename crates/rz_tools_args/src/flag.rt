@@ -1,9 +1,9 @@
-//! Options: those behind which a value stands, and those without one.
+//! Options: those after which a value stands, and those without one.
 
 ghost use Rattle.std.specs.Prelude.{◌≡◌};
 ghost use Rattle.rz_tools_args.specs.Syntax.{sort_of};
 
-/// An option behind which a value stands.
+/// An option after which a value stands.
 #[derive(Clone, Copy, Debug, PartialEq, Eq)]
 pub enum Flag {
     /// `-o`: the name of the file to write.
@@ -32,7 +32,7 @@ pub enum Flag {
     Templates,
 }
 
-/// What the value behind an option is.
+/// What the value after an option is.
 #[derive(Clone, Copy, Debug)]
 pub enum Sort {
     /// A name of a file, or a path.
@@ -61,7 +61,7 @@ pub enum Switch {
 }
 
 impl Flag {
-    /// What the value behind the option is.
+    /// What the value after the option is.
     pub fn sort(self) -> Sort
         ensures { result ≡ sort_of self }
     {

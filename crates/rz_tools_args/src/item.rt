@@ -63,7 +63,7 @@ impl Item<'_> {
         }
     }
 
-    /// Whether it may stand behind so many words outside options.
+    /// Whether it may stand after so many words outside options.
     pub fn may_follow(&self, places: Places, count: u64) -> bool
         ensures { IsTrue result ↔ MayFollow places count (item self.now) }
     {
@@ -92,7 +92,7 @@ pub struct Misfit {
 }
 
 /// The item of a command at the front of words, or how many of them can begin one. They are a first one and those
-/// behind.
+/// after.
 pub fn read_item<'a>(
     alloc: Global,
     takes: Syntax,

@@ -27,7 +27,7 @@ pub struct UsageFault {
     pub position: u64,
 }
 
-/// The command that the words behind the program's name are, or the position of the first word that can't
+/// The command that the words after the program's name are, or the position of the first word that can't
 /// stand where it stands. `syntax_of` has the table of all that may stand where:
 /// - `rez` with sources, at least one, and in whatever order `-o name`, `-t type`, `-c creator`, `-form form`,
 ///   `-tmpl file`, `-i path`, `-s path`, `-d name[=text]`, `-u name`, `-rd`, `-a`, `-ov` and `-ro`, each as often as may
@@ -65,7 +65,7 @@ fn read_all<'a>(alloc: Global, words: &'a [String]) -> Result<Command<'a>, Stop<
     }
 }
 
-/// The words behind the name of a command.
+/// The words after the name of a command.
 fn read_command<'a>(
     alloc: Global,
     name: CommandName,
@@ -97,7 +97,7 @@ struct ReadItems<'a> {
     places: u64,
 }
 
-/// The items behind the name of a command.
+/// The items after the name of a command.
 fn read_items<'a>(
     alloc: Global,
     name: CommandName,

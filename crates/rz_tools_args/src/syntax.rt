@@ -30,7 +30,7 @@ impl Places {
         }
     }
 
-    /// Whether behind so many words one more may stand, and be this.
+    /// Whether after so many words one more may stand, and be this.
     pub fn may_stand(self, count: u64, word: &str) -> bool
         ensures { IsTrue result ↔ MayStand self count word.now }
     {
@@ -57,7 +57,7 @@ fn is_count(most: u32, word: &str) -> bool
 pub struct Syntax {
     /// The name of the command.
     pub name: &'static str,
-    /// The options behind which a value stands, as they are written.
+    /// The options after which a value stands, as they are written.
     pub flags: &'static [(&'static str, Flag)],
     /// The options without a value, as they are written.
     pub switches: &'static [(&'static str, Switch)],
@@ -65,7 +65,7 @@ pub struct Syntax {
     pub places: Places,
     /// The options that must be there.
     pub needs: &'static [Flag],
-    /// How its usage is told, behind the program's name: whole lines.
+    /// How its usage is told, after the program's name: whole lines.
     pub usage: &'static str,
 }
 

@@ -165,7 +165,7 @@ fn seconds_outside_the_range_are_the_first_second(rt: HostRuntime) {
     }
 }
 
-/// The arguments, each with a line end behind it.
+/// The arguments, each with a line end after it.
 fn lines_of(alloc: Global, args: &[String]) -> Result<String, AllocError> {
     let mut lines = String::new(alloc);
     for arg in args {

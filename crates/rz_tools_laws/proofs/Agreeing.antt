@@ -95,7 +95,7 @@ module _ (around other : Around) where
   abbrev Alike : List Fault → List Fault → Type 0
   Alike warnings others = around.setting.redeclare ≡ other.setting.redeclare → warnings ≡ others
 
-  -- the same step of the other tool, behind whatever was warned of
+  -- the same step of the other tool, after whatever was warned of
   record Twin (work next : Work) (tokens : List Token) (warnings : List Fault) : Type 0 where
     after : List Fault
     steps : Steps other (warned_by work warnings) tokens (Ok (warned_by next after))

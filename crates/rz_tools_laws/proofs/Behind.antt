@@ -1,4 +1,4 @@
--- A text behind the sources that declare its types.
+-- A text after the sources that declare its types.
 use Rattle.std.proofs.Common.{◌≡◌, inl, inr, ℕ, Bool, true, false, if◌then◌else◌, List, [], ◌∷◌, ◌++◌, Some, None, Ok, refl, sym, ap, subst, ◌∙◌}
 use Rattle.std.specs.FinMap as finite
 use Rattle.std.specs.List.{AllByRecursion}
@@ -34,13 +34,13 @@ use Rattle.rz_tools_laws.specs.Behind.{with_file, IsKnown}
 use Rattle.rz_tools_values.specs.Around.{Around}
 use Rattle.rz_tools_work.specs.Work.{begun, Work}
 
--- the law of statements one behind the other
+-- the law of statements one after the other
 abbrev pub GoOn : Type 0
 GoOn =
     (front back : List Token) (statements others : List (List Token)) → AreStatements front statements → AreStatements back others
     → AllByRecursion (λ tokens. has_end 0 tokens ≡ true) statements → AreStatements (front ++ back) (statements ++ others)
 
--- The sources, and the file behind them.
+-- The sources, and the file after them.
 
 module _ (ended : EndsParsed) (on : GoOn) (around : Around) (first : Work) (types paths : List (List ℕ)) (name : List ℕ) (defs : List Def) (known : Known) (text : List ℕ) (list : List Resource)
     (rez : around.setting.tool ≡ tools.Rez) (at : around.setting.moment ≡ known.moment) (held : finite.get around.files name ≡ Some text) (again : MeansAgain known text list) where

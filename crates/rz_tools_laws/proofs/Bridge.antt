@@ -13,7 +13,7 @@ use Rattle.rz_tools_args.specs.declared.name.CommandName.TheVariants as names
 use Rattle.rz_tools_laws.specs.Bridge.{SayAll}
 use Rattle.rz_tools_output.specs.Bridge.{bridge_asked, BridgeAsked, IsBridge}
 
--- What holds of each value that stands behind an option holds of all its values.
+-- What holds of each value that stands after an option holds of all its values.
 
 if_all : (P : Value → Type 0) (here : Bool) (value : Value) (values : List Value) → (here ≡ true → P value) → AllByRecursion P values
     → AllByRecursion P (if here then value ∷ values else values)
@@ -34,7 +34,7 @@ module _ (flag : Flag) (P : Value → Type 0)
   items_all syntax words [] are = tt
   items_all syntax words (one ∷ items) are = item_all syntax are.0 one items are.3 (items_all syntax are.1 items are.4)
 
--- So all values behind `-o` are names, and all behind `-to` are forms.
+-- So all values after `-o` are names, and all after `-to` are forms.
 
 only_output : (other : Flag) → is_flag flags.Output other ≡ true → other ≡ flags.Output
 only_output flags.Output is = refl

@@ -1,4 +1,4 @@
--- Statements that mean something end, and those of tokens one behind the other mean what the first do and then the others.
+-- Statements that mean something end, and those of tokens one after the other mean what the first do and then the others.
 use Rattle.std.proofs.Common.{◌≡◌, inl, inr, ℕ, true, false, List, [], ◌∷◌, ◌++◌, map, Option, Some, None, Ok, refl, sym, subst, ◌∙◌}
 use Rattle.std.specs.List.{AllByRecursion}
 use Rattle.std.specs.declared.result.Result.{Result}

@@ -1,4 +1,4 @@
--- What `derez` writes is read back by `rez` behind the same type files.
+-- What `derez` writes is read back by `rez` after the same type files.
 use Rattle.std.proofs.Common.{◌≡◌, ℕ, List, [], Option, Some, None, Ok, refl, sym, subst}
 use Rattle.std.specs.FinMap as finite
 use Rattle.rz_core.specs.declared.moment.Moment.{Moment}

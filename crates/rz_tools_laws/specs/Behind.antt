@@ -1,4 +1,4 @@
--- A text behind the sources that declare its types, as the two commands read and write it. (MPW Rez; MPW DeRez.)
+-- A text after the sources that declare its types, as the two commands read and write it. (MPW Rez; MPW DeRez.)
 use Rattle.std.specs.Prelude.{◌≡◌, ℕ, Bool, true, false, List, [], ◌∷◌, ◌++◌, Ok, Some}
 use Rattle.std.specs.FinMap as finite
 use Rattle.std.specs.List.{AllByRecursion}
@@ -28,14 +28,14 @@ use Rattle.rz_tools_tmpl.specs.Templates.{TypesOf}
 use Rattle.rz_tools_work.specs.Work.{begun}
 use Rattle.rz_types_table.specs.Table.{Declaration}
 
--- Sources that a text stands behind.
+-- Sources that a text stands after.
 
--- behind the sources these types are declared, and these names are macros
+-- after the sources these types are declared, and these names are macros
 pub record IsKnown (compiled : Compiled) (known : Known) : Type 0 where
   pub types : compiled.work.types ≡ known.types
   pub macros : (name : List ℕ) → compiled.is_macro name ≡ known.is_macro name
 
--- what the sources made, and behind them a file of this name that makes these resources and nothing else
+-- what the sources made, and after them a file of this name that makes these resources and nothing else
 abbrev pub with_file : Compiled → List ℕ → List Resource → Compiled
 with_file compiled name list = record {
   work = record { types = compiled.work.types; list = list; warnings = compiled.work.warnings };
@@ -50,8 +50,8 @@ IsAnswerBehind words asked files moment name compiled list =
     (output : Result (List ℕ) Fault) → IsOutput asked.target moment new_base list output
     → Answers words files moment (or_refused (written asked.target.name) (said_beside (compiled.files ++ name ∷ []) compiled.work.warnings output))
 
--- so it is for a file of this text, behind whatever sources declare the types that are known, with those of a file of templates
--- or without, and make no resource, where the same names are macros behind them and the moment is the same
+-- so it is for a file of this text, after whatever sources declare the types that are known, with those of a file of templates
+-- or without, and make no resource, where the same names are macros after them and the moment is the same
 abbrev pub CompilesBehind : Known → List ℕ → List Resource → Type 0
 CompilesBehind known text list =
     (words : List (List ℕ)) (asked : RezAsked) (files : Files) (declared : List Declaration) (types : List (List ℕ)) (name : List ℕ) (compiled : Compiled)
@@ -94,7 +94,7 @@ abbrev pub TypesStay : Moment → TypesAsked → Files → Files → Type 0
 TypesStay moment asked files others =
     (compiled : Compiled) → TypesAre moment asked files (Ok compiled) → TypesAre moment asked others (Ok compiled)
 
--- The same type files, paths, definitions and file of templates for `derez` and for `rez`, and behind the type files of `rez` a file of this name.
+-- The same type files, paths, definitions and file of templates for `derez` and for `rez`, and after the type files of `rez` a file of this name.
 pub record ReadsBehind (shown : DeRezAsked) (asked : RezAsked) (name : List ℕ) : Type 0 where
   pub new : asked.append ≡ false
   pub files : asked.files ≡ shown.types.files ++ name ∷ []

@@ -1,4 +1,4 @@
-//! Laws of the whole: what sources declare is a template, how `derez` shows under it, that what it shows is compiled behind
+//! Laws of the whole: what sources declare is a template, how `derez` shows under it, that what it shows is compiled after
 //! the same type files, that raw files are found raw, and that `bridge` is asked for all that it needs.
 
 ghost use Rattle.std.specs.Prelude.{◌≡◌, ◌↔◌, ◌∷◌, ◌++◌, ℕ, [], List, length, true, false, Ok, None, Some};
@@ -66,7 +66,7 @@ use rz_tools_tmpl::types_are_templates;
 
 /// A law, with nothing to run: what statements declare that are read without a fault is a template: the fields of each
 /// declaration are well shaped and keep the rules, where so are those before the first statement, and the tokens are such as
-/// lines can be cut into. So it is behind sources whose definitions are, and so, with a file of templates or without, behind
+/// lines can be cut into. So it is after sources whose definitions are, and so, with a file of templates or without, after
 /// all sources of `rez` and all type files of `derez`.
 pub fn declared_types_are_templates()
     ensures statements { (around : Around) (types : List Declaration) (list : List Resource) (statements : List (List Token)) (work : Work) → AreTemplates types
@@ -86,7 +86,7 @@ pub fn declared_types_are_templates()
     types_are_templates();
 }
 
-/// A law, with nothing to run: behind type files that `derez` reads without a fault, a resource is shown in a `resource`
+/// A law, with nothing to run: after type files that `derez` reads without a fault, a resource is shown in a `resource`
 /// statement exactly if its bytes tell a row of the fields that are declared for it in which no case has the name of a
 /// macro, and then by this row; else in a `data` statement. Nothing more is asked of the fields.
 pub fn declared_rows_are_shown()
@@ -114,9 +114,9 @@ pub fn raw_outputs_are_found()
     forks_are_found_raw();
 }
 
-/// A law, with nothing to run: behind sources that declare the types that are known, and make no resource, a text that means
+/// A law, with nothing to run: after sources that declare the types that are known, and make no resource, a text that means
 /// resources again means them as a file of the same sources: nothing more is declared, nor warned of. So the text that is
-/// shown of a fork where so much is known is compiled behind such sources to the file of the same resources, or to the
+/// shown of a fork where so much is known is compiled after such sources to the file of the same resources, or to the
 /// first fault of such a file, whatever else the words of `rez` ask for but `-a`, if each resource that is shown has at most
 /// 16,777,212 bytes.
 pub fn shown_forks_are_compiled_behind_types()
@@ -146,7 +146,7 @@ pub fn type_files_agree()
         × (around.setting.redeclare ≡ other.setting.redeclare → warnings ≡ compiled.work.warnings) }
 {}
 
-/// A law, with nothing to run: what `derez` answers for a fork under type files, in a file behind the same type files, is
+/// A law, with nothing to run: what `derez` answers for a fork under type files, in a file after the same type files, is
 /// compiled by `rez` without `-a` to the file of the resources that were shown, or to the first fault of such a file: if the type files
 /// mean the same where that file stands, have no statements but `type` and don't ask which tool reads them, the words have
 /// the same paths, definitions and file of templates, the moment is the same, and each resource that is shown has at most 16,777,212 bytes.

@@ -1,6 +1,6 @@
 //! What the commands promise beside what a run needs: what type files declare is a template, so `derez` shows a resource in
 //! a `resource` statement exactly if its bytes tell a row of the fields that are declared for it; what it shows is
-//! compiled behind the same type files to the same resources; what `strings` lists is put back by `restring` and changes
+//! compiled after the same type files to the same resources; what `strings` lists is put back by `restring` and changes
 //! nothing, or is 219; what `rez` writes raw is found to be raw; and the items of a command of `bridge` say all that it asks
 //! for. Laws alone, with nothing to run; nothing stands on them.
 //! It rests on `rz_tools` and on the crates whose words it speaks.

@@ -18,7 +18,7 @@ use Rattle.rz_tools_resource.specs.Items.{inner_read, item_given, item_read, ite
 module _ (paths : List (List ℕ)) (files : Files) (mark : Mark) (known : Facts) where
   -- Items one after the other.
 
-  -- what is read of the items that are left, behind what was made of those before, is what is read of all
+  -- what is read of the items that are left, after what was made of those before, is what is read of all
   abbrev pub Leads : List PlainItem → List PlainItem → List PlainItem → Type 0
   Leads all made left = items_read paths files mark known all ≡ (items_read paths files mark known left >>= λ items. Ok (made ++ items))
 
@@ -51,7 +51,7 @@ module _ (paths : List (List ℕ)) (files : Files) (mark : Mark) (known : Facts)
       ∙ ap (λ (r : Result PlainItem Fault). (r >>= λ item. items_read paths files mark known left >>= λ items. Ok (item ∷ items)) >>= λ items. Ok (made ++ items)) (sym gives)
       )
 
-  -- behind the last
+  -- after the last
   pub all_made : (all made left : List PlainItem) → Leads all made left → left ≡ [] → Ok made ≡ items_read paths files mark known all
   all_made all made left leads none = sym (
       leads ∙ ap (λ (l : List PlainItem). items_read paths files mark known l >>= λ items. Ok (made ++ items)) none ∙ ap (λ (l : List PlainItem). Ok l) (append-nil made)

@@ -31,7 +31,7 @@ module _ (only skip : List OsType) where
       by true rest = (all.0, rest)
       by false rest = rest
 
-  -- the keys of the chosen ones differ, behind some of those before
+  -- the keys of the chosen ones differ, after some of those before
   pub differ_chosen : (front small list : List Resource)
       → ((r : Resource) → list_any (λ b. same_key b r) front ≡ false → list_any (λ b. same_key b r) small ≡ false)
       → KeysDiffer front list → KeysDiffer small (chosen only skip list)

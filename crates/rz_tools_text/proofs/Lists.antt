@@ -72,7 +72,7 @@ module _ (known : Known) (only skip : List OsType) where
   Shows list text = ShowsEach known (chosen only skip list) text
 
   module _ (r : Resource) where
-    -- the text of one resource and that of those behind it
+    -- the text of one resource and that of those after it
     abbrev IsCutInTwo : List Resource → List ℕ → Type 0
     IsCutInTwo rs text = (piece rest : List ℕ) × (text ≡ piece ++ rest) × Shows (r ∷ []) piece × Shows rs rest
 
@@ -125,7 +125,7 @@ module _ (known : Known) (only skip : List OsType) where
           each_cut (Ok Failed) tt before now after so_far
           (λ piece one. subst (λ (p : Put). PutsFront piece now after (Ok p)) is_failed (told piece one))
 
--- a text that was put, behind a flush
+-- a text that was put, after a flush
 pub text_flushed : (text : List ℕ) (before mid after : Option (List ℕ)) (put result : Put) → put ≡ Done → PutsFront text before mid (Ok put) → after ≡ mid → PutsFront text before after (Ok result)
 text_flushed text before mid after put result is told same =
     text_put text before after result (flushed text before mid after result (done_put before (subst (λ (p : Put). PutsFront text before mid (Ok p)) is told)) same)

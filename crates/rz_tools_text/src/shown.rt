@@ -39,7 +39,7 @@ pub struct Known {
 }
 
 impl Known {
-    /// What is known behind type files: their declarations, and their macros by their names in lower case.
+    /// What is known after type files: their declarations, and their macros by their names in lower case.
     pub fn of(
         alloc: Global,
         types: TypeTable,

@@ -35,7 +35,7 @@ pub struct ForkText {
 impl ForkText {
     /// Puts the text, one line after the other, and flushes the sink. Beside the bytes of the fork it holds, of one resource
     /// at a time, the name and, under a template, the row. `Failed` is that of the first put that failed, or of the flush:
-    /// nothing is put behind a put that failed. Every fork can be shown: `NoMemory` is the only refusal, and what was put
+    /// nothing is put after a put that failed. Every fork can be shown: `NoMemory` is the only refusal, and what was put
     /// till then stays. (MPW DeRez.)
     pub fn put<O: Sink>(&self, alloc: Global, out: &mut O) -> Result<Put, NoMemory>
         requires short { length self.now.fork < 2 ^ 32 }

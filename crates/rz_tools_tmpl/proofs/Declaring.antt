@@ -12,7 +12,7 @@ use Rattle.rz_types_fields.specs.Field.{PlainBody}
 use Rattle.rz_types_table.specs.Table.{Declaration}
 use Rattle.rz_tools_tmpl.specs.Templates.{declared_with, declares, entry_fault, AreDeclared, IsDeclared}
 
--- what the resources that are left declare behind these declarations, all of the list declare
+-- what the resources that are left declare after these declarations, all of the list declare
 abbrev pub GoesOn : List Declaration → List Resource → List Resource → Type 0
 GoesOn types left all = (answer : Result (List Declaration) Fault) → AreDeclared types left answer → AreDeclared [] all answer
 

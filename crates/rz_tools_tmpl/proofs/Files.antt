@@ -85,7 +85,7 @@ module _ {A : Type 0} (P : A → Type 0) where
   push_all [] x all is = (is, tt)
   push_all (y ∷ ys) x all is = (all.0, push_all ys x all.1 is)
 
--- what holds of all declarations of a table, and of one more, holds behind it
+-- what holds of all declarations of a table, and of one more, holds after it
 pub declared_all : (P : Declaration → Type 0) (types : List Declaration) (one : Declaration) → AllByRecursion P types → P one → AllByRecursion P (declared_behind types one)
 declared_all P types one all is =
     push_all P (without (stands_at one.kind one.scope) types) one (without_all P (stands_at one.kind one.scope) types all) is

@@ -35,18 +35,18 @@ declares r = if (r.kind.code == template_code) && nat_lt (length r.bytes) (2 ^ 6
 abbrev pub entry_fault : Resource → TmplFault → Fault
 entry_fault r fault = record { number = fault.number; mark = None; kept = Pair r.id (pos fault.offset) }
 
--- the declarations behind these fields of a type, which are for any id; a template with an entry of an unknown code (452)
+-- the declarations after these fields of a type, which are for any id; a template with an entry of an unknown code (452)
 -- declares nothing, and any other fault is told
 abbrev pub declared_with : List Declaration → Resource → OsType → Result PlainBody TmplFault → Result (List Declaration) Fault
 declared_with types r kind (Ok body) = Ok (declared_behind types (record { kind = kind; scope = Any; template = body }))
 declared_with types r kind (Err fault) = if fault.number == 452 then Ok types else Err (entry_fault r fault)
 
--- those behind a resource that declares this type, or none
+-- those after a resource that declares this type, or none
 abbrev pub IsDeclared : List Declaration → Resource → Option OsType → Result (List Declaration) Fault → Type 0
 IsDeclared types r None answer = answer ≡ Ok types
 IsDeclared types r (Some kind) answer = (body : Result PlainBody TmplFault) × HasBody r.bytes body × (answer ≡ declared_with types r kind body)
 
--- those behind all resources of a list, in order, or the first fault
+-- those after all resources of a list, in order, or the first fault
 abbrev pub AreDeclared : List Declaration → List Resource → Result (List Declaration) Fault → Type 0
 AreDeclared types [] answer = answer ≡ Ok types
 AreDeclared types (r ∷ list) answer = Then (IsDeclared types r (declares r)) (λ next. AreDeclared next list) answer

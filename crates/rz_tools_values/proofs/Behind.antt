@@ -1,4 +1,4 @@
--- One call behind another, of which the second may read files.
+-- One call after another, of which the second may read files.
 use Rattle.std.proofs.Common.{◌≡◌, inl, inr, Result, Ok, Err, refl, sym}
 use Rattle.rz_core.specs.Answers.{Then}
 use Rattle.rz_core.specs.Stop.{Meets, Gives, halt_of, Yields}

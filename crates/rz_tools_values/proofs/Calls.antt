@@ -1,4 +1,4 @@
--- Calls one behind the other: a call that stops stops all, and one that gives a value goes on with it.
+-- Calls one after the other: a call that stops stops all, and one that gives a value goes on with it.
 use Rattle.std.proofs.Common.{◌≡◌, ℕ, Ok, Err, refl, sym, ap, subst, arith}
 use Rattle.std.specs.declared.option.Option.{Option}
 use Rattle.std.specs.declared.result.Result.{Result}
@@ -63,6 +63,6 @@ module _ {F : Type 0} (files : F → Option Files) (read_faults write_faults : F
   pub reads_nothing : (folder : F) (Failed : Type 0) → (Failed → ⊥) → OnlyReads files read_faults write_faults folder folder Failed
   reads_nothing folder Failed never = record { unchanged = refl; counted = omega arith; other_count = refl; cause = λ failed. absurd (never failed) }
 
-  -- a call that reads, and behind it one that doesn't
+  -- a call that reads, and after it one that doesn't
   pub reads_first : (old new : F) (Failed : Type 0) → (Failed → ⊥) → OnlyReads files read_faults write_faults old new ⊥ → OnlyReads files read_faults write_faults old new Failed
   reads_first old new Failed never reads = record { unchanged = reads.unchanged; counted = reads.counted; other_count = reads.other_count; cause = λ failed. absurd (never failed) }

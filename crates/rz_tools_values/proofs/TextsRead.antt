@@ -18,7 +18,7 @@ use Rattle.rz_core.specs.declared.stop.Halt.{Halt}
 use Rattle.rz_core.specs.declared.stop.Halt.TheVariants.{NoMemory, ReadFault, Refused}
 use Rattle.rz_tools_values.specs.Texts.{argument_given, argument_read, part_read, parts_read, texts_given, texts_read}
 
--- All that was read, and nothing behind it.
+-- All that was read, and nothing after it.
 
 pub all_parts : (parts : List PlainPart) → so_far {F = Fault} (λ part parts. part ∷ parts) parts (Ok []) ≡ Ok parts
 all_parts [] = refl

@@ -10,7 +10,7 @@ use Rattle.rz_folder_paths.specs.Names.{bytes_of, missing_file, names_of, utf8_n
 use Rattle.rz_bridge.specs.declared.file.MacFile.{MacFile}
 use Rattle.rz_bridge_files.specs.Contents.{admit_fork, file_in, fork_in}
 
--- the file of a statement, its name tried as it stands and then behind each path: 101
+-- the file of a statement, its name tried as it stands and then after each path: 101
 abbrev pub file_named : List (List ℕ) → Files → Mark → List ℕ → Result (List ℕ) Fault
 file_named paths files mark name = bytes_of files (names_of paths (utf8_name name)) (missing_file (Some mark) name)
 

@@ -31,13 +31,13 @@ abbrev pub byte_of : Mark → ℤ → Result ℕ Fault
 byte_of mark (pos value) = if nat_lt 255 value then Err (keeps_number 207 mark (pos value)) else Ok value
 byte_of mark (negsuc n) = Err (keeps_number 207 mark (negsuc n))
 
--- the bits behind an attribute
+-- the bits after an attribute
 abbrev pub bits_behind : Mark → Facts → ℕ → Attribute → Result ℕ Fault
 bits_behind mark known byte (Set bit) = Ok (bit_or byte bit)
 bits_behind mark known byte (Clear bit) = Ok (bit_and byte (255 - bit))
 bits_behind mark known byte (Value term) = number_of mark known term >>= byte_of mark
 
--- and behind several, from left to right
+-- and after several, from left to right
 abbrev pub bits_behind_all : Mark → Facts → ℕ → List Attribute → Result ℕ Fault
 bits_behind_all mark known byte [] = Ok byte
 bits_behind_all mark known byte (attribute ∷ attributes) = bits_behind mark known byte attribute >>= λ next. bits_behind_all mark known next attributes
@@ -46,7 +46,7 @@ bits_behind_all mark known byte (attribute ∷ attributes) = bits_behind mark kn
 abbrev pub head_facts : Setting → ℕ → Facts
 head_facts setting code = record { kind = record { code = code }; id = pos 0; name = []; attr = 0; moment = setting.moment }
 
--- what is known behind the values of a head, from left to right, where so much was known before
+-- what is known after the values of a head, from left to right, where so much was known before
 abbrev pub known_by_head : Mark → Facts → Head → Result Facts Fault
 known_by_head mark begun head =
     number_of mark begun head.id >>= id_of mark >>= λ id. name_of mark begun head.name >>= λ name. bits_behind_all mark begun 0 head.attributes

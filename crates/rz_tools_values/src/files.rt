@@ -15,7 +15,7 @@ use rz_folder_paths::{names_of, read_file};
 use std::alloc::Global;
 
 /// The bytes of the file that a statement on this line names, fewer than 2^32: its name is tried as it stands and then
-/// behind each path. 101 where there is none (kept: the name). No file changes. (MPW Rez.)
+/// after each path. 101 where there is none (kept: the name). No file changes. (MPW Rez.)
 pub fn file_named<F: Folder>(
     alloc: Global,
     folder: &mut F,

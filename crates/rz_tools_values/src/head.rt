@@ -35,7 +35,7 @@ pub fn facts_of(
     known_by_head(alloc, head, mark, &begun)
 }
 
-/// What is known behind the values of a head, where so much was known before.
+/// What is known after the values of a head, where so much was known before.
 fn known_by_head(
     alloc: Global,
     head: &HeadExpr,
@@ -122,7 +122,7 @@ pub fn bits_of(
     Ok(byte)
 }
 
-/// The bits behind an attribute.
+/// The bits after an attribute.
 fn bits_behind(
     alloc: Global,
     byte: u8,

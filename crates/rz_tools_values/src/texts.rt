@@ -20,8 +20,8 @@ use std::alloc::Global;
 
 /// A text in which what the files give that it names has taken the place of the parts that name them, those in the
 /// arguments of formats too, from left to right, where of the resource so much is known. The first fault is the answer:
-/// 101 where a file stands neither under its name nor behind a path (kept: the name); of a `$$Resource` before it 211,
-/// 215 and 204 of its id, and 211, 215 and 222 of its name, and behind it the first rule that the form or the fork breaks,
+/// 101 where a file stands neither under its name nor after a path (kept: the name); of a `$$Resource` before it 211,
+/// 215 and 204 of its id, and 211, 215 and 222 of its name, and after it the first rule that the form or the fork breaks,
 /// and 218 where it has no such resource (kept: the type and the id, or the name). No file changes. (MPW Rez.)
 #[cycle(texts)]
 pub fn read_texts<F: Folder>(

@@ -1,4 +1,4 @@
--- Calls one behind the other that change a list or the work so far.
+-- Calls one after the other that change a list or the work so far.
 use Rattle.std.proofs.Common.{◌≡◌, Ok, Err, sym, ap, subst}
 use Rattle.std.specs.declared.result.Result.{Result}
 use Rattle.rz_core.specs.Stop.{Gives, OnFault, ◌>>=◌, IsReadFault, OnRefusal, Yields, halted, left, Meets}

@@ -10,7 +10,7 @@ use Rattle.rz_tools_work.specs.Change.{list_changing, list_deleting}
 use Rattle.rz_tools_work.specs.Include.{list_including}
 use Rattle.rz_tools_work.specs.Read.{list_reading}
 
--- the list behind such a statement on this line
+-- the list after such a statement on this line
 abbrev pub list_after : Around → Mark → List Resource → ListForm → Result (List Resource) Fault
 list_after around mark list (Includes one) = list_including around mark list one
 list_after around mark list (Reads one) = list_reading around mark list one

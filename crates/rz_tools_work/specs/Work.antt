@@ -28,7 +28,7 @@ abbrev pub with_list : Work → Result (List Resource) Fault → Result Work Fau
 with_list work (Ok list) = Ok (record work { list = list })
 with_list work (Err fault) = Err fault
 
--- the warnings behind a declaration on this line: it is warned of where one of the type and scope is there, unless
+-- the warnings after a declaration on this line: it is warned of where one of the type and scope is there, unless
 -- types may be declared again
 abbrev pub warned : Setting → Mark → Work → OsType → Scope → List Fault
 warned setting mark work kind scope =

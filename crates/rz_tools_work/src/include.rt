@@ -37,7 +37,7 @@ pub struct Asked {
 
 /// Does what an `include` statement on this line says: copies of resources of the fork of a file of whatever form are put
 /// into the list, all of them, all but those of a type, or those that its pick chooses, under a new type and, where one is
-/// chosen, under its head. The first fault is the answer: 101 where the file stands neither under its name nor behind a
+/// chosen, under its head. The first fault is the answer: 101 where the file stands neither under its name nor after a
 /// path (kept: the name); the first rule that the form or the fork breaks; of the ids of the pick 211, 215 and 204; 218
 /// for a pick by id or name that chooses none; the faults of the head, as `new_head` says; and 219 for a protected
 /// resource that would be replaced, where protected ones aren't given up (kept: its type and id). Up to there no

@@ -84,14 +84,14 @@ in_parts : (P : CaseKey → Type 0) (front back : List CaseKey) → AllByRecursi
 in_parts P [] back all = (tt, all)
 in_parts P (key ∷ front) back all = let each = in_parts P front back all.1 in ((all.0, each.0), each.1)
 
--- those before a case stand apart from its key, and from those behind it
+-- those before a case stand apart from its key, and from those after it
 both_apart : (keys before : List CaseKey) (others : PlainCases) (key : CaseKey) → keys ≡ key ∷ [] → AllByRecursion (λ one. StandApart one key) before
     → AllByRecursion (λ one. IsApartFrom one others) before → AllByRecursion (λ one. AllByRecursion (StandApart one) keys × IsApartFrom one others) before
 both_apart keys [] others key is here later = tt
 both_apart keys (one ∷ before) others key is here later =
     ((subst (λ (l : List CaseKey). AllByRecursion (StandApart one) l) (sym is) (here.0, tt), later.0), both_apart keys before others key is here.1 later.1)
 
--- the key of a case stands apart from those behind it
+-- the key of a case stands apart from those after it
 own_apart : (keys : List CaseKey) (others : PlainCases) (key : CaseKey) → keys ≡ key ∷ [] → AllByRecursion (λ one. IsApartFrom one others) keys → IsApartFrom key others
 own_apart keys others key is all = (subst (λ (l : List CaseKey). AllByRecursion (λ one. IsApartFrom one others) l) is all).0
 

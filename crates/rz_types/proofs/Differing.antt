@@ -224,7 +224,7 @@ labels_within (field_and field fields) =
     (stands_behind name own ((names_in (within field)).labels ++ all) (stands_behind name (names_in (within field)).labels all stands)))
     (labels_in fields) (labels_within fields))
 
--- and so before what is behind the array
+-- and so before what is after the array
 indexed_within : (before : Own) (field : PlainField) → AllByRecursion (λ name. Stands name (before.labels ++ (names_in (field ∷ within field)).labels)) (own_names field).indexed
 indexed_within before (Number number) = tt
 indexed_within before (Text text) = tt
@@ -249,7 +249,7 @@ indexed_own position before scope (Array name count row) kept =
     subst Differ (own_labels row) (labels_differ (position + 1) (and_names before (own_names (Array name count row))) (and_names (and_names scope (around_names name)) (names_of row)) row kept)
 indexed_own position before scope (Switch cases) kept = tt
 
--- and those behind what stands before
+-- and those after what stands before
 indexed_behind : (one : Word) (position : ℕ) (before scope : Own) (field : PlainField) → Stands one before.labels → KeepAll broken_at (steps_within position before scope field)
     → DiffersFrom one (own_names field).indexed
 indexed_behind one position before scope (Number number) stands kept = tt

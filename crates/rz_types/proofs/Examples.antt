@@ -92,7 +92,7 @@ to_a_label = refl
 rows_to_a_label : is_readable (field_and (place (codes "e")) (field_and (Array None None (field_and pstring no_fields)) (field_and (label (codes "e")) (field_and pstring no_fields)))) ≡ true
 rows_to_a_label = refl
 
--- but not behind an `align`
+-- but not after an `align`
 label_aligned : is_readable (field_and (place (codes "e")) (field_and open_text (field_and (Align 2) (field_and (label (codes "e")) (field_and pstring no_fields))))) ≡ false
 label_aligned = refl
 
@@ -149,7 +149,7 @@ rows name row = Array (Some (record { bytes = name })) None row
 abbrev some_rows : ℕ → PlainBody → PlainField
 some_rows count row = Array None (Some (pos count)) row
 
--- the label with a number behind it
+-- the label with a number after it
 abbrev marked : List ℕ → PlainBody
 marked name = field_and (label name) (field_and (number None) no_fields)
 

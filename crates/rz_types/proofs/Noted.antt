@@ -1,4 +1,4 @@
--- What notes tell, one more at a time, and the fields that can be read behind them.
+-- What notes tell, one more at a time, and the fields that can be read after them.
 use Rattle.std.proofs.Common.{◌≡◌, ℕ, ◌+◌, ◌-◌, ◌<◌, Bool, true, false, ◌&&◌, ◌||◌, List, [], ◌∷◌, ◌++◌, length, get_or, take, map, refl, sym, ap, ◌∙◌, arith}
 use Rattle.std.proofs.lemmas.List.{take_more}
 use Rattle.rz_expr.specs.Environment.{Key}
@@ -96,7 +96,7 @@ known_told fields notes more key is =
 pub from_front : (fields : PlainBody) (notes : List Note) (read : Bool) → notes ≡ [] → read ≡ are_read true (at_front fields (passed notes)) fields → read ≡ is_readable fields
 from_front fields notes read none is = is ∙ ap (λ (notes : List Note). are_read true (at_front fields (passed notes)) fields) none
 
--- a body inside is read behind the note of its front
+-- a body inside is read after the note of its front
 pub row_read : (outermost : Bool) (row : List Field) (notes pushed : List Note) (note : Note) → pushed ≡ notes ++ note ∷ []
     → ((before : Passed) → noted note before ≡ at_front (plain_body row) before)
     → (read : Bool) → read ≡ are_read outermost (passed pushed) (plain_body row) → read ≡ are_read outermost (at_front (plain_body row) (passed notes)) (plain_body row)

@@ -1,4 +1,4 @@
--- What is passed behind numbers, texts and switches.
+-- What is passed after numbers, texts and switches.
 use Rattle.std.proofs.Common.{◌≡◌, Bool, true, List, Result, Ok, Err, refl, sym, ap, subst, ◌∙◌}
 use Rattle.std.specs.Prelude.{option_map, IfOk, OnOk}
 use Rattle.rz_expr.specs.Term.{term_of}

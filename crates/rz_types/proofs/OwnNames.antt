@@ -130,7 +130,7 @@ differ_rest (field_and (Label name) row) names differ = differ_rest row names di
 differ_rest (field_and (Array own count inner) row) names differ = differ_rest row names differ
 differ_rest (field_and (Switch cases) row) names differ = differ_rest row names differ
 
--- a field gives no name a value that a field behind it gives one
+-- a field gives no name a value that a field after it gives one
 pub apart_field : (field : PlainField) (fields : PlainBody) → AreOwn (names_of (field_and field fields)) → (key : Key) → gives_key field key ≡ true → declares fields key ≡ false
 apart_field (Number number) fields own key gives = absurd (true_false (sym gives))
 apart_field (Text text) fields own key gives = absurd (true_false (sym gives))

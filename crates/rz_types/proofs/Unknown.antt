@@ -370,7 +370,7 @@ pub number_known : (rest : PlainBody) (passed : Passed) (term : Term) → first_
 number_known rest passed term is =
     ap (λ (all : Bool). all || tells_one rest passed.met (is_known passed) term term) (ap is_none (sym is) ∙ none_unknown passed.met (is_known passed) term)
 
--- What is told behind it.
+-- What is told after it.
 
 none_new : (has known : Bool) → (has ≡ true → known ≡ true) → (has && not known) ≡ false
 none_new true known to = ap not (to refl)

@@ -58,7 +58,7 @@ abbrev pub IsApartFrom : CaseKey → PlainCases → Type 0
 IsApartFrom key no_cases = Unit {0}
 IsApartFrom key (case_and name row others) = AllByRecursion (StandApart key) (case_keys row) × IsApartFrom key others
 
--- a case has one key, behind fields of fixed width, which stands so with those of the cases behind it
+-- a case has one key, after fields of fixed width, which stands so with those of the cases after it
 pub record HasKey (row : PlainBody) (others : PlainCases) : Type 0 where
   pub key : CaseKey
   pub alone : case_keys row ≡ key ∷ []

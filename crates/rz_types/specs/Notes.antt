@@ -18,7 +18,7 @@ also_told key passed = record { met = passed.met; told = λ other. is_same_key k
 abbrev pub also_met : PlainField → Passed → Passed
 also_met field passed = record { met = met_behind field passed.met; told = passed.told; near = passed.near }
 
--- what is passed behind a note: a field that stands before, a name that was told, or the front of a body
+-- what is passed after a note: a field that stands before, a name that was told, or the front of a body
 abbrev pub noted : Note → Passed → Passed
 noted (Met field) passed = also_met (plain_field field.now) passed
 noted (Told one) passed = also_told (key_of one) passed
@@ -28,7 +28,7 @@ abbrev pub noted_all : List Note → Passed → Passed
 noted_all [] passed = passed
 noted_all (note ∷ notes) passed = noted_all notes (noted note passed)
 
--- what is passed behind these notes, the oldest first
+-- what is passed after these notes, the oldest first
 abbrev pub passed : List Note → Passed
 passed notes = between (noted_all notes nothing_passed)
 
@@ -40,13 +40,13 @@ passed_at fields notes = at_field fields (passed notes)
 abbrev pub known : PlainBody → List Note → Names
 known fields notes = is_known (passed_at fields notes)
 
--- whether a name is met behind a note, where it was before it or wasn't
+-- whether a name is met after a note, where it was before it or wasn't
 abbrev pub meeting : Note → Key → Bool → Bool
 meeting (Met field) key before = gives_key (plain_field field.now) key || before
 meeting (Told one) key before = before
 meeting (Front row) key before = not (declares (plain_body row.now) key) && before
 
--- whether it is told behind a note, where it was before it or wasn't
+-- whether it is told after a note, where it was before it or wasn't
 abbrev pub telling : Note → Key → Bool → Bool
 telling (Met field) key before = before
 telling (Told one) key before = is_same_key (key_of one) key || before

@@ -68,7 +68,7 @@ all_known met known (FactOf which) = true
 all_known met known (OfOne op operand) = all_known met known operand
 all_known met known (OfTwo op left right) = all_known met known left && all_known met known right
 
--- it has no other unknown name than this, which is given by a field behind it in its body, and can be solved
+-- it has no other unknown name than this, which is given by a field after it in its body, and can be solved
 abbrev pub tells : PlainBody → (met known : Names) → Term → Key → Bool
 tells rest met known term key = declares rest key && can_solve key term && all_known met (λ other. is_same_key key other || known other) term
 
@@ -93,7 +93,7 @@ is_number_read rest passed None = true
 is_number_read rest passed (Some term) =
     all_known passed.met (is_known passed) term || tells_one rest passed.met (is_known passed) term term
 
--- the end of the resource ends a field: of the outermost body, with only fields of fixed width behind it
+-- the end of the resource ends a field: of the outermost body, with only fields of fixed width after it
 abbrev pub ends_at_end : (outermost : Bool) → PlainBody → Bool
 ends_at_end outermost rest = outermost && is_some (fixed_widths rest)
 
@@ -143,7 +143,7 @@ rows_end outermost rest passed name None row =
     || (ends_at_end outermost rest && nat_le 8 (least_widths row))
 
 abbrev mutual
-  -- a field can be read where these fields stand behind it in its body and so much is known before it
+  -- a field can be read where these fields stand after it in its body and so much is known before it
   pub is_read : (outermost : Bool) → PlainBody → Passed → PlainField → Bool
   is_read outermost rest passed (Number number) = are_pieces_read outermost rest passed (pieces_of (Number number))
   is_read outermost rest passed (Text text) = are_pieces_read outermost rest passed (pieces_of (Text text))

@@ -141,7 +141,7 @@ has_other_place key one = differ key.distance one.distance
 abbrev pub has_same_bits : CaseKey → CaseKey → Bool
 has_same_bits key one = key.bits == one.bits
 
--- the number of the first rule that the keys of a case break, behind those of the cases before it: 233 where it isn't one key,
+-- the number of the first rule that the keys of a case break, after those of the cases before it: 233 where it isn't one key,
 -- 234 where it has another width than one before, 235 where not only fields of fixed width stand before it, or other widths
 -- than before those, 236 where it has the same bits as one before
 abbrev pub key_rule : List CaseKey → List CaseKey → Option ℕ
@@ -195,7 +195,7 @@ abbrev pub unknown_at : Step → Option TypeFault
 unknown_at (at_field position before scope field) = option_map (unknown_fault position) (unknown_in scope field)
 unknown_at (behind_case position name keys before) = None
 
--- the first rule that a body breaks: that of the first step in the walk that breaks one, else, behind the walk, that of the
+-- the first rule that a body breaks: that of the first step in the walk that breaks one, else, after the walk, that of the
 -- first name that can't be named
 abbrev pub broken : PlainBody → Option TypeFault
 broken body = or_else (first_of (map broken_at (walk body))) (first_of (map unknown_at (walk body)))

@@ -24,7 +24,7 @@ pub record Own : Type 0 where
 abbrev pub no_names : Own
 no_names = record { labels = []; arrays = []; indexed = []; around = [] }
 
--- some and others behind them
+-- some and others after them
 abbrev pub and_names : Own → Own → Own
 and_names own other = record {
   labels = own.labels ++ other.labels;
@@ -115,7 +115,7 @@ abbrev mutual
       ∷ (steps_within position before scope field
       ++ steps (position + 1 + length (within field)) (and_names before (names_in (field ∷ within field))) scope fields)
 
-  -- those of the cases of a switch, behind cases with these keys
+  -- those of the cases of a switch, after cases with these keys
   pub case_steps : (switch position : ℕ) (before scope : Own) (keys : List CaseKey) → PlainCases → List Step
   case_steps switch position before scope keys no_cases = []
   case_steps switch position before scope keys (case_and name row others) =

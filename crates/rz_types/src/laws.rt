@@ -30,7 +30,7 @@ pub fn rules_hold_within()
     ensures { (body : PlainBody) → keeps_rules body ≡ true → IsKept body }
 {}
 
-/// A law, with nothing to run: where the rules are kept, each case of a switch has one key, behind fields of fixed width,
+/// A law, with nothing to run: where the rules are kept, each case of a switch has one key, after fields of fixed width,
 /// and the keys of its cases stand at one place with one width, and have different bits; so in each switch within.
 pub fn keys_stand_apart()
     ensures { (body : PlainBody) → keeps_rules body ≡ true → AreKeysApart body }

@@ -75,7 +75,7 @@ fn text_least(text: &TextField) -> u64
         .min(ENOUGH)
 }
 
-/// The width of the length of a text, or of the zero byte behind it.
+/// The width of the length of a text, or of the zero byte after it.
 fn least_text(form: TextForm) -> u64
     ensures { result ≡ least_text form }
 {

@@ -30,7 +30,7 @@ pub enum Note<'a> {
     Front(&'a [Field]),
 }
 
-/// Whether a name is met behind these notes, the oldest first.
+/// Whether a name is met after these notes, the oldest first.
 pub fn is_met(notes: &[Note<'_>], key: KeyRef<'_>) -> bool
     ensures { result ≡ (passed notes.now).met (key_of key.entry) }
 {
@@ -60,7 +60,7 @@ fn meets(note: &Note<'_>, key: KeyRef<'_>) -> Option<bool>
     }
 }
 
-/// Whether a name is told behind these notes, the oldest first.
+/// Whether a name is told after these notes, the oldest first.
 pub fn is_told(notes: &[Note<'_>], key: KeyRef<'_>) -> bool
     ensures { result ≡ (passed notes.now).told (key_of key.entry) }
 {
@@ -112,7 +112,7 @@ fn is_near(fields: &[Field], key: KeyRef<'_>) -> bool
     false
 }
 
-/// Whether what stands behind a field is at a known distance.
+/// Whether what stands after a field is at a known distance.
 fn is_measured(field: &Field) -> bool
     ensures { result ≡ is_measured (plain_field field.now) }
 {

@@ -24,14 +24,14 @@ use rz_types_fields::{
 use std::alloc::Global;
 
 /// Whether a resource of this declaration can be read: exactly where its bytes say where each field ends, and how many
-/// rows each array has. A number with a fixed value has no name that isn't known before it, or one that a field behind
+/// rows each array has. A number with a fixed value has no name that isn't known before it, or one that a field after
 /// it in its body gives, an array by the number of its rows or a label by its place, and that the value tells; then it
-/// is known from there on. A size and a format have known names only. Known are also the places of labels behind a
+/// is known from there on. A size and a format have known names only. Known are also the places of labels after a
 /// field in its body, where what stands between has a fixed width or is an `align`; but bits are asked for only at
 /// labels that stand before. A label in the rows of an array is known by an index where the array has ended, and the
 /// number of the row around always is. A `string` without a size, and an array whose number of rows isn't known, end at
-/// a label behind them whose place is told, with only fields of fixed width between; or they stand outside of all rows
-/// and cases, with only fields of fixed width behind them, and end with the resource. Rows of an array without a stated
+/// a label after them whose place is told, with only fields of fixed width between; or they stand outside of all rows
+/// and cases, with only fields of fixed width after them, and end with the resource. Rows of an array without a stated
 /// count have one bit at least, and 8 where they end with the resource. (MPW Rez.)
 pub fn is_readable(template: &Template) -> bool
     ensures { result ≡ is_readable (template_of template.now) }
@@ -65,7 +65,7 @@ fn is_row_read<'a>(
     Ok(read)
 }
 
-/// Whether fields one behind the other can be read.
+/// Whether fields one after the other can be read.
 #[cycle(read)]
 fn are_read<'a>(
     outermost: bool,
@@ -92,7 +92,7 @@ fn fields_from(fields: &[Field], position: usize) -> &[Field]
     fields.split_at(position).1
 }
 
-/// The fields behind the first.
+/// The fields after the first.
 fn rest_of(fields: &[Field]) -> &[Field]
     ensures { result.now ≡ drop 1 fields.now }
 {
@@ -217,14 +217,14 @@ fn is_count_known(fields: &[Field], name: &Option<Word>, notes: &[Note<'_>]) -> 
     }
 }
 
-/// Whether a field with these behind it ends with the resource.
+/// Whether a field with these after it ends with the resource.
 fn ends_at_end(outermost: bool, rest: &[Field]) -> bool
     ensures { result ≡ ends_at_end outermost (plain_body rest.now) }
 {
     outermost && fixed_widths(rest).is_some()
 }
 
-/// Whether a field with these behind it ends at a label.
+/// Whether a field with these after it ends at a label.
 fn ends_at_label(rest: &[Field], notes: &[Note<'_>]) -> bool
     ensures { result ≡ ends_at_label (plain_body rest.now) (passed notes.now).told }
 {
@@ -363,7 +363,7 @@ fn are_points_read<'a>(
     }
 }
 
-/// Whether numbers with these values can be read, one behind the other.
+/// Whether numbers with these values can be read, one after the other.
 fn are_values_read<'a>(
     fields: &[Field],
     values: &'a Exprs,

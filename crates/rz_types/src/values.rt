@@ -6,12 +6,12 @@ ghost use Rattle.rz_types_fields.specs.Spells.{choice_in, group_in};
 
 use rz_types_fields::{Row, Tree};
 
-/// A value of a row, where one is taken, and the values behind it.
+/// A value of a row, where one is taken, and the values after it.
 #[derive(Drop)]
 pub struct NextValue<'a> {
     /// The value.
     pub value: Option<&'a Tree>,
-    /// Those behind it.
+    /// Those after it.
     pub others: &'a [Tree],
 }
 

@@ -1,4 +1,4 @@
--- Names behind names.
+-- Names after names.
 use Rattle.std.proofs.Common.{◌≡◌, List, [], ◌∷◌, ◌++◌, refl, sym, ap, ◌∙◌, append_assoc}
 use Rattle.std.proofs.lemmas.List.{append-nil}
 use Rattle.rz_types_fields.specs.Field.{PlainField}

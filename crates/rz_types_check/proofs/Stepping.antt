@@ -1,4 +1,4 @@
--- What one step of the walk meets, and two parts of it one behind the other.
+-- What one step of the walk meets, and two parts of it one after the other.
 use Rattle.std.proofs.Common.{◌≡◌, ℕ, ◌+◌, List, [], ◌∷◌, ◌++◌, map, Option, Some, None, Result, refl, sym, ap, ◌∙◌, arith}
 use Rattle.std.specs.Prelude.{not, option_map, pos}
 use Rattle.rz_core.specs.Lists.{first_of, or_else, unless_fault}
@@ -18,14 +18,14 @@ use Rattle.rz_types_check.specs.Walked.{case_met, field_met, Met}
 abbrev pub met_at : ℕ → Own → Option TypeFault → Met
 met_at position names unknown = record { position = kept_position position; names = names; unknown = unknown }
 
--- what is met behind these steps
+-- what is met after these steps
 abbrev pub met_behind : List Step → ℕ → Own → Option TypeFault → Result Met TypeFault
 met_behind done position names unknown =
     unless_fault (first_of (map broken_at done)) (met_at position names (or_else unknown (first_of (map unknown_at done))))
 
--- One part behind the other.
+-- One part after the other.
 
--- what is met behind a part goes on to what is behind it, where no rule is broken so far
+-- what is met after a part goes on to what is after it, where no rule is broken so far
 pub chain_by : {X : Type 0} (first second : Option TypeFault) (here : Met) (there : X) (next : Met → Result X TypeFault) → next here ≡ unless_fault second there
     → (unless_fault first here >>= next) ≡ unless_fault (or_else first second) there
 chain_by None second here there next is = is

@@ -146,7 +146,7 @@ cases_met_is switch position scope keys met cases is =
     ap (λ k. cases_met scope (kept_position switch) keys (record { position = k; names = met.names; unknown = met.unknown }) cases) is
     ∙ cases_are switch position met.names scope keys cases met.unknown
 
--- The whole walk, and the names behind it.
+-- The whole walk, and the names after it.
 pub all_checked : (body : PlainBody) → (body_met (names_of body) nothing_met body >>= λ met. unless_fault {X = Unit {0}} met.unknown tt) ≡ unless_fault {X = Unit {0}} (broken body) tt
 all_checked body =
     let finish = λ (met : Met). unless_fault {X = Unit {0}} met.unknown tt in

@@ -36,7 +36,7 @@ with_field scope met field = record {
 abbrev pub field_met : Own → Met → PlainField → Result Met TypeFault
 field_met scope met field = unless_fault (broken_at (at_field met.position met.names scope field)) (with_field scope met field)
 
--- behind a case
+-- after a case
 abbrev pub case_met : ℕ → Word → List CaseKey → List CaseKey → Met → Result Met TypeFault
 case_met switch name keys before met = unless_fault (bad_case switch name keys before) met
 

@@ -29,7 +29,7 @@ pub const MOST_KEPT: u64 = 9_223_372_036_854_775_807;
 const MOST_ROWS: i32 = 1_048_576;
 
 /// The template of a body, or the first rule that it breaks. A walk goes over the fields depth first; a field's own
-/// rules come before those of the fields within it, those of a case behind its fields. 230: a label has the name of one
+/// rules come before those of the fields within it, those of a case after its fields. 230: a label has the name of one
 /// before it; 231: so has an array (kept of each: the name). 232: two cases of a switch have one name (kept: the
 /// later's). 233: a case hasn't exactly one key; 234: the keys of a switch have different widths; 235: the fields
 /// before a key haven't all a fixed width, or the keys stand at different distances; 236: two keys have the same bits
@@ -37,7 +37,7 @@ const MOST_ROWS: i32 = 1_048_576;
 /// position of the field). 238: the width of a `bitstring` outside 1 to 32, the count of an array outside 0 to
 /// 1,048,576, the count of a `fill` outside 0 to 16,777,212, or a constant size of a text that its type can't have
 /// (kept: the value): a `string` has a size from 0 on, a `pstring` from 0 to 255, a `wstring` from 0 to 65,535, a
-/// `cstring` from 1 on; a size that is no constant, or a constant without a value, breaks no rule. Behind the walk 212:
+/// `cstring` from 1 on; a size that is no constant, or a constant without a value, breaks no rule. After the walk 212:
 /// the first label or array that an expression names and that is none of its own body and of those around, the first
 /// label with an index that stands directly in the rows of no array of these, or the first array of whose row the
 /// number is asked and that isn't around (kept: the name); `true` and `false` are no labels, a label comes before its
@@ -59,7 +59,7 @@ pub fn check(alloc: Global, body: Body) -> Result<Template, Stop<TypeFault>>
     }
 }
 
-/// The first rule that a field at this position breaks itself, behind labels and arrays of these names.
+/// The first rule that a field at this position breaks itself, after labels and arrays of these names.
 pub fn broken_field(
     alloc: Global,
     position: u64,
@@ -196,7 +196,7 @@ pub fn is_among(name: &[u8], names: &[&Word]) -> bool
     false
 }
 
-/// The first rule that a case of the switch at this position breaks, by its keys, behind cases with those keys.
+/// The first rule that a case of the switch at this position breaks, by its keys, after cases with those keys.
 pub fn broken_behind(
     alloc: Global,
     position: u64,
@@ -212,7 +212,7 @@ pub fn broken_behind(
     }
 }
 
-/// The number of the first rule that the keys of a case break, behind these.
+/// The number of the first rule that the keys of a case break, after these.
 fn key_rule(keys: &[CaseKey], before: &[CaseKey]) -> Option<u16>
     ensures { result ≡ key_rule keys.now before.now }
 {

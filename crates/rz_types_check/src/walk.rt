@@ -168,7 +168,7 @@ fn walk_cases<'a>(
     Ok(())
 }
 
-/// Meets a field: refuses the first rule that it breaks itself, and else steps behind it.
+/// Meets a field: refuses the first rule that it breaks itself, and else steps after it.
 fn meet<'a>(alloc: Global, field: &'a Field, walk: &mut Walk<'a>) -> Result<(), Stop<TypeFault>>
     ensures { Walks (field_met (scope_of walk.old) (met_of walk.old) (plain_field field.now)) walk.old result walk.new }
 {

@@ -10,7 +10,7 @@ use Rattle.rz_types_fields.proofs.Bodies.{body_next}
 some_is : (a b : ℕ) → ◌≡◌ {A = Option ℕ} (Some a) (Some b) → a ≡ b
 some_is a b is = cc
 
--- behind widths that are capped alike the keys are the same
+-- after widths that are capped alike the keys are the same
 
 sum_same : (one other more : ℕ) → capped one ≡ capped other → capped (one + more) ≡ capped (other + more)
 sum_same one other more same = omega (arith, same)

@@ -15,7 +15,7 @@ use Rattle.rz_types_fields.specs.Known.{known}
 use Rattle.rz_types_fields.specs.Sees.{beside, bits_before, hit, marked, sees}
 use Rattle.rz_types_fields.specs.declared.names.Note.{Note}
 
--- Marks behind which no bit is late.
+-- Marks after which no bit is late.
 
 none_taken : (width count : ℕ) → any_set (take width (replicate count false)) ≡ false
 none_taken zero count = refl

@@ -1,4 +1,4 @@
--- What is known of names behind one note more.
+-- What is known of names after one note more.
 use Rattle.std.proofs.Common.{◌≡◌, ℕ, suc, ◌+◌, ◌-◌, ◌%◌, ◌<◌, Bool, true, false, ◌||◌, ◌&&◌, ℤ, pos, negsuc, List, [], ◌∷◌, ◌++◌, length, get_or, take, Option, Some, None, refl, sym, ap, ◌∙◌, append_assoc, arith, w32, w64}
 use Rattle.std.specs.Option.{is_some}
 use Rattle.std.specs.Prelude.{if◌then◌else◌, not, option_map}
@@ -58,7 +58,7 @@ older_known notes newer note key less item =
     ∙ sym (known_of_older notes older note key within item)
     ∙ ap (λ (n : ℕ). (known (take n notes)).give key) next
 
--- what is met behind one note more
+-- what is met after one note more
 
 met_more : (before : Bool) (notes : List Note) (note : Note) (key : Key) → met_noted before (notes ++ note ∷ []) key ≡ meeting note key (met_noted before notes key)
 met_more before [] note key = refl

@@ -41,7 +41,7 @@ stated_by field key = None
 abbrev pub which_of : Option InRow → Option RowOf
 which_of which = option_map (λ row. record { name = row.array.now; number = row.number }) which
 
--- the value of a key behind one note more, where it has another before it: a number told it, rows of an array were read or are
+-- the value of a key after one note more, where it has another before it: a number told it, rows of an array were read or are
 -- laid, a label was read or laid, all rows of an array were, which have labels, or a body was entered, whose own names hide those
 -- outside
 abbrev pub noting : Note → Key → Option ℤ → Option ℤ
@@ -52,7 +52,7 @@ noting (PlaceTold name at) key other = if stands_at name.now.bytes key then Some
 noting (Rows row count places) key other = if gives_rows (plain_body row.now) key then row_value (plain_body row.now) count places.items key else other
 noting (Entered fields which) key other = value_inside (which_of which) (plain_body fields.now) key other
 
--- behind all notes, the oldest first
+-- after all notes, the oldest first
 abbrev pub noted : Option ℤ → List Note → Key → Option ℤ
 noted other [] key = other
 noted other (note ∷ notes) key = noted (noting note key other) notes key
@@ -60,7 +60,7 @@ noted other (note ∷ notes) key = noted (noting note key other) notes key
 abbrev pub known : List Note → Environment
 known notes = record { give = λ key. noted (outside.give key) notes key }
 
--- whether a key is met behind one note more, where it was or wasn't before it: what a number told isn't met by that
+-- whether a key is met after one note more, where it was or wasn't before it: what a number told isn't met by that
 abbrev pub meeting : Note → Key → Bool → Bool
 meeting (Told name rows) key before = before
 meeting (PlaceTold name at) key before = before
@@ -73,7 +73,7 @@ abbrev pub met_noted : Bool → List Note → Key → Bool
 met_noted before [] key = before
 met_noted before (note ∷ notes) key = met_noted (meeting note key before) notes key
 
--- what is met behind all notes
+-- what is met after all notes
 abbrev pub met : List Note → Names
 met notes key = met_noted (is_some (outside.give key)) notes key
 

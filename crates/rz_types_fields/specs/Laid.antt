@@ -73,7 +73,7 @@ pub record Draft : Type 0 where
 abbrev pub nothing_laid : Draft
 nothing_laid = record { piece = 0; bits = []; late = []; known = outside; numbers = []; places = [] }
 
--- what an expression sees behind what is laid so far: all bits but those of late numbers
+-- what an expression sees after what is laid so far: all bits but those of late numbers
 abbrev pub draft_sight : Facts → Draft → Sight
 draft_sight known draft = beside draft.late (sees known draft.bits draft.known (length draft.bits))
 
@@ -262,7 +262,7 @@ abbrev pub placed : Piece → ℕ → Environment → Environment
 placed (Place name) at names = record { give = λ key. if stands_at name.bytes key then Some (pos at) else names.give key }
 placed piece at names = names
 
--- behind a label its place stands behind the others
+-- after a label its place stands after the others
 abbrev pub and_place : Piece → ℕ → List ℤ → List ℤ
 and_place (Place name) at places = places ++ pos at ∷ []
 and_place piece at places = places
@@ -299,11 +299,11 @@ abbrev pub other_values : Bool → List Tree → List Tree
 other_values true (value ∷ values) = values
 other_values takes values = values
 
--- one with the next value where it takes one, and the others behind it
+-- one with the next value where it takes one, and the others after it
 abbrev pub then_laid : Bool → (Option Tree → Result Draft Refusal) → (Draft → List Tree → Result Draft Refusal) → List Tree → Result Draft Refusal
 then_laid takes one others values = one (first_value takes values) >>= λ next. others next (other_values takes values)
 
--- one behind the other, each with the next value where it takes one
+-- one after the other, each with the next value where it takes one
 abbrev pub in_order : {A : Type 0} → (A → Bool) → (Draft → A → Option Tree → Result Draft Refusal) → Draft → List A → List Tree → Result Draft Refusal
 in_order takes lay draft [] values = Ok draft
 in_order takes lay draft (x ∷ xs) values = then_laid (takes x) (lay draft x) (λ next values. in_order takes lay next xs values) values
@@ -388,12 +388,12 @@ with_places places draft = record {
 abbrev pub apart : (Draft → Result Draft Refusal) → Draft → Result Draft Refusal
 apart lay draft = lay (with_places [] draft) >>= λ next. Ok (with_places draft.places next)
 
--- rows one behind the other, of which the first has this number
+-- rows one after the other, of which the first has this number
 abbrev pub rows_laid : (ℕ → Draft → List Tree → Result Draft Refusal) → ℕ → Draft → List (List Tree) → Result Draft Refusal
 rows_laid row number draft [] = Ok draft
 rows_laid row number draft (line ∷ lines) = row number draft line >>= λ next. rows_laid row (number + 1) next lines
 
--- behind all rows of an array the labels in them have their places
+-- after all rows of an array the labels in them have their places
 abbrev pub behind_rows : PlainBody → ℕ → Draft → Draft
 behind_rows row count draft = record {
   piece = draft.piece;

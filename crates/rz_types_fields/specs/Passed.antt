@@ -60,13 +60,13 @@ declares (field_and field fields) key = gives_key field key || declares fields k
 
 -- What the fields before one tell of names: which stand before it, labels, arrays by the numbers of their rows, and the labels
 -- in these by all their rows, and which are told, by a stated count or by a number before it. At a field those are near, too,
--- that stand behind it at a known distance.
+-- that stand after it at a known distance.
 pub record Passed : Type 0 where
   pub met : Names
   pub told : Names
   pub near : Names
 
--- known behind this field too, and in the bodies within
+-- known after this field too, and in the bodies within
 abbrev pub is_held : Passed → Names
 is_held passed key = passed.met key || passed.told key
 
@@ -99,7 +99,7 @@ states (field_and field fields) key = states_key field key || states fields key
 abbrev pub met_inside : PlainBody → Names → Names
 met_inside body met key = not (declares body key) && met key
 
--- behind a field what it gives a value is met
+-- after a field what it gives a value is met
 abbrev pub met_behind : PlainField → Names → Names
 met_behind field met key = gives_key field key || met key
 
@@ -111,7 +111,7 @@ at_front body passed = record {
   near = λ key. false;
 }
 
--- what stands behind the field is at a known distance
+-- what stands after the field is at a known distance
 abbrev pub is_measured : PlainField → Bool
 is_measured (Align unit) = true
 is_measured field = is_some (fixed_width field)
@@ -125,7 +125,7 @@ is_near (field_and field fields) key = is_label field key || (is_measured field 
 abbrev pub at_field : PlainBody → Passed → Passed
 at_field body passed = record { met = passed.met; told = passed.told; near = is_near body }
 
--- behind a number those of its expression's names are told that weren't known before it
+-- after a number those of its expression's names are told that weren't known before it
 abbrev pub told_by : Option Term → Passed → Passed
 told_by None passed = passed
 told_by (Some term) passed = record {
@@ -142,7 +142,7 @@ abbrev pub behind_pieces : List Piece → Passed → Passed
 behind_pieces [] passed = passed
 behind_pieces (piece ∷ pieces) passed = behind_pieces pieces (behind_piece piece passed)
 
--- behind a field: an array or a label is met, and what its numbers tell is told
+-- after a field: an array or a label is met, and what its numbers tell is told
 abbrev pub behind : PlainField → Passed → Passed
 behind field passed =
     between (behind_pieces (pieces_of field) (record { met = met_behind field passed.met; told = passed.told; near = passed.near }))

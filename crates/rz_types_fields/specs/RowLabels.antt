@@ -58,6 +58,6 @@ row_value row count places (place_in label number) =
     if int_le (pos 1) number && int_le number (pos count) then slice_get places ((nat_abs number - 1) * labels_count row + label_index row label) else None
 row_value row count places key = None
 
--- behind the rows of an array the labels in them have these values, and every other name what it has
+-- after the rows of an array the labels in them have these values, and every other name what it has
 abbrev pub also_rows : PlainBody → ℕ → List ℤ → Environment → Environment
 also_rows row count places names = record { give = λ key. if gives_rows row key then row_value row count places key else names.give key }

@@ -25,7 +25,7 @@ sees known all names at = see known (bits_before all at) names
 abbrev pub Late : Type 0
 Late = List Bool
 
--- a mark for each of so many bits, where those behind the marks aren't late
+-- a mark for each of so many bits, where those after the marks aren't late
 abbrev pub marked : ℕ → List Bool → Late
 marked count marks = marks ++ replicate (count - length marks) false
 
@@ -63,6 +63,6 @@ names_later met (FactOf which) = false
 names_later met (OfOne op operand) = names_later met operand
 names_later met (OfTwo op left right) = names_later met left || names_later met right
 
--- a number is late where its expression names a label behind it, or has no value beside the late bits
+-- a number is late where its expression names a label after it, or has no value beside the late bits
 abbrev pub is_late : Names → Late → Term → Sight → Bool
 is_late met late term sight = names_later met term || not (is_ok (value_of term (beside late sight)))

@@ -190,11 +190,11 @@ abbrev pub put : Option Tree → List Tree → List Tree
 put None values = values
 put (Some value) values = value ∷ values
 
--- what is spelled from a place on, with the late marks before it and behind it
+-- what is spelled from a place on, with the late marks before it and after it
 abbrev pub RowSpells : Type 1
 RowSpells = ℕ → Late → ℕ → Late → Type 0
 
--- one with its value or none, and the others behind it
+-- one with its value or none, and the others after it
 abbrev pub Then : (Option Tree → RowSpells) → (List Tree → RowSpells) → List Tree → RowSpells
 Then One Others values at late after late_after =
     (value : Option Tree) × (rest : List Tree) × (mid : ℕ) × (late_mid : Late) × (values ≡ put value rest)
@@ -204,7 +204,7 @@ Then One Others values at late after late_after =
 abbrev pub AtEnd : List Tree → RowSpells
 AtEnd values at late after late_after = (values ≡ []) × (after ≡ at) × (late_after ≡ late)
 
--- pieces one behind the other, each with its value or none
+-- pieces one after the other, each with its value or none
 abbrev pub InOrder : (Passed → Piece → Option Tree → RowSpells) → Passed → List Piece → List Tree → RowSpells
 InOrder Spells passed [] values = AtEnd values
 InOrder Spells passed (piece ∷ pieces) values = Then (Spells passed piece) (InOrder Spells (behind_piece piece passed) pieces) values
@@ -213,7 +213,7 @@ InOrder Spells passed (piece ∷ pieces) values = Then (Spells passed piece) (In
 abbrev pub Inside : PlainBody → Option RowOf → Environment → (Environment → RowSpells) → RowSpells
 Inside body which outer Body at late after late_after = (own : Environment) × Within body which outer own × Body own at late after late_after
 
--- rows one behind the other, of which the first has this number
+-- rows one after the other, of which the first has this number
 abbrev pub RowsSpell : (ℕ → List Tree → RowSpells) → ℕ → List (List Tree) → RowSpells
 RowsSpell Row number [] at late after late_after = (after ≡ at) × (late_after ≡ late)
 RowsSpell Row number (row ∷ rows) at late after late_after =
@@ -261,7 +261,7 @@ module _ (plain : Bool) (known : Facts) (all : List Bool) where
         × Inside row None names (λ own. BodySpells row own (at_front row passed) line) at late after late_after)
         (CaseSpells others names passed value at late after late_after)
 
-    -- the fields of a body one behind the other, each with its value or none
+    -- the fields of a body one after the other, each with its value or none
     pub BodySpells : PlainBody → Environment → Passed → List Tree → RowSpells
     BodySpells no_fields names passed values = AtEnd values
     BodySpells (field_and field fields) names passed values =
@@ -284,7 +284,7 @@ count_in value = fold-Tree ℕ count_step value
 abbrev pub values_in : List Tree → ℕ
 values_in row = sum_by count_in row
 
--- the row spells these bytes: its fields one behind the other from the first bit on, and then zero bits to a whole byte;
+-- the row spells these bytes: its fields one after the other from the first bit on, and then zero bits to a whole byte;
 -- plainly where the bytes tell the row again and it has at most 1,048,576 values
 pub record Spells (plain : Bool) (known : Facts) (body : PlainBody) (row : List Tree) (bytes : List ℕ) : Type 0 where
   pub names : Environment

@@ -35,7 +35,7 @@ abbrev pub two_bytes : ℕ → List ℕ
 two_bytes number = number / 256 ∷ number % 256 ∷ []
 
 -- a `string` is its bytes; a `pstring` has a byte with their number before them, a `wstring` 16 bits; a `cstring` has a
--- zero byte behind them. A size cuts or fills the bytes, of a `cstring` with that zero byte, and the number is that of the
+-- zero byte after them. A size cuts or fills the bytes, of a `cstring` with that zero byte, and the number is that of the
 -- bytes that are left.
 abbrev pub stored_text : TextForm → Option ℕ → List ℕ → List ℕ
 stored_text Open size bytes = to_size size bytes

@@ -68,7 +68,7 @@ is_field_expression (OfTwo op left right) = is_field_expression left && is_field
 
 -- Expressions of fields.
 
--- an expression of a size: it may name labels, by themselves, in a row and with the bits behind them, and the row around
+-- an expression of a size: it may name labels, by themselves, in a row and with the bits after them, and the row around
 abbrev pub is_size_expression : Term → Bool
 is_size_expression (Constant number) = true
 is_size_expression (Named name) = true

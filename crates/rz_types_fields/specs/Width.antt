@@ -1,4 +1,4 @@
--- Fields that have the same width in every row, and the keys that stand behind such fields in cases. (MPW Rez.)
+-- Fields that have the same width in every row, and the keys that stand after such fields in cases. (MPW Rez.)
 use Rattle.std.specs.Prelude.{ℕ, ◌+◌, ◌-◌, ◌*◌, min, ℤ, pos, nat_abs, if◌then◌else◌, List, [], ◌∷◌, ◌++◌, Option, Some, None, option_map}
 use Rattle.std.specs.Option.{unwrap_or}
 use Rattle.rz_expr.specs.Constant.{constant_of}
@@ -67,7 +67,7 @@ abbrev pub key_bits : ℤ → Option Term → ℕ
 key_bits width None = 0
 key_bits width (Some term) = stored_number (nat_abs width) (unwrap_or (constant_of term) (pos 0))
 
--- the key that a number is, behind so many bits, where these are known
+-- the key that a number is, after so many bits, where these are known
 abbrev pub number_key : Option ℕ → PlainNumber → List CaseKey
 number_key before number =
     if number.key then record { width = nat_abs number.width; distance = option_map capped before; bits = key_bits number.width number.fixed } ∷ [] else []

@@ -46,11 +46,11 @@ pub enum Radix {
 pub enum TextForm {
     /// `string`, the bytes alone.
     Open,
-    /// `pstring`, behind a byte with its length.
+    /// `pstring`, after a byte with its length.
     Pascal,
-    /// `wstring`, behind 16 bits with its length.
+    /// `wstring`, after 16 bits with its length.
     WordLong,
-    /// `cstring`, with a zero byte behind it.
+    /// `cstring`, with a zero byte after it.
     Zero,
 }
 

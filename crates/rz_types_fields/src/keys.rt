@@ -38,7 +38,7 @@ pub fn case_keys(alloc: Global, row: &[Field]) -> Result<Vec<CaseKey>, NoMemory>
     Ok(keys)
 }
 
-/// Appends the key that a field is, behind so many bits.
+/// Appends the key that a field is, after so many bits.
 fn push_key(keys: &mut Vec<CaseKey>, before: Option<u64>, field: &Field) -> Result<(), NoMemory>
     ensures { OnOk result (keys.new.items ≡ keys.old.items ++ field_key before (plain_field field.now)) }
 {

@@ -58,7 +58,7 @@ pub struct Format {
     pub arguments: FormatArgs,
 }
 
-/// A part of a text. What few parts have stands behind a `Box`, so that millions of plain ones take little memory.
+/// A part of a text. What few parts have stands after a `Box`, so that millions of plain ones take little memory.
 /// (MPW Rez.)
 #[derive(Drop)]
 #[cycle(text)]

@@ -16,7 +16,7 @@ plain_text (byte ∷ text) none =
     let parts = or_false (byte == 37) (list_any (λ byte. byte == 37) text) none in
     copied_first byte text [] parts.0 ∙ ap (λ (given : Option (List ℕ)). Some (byte ∷ []) ++? given) (plain_text text parts.1)
 
--- what stands behind a front that is given is given too
+-- what stands after a front that is given is given too
 behind_front : (front rest : Option (List ℕ)) (bytes : List ℕ) → front ++? rest ≡ Some bytes → (given : List ℕ) × (rest ≡ Some given)
 behind_front None rest bytes is = absurd (none_some bytes is)
 behind_front (Some front) None bytes is = absurd (none_some bytes is)

@@ -40,7 +40,7 @@ pub data Piece : Type 0 where
   Copied : (byte : ℕ) → Piece  -- a byte that is given as it is
   Conversion : (letter : ℕ) → Piece  -- a percent sign and a letter, which stand for an argument
 
--- what a percent sign and the byte behind it are: two percent signs are one
+-- what a percent sign and the byte after it are: two percent signs are one
 abbrev pub behind_percent : ℕ → Piece
 behind_percent letter = if letter == 37 then Copied 37 else Conversion letter
 

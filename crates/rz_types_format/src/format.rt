@@ -24,7 +24,7 @@ pub type Arguments = Listing<Argument>;
 /// argument. `%d` is a number in decimal, with a minus sign where it is negative; `%u`, `%x` and `%o` are the number
 /// modulo 2^32 in decimal, in lower-case hexadecimal and in octal, without leading zeros; `%c` is the byte of a number
 /// from 0 to 255; `%s` is a text; `%%` is a percent sign, and takes no argument. `None` where an argument is missing, is
-/// left over, or is of another kind than its conversion takes, where another byte stands behind a percent sign, or none.
+/// left over, or is of another kind than its conversion takes, where another byte stands after a percent sign, or none.
 /// (MPW Rez.)
 pub fn formatted(
     alloc: Global,
@@ -58,7 +58,7 @@ struct Filling<'a> {
 }
 
 impl<'a> Filling<'a> {
-    /// Goes on by one byte of the text. `false` where the text gives nothing, whatever stands behind the byte.
+    /// Goes on by one byte of the text. `false` where the text gives nothing, whatever stands after the byte.
     fn step(&mut self, alloc: Global, byte: u8) -> Result<bool, NoMemory>
         ensures { IfOk result (λ goes_on. (rest : List ℕ) → given self.old (byte ∷ rest) ≡ (if goes_on then given self.new rest else None)) }
     {

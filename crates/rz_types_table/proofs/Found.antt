@@ -125,7 +125,7 @@ remove_push f [] k y within = absurd (omega (arith, within))
 remove_push f (x ∷ xs) zero y within = map-append f xs (y ∷ [])
 remove_push f (x ∷ xs) (suc k) y within = ap (λ (l : List _). f x ∷ l) (remove_push f xs k y (omega (arith, within)))
 
--- a new item behind, and one that passes taken out
+-- a new item after, and one that passes taken out
 pub taken_out : {A B : Type 0} (f : A → B) (out : B → Bool) (xs : List A) (k : ℕ) (x : B) (y : A) → slice_get (map f xs) k ≡ Some x → out x ≡ true
     → list_any out (take k (map f xs)) ≡ false → map f (remove (xs ++ y ∷ []) k) ≡ without out (map f xs) ++ f y ∷ []
 taken_out f out xs k x y is passes none =

@@ -39,7 +39,7 @@ abbrev pub without : {A : Type 0} → (A → Bool) → List A → List A
 without test [] = []
 without test (x ∷ xs) = if test x then xs else x ∷ without test xs
 
--- the table behind a declaration: it stands at the end, and one of its type and scope is no more there
+-- the table after a declaration: it stands at the end, and one of its type and scope is no more there
 abbrev pub declared_behind : List Declaration → Declaration → List Declaration
 declared_behind table one = without (stands_at one.kind one.scope) table ++ one ∷ []
 

@@ -23,7 +23,7 @@ pub fn held(places: &Places, kind: u32) -> &[usize]
     }
 }
 
-/// Adds a position behind those of its type.
+/// Adds a position after those of its type.
 pub fn add(alloc: Global, places: &mut Places, kind: u32, position: usize) -> Result<(), NoMemory>
     ensures ok { OnOk result ((other : ℕ) → held other places.new ≡ held other places.old ++ (if kind == other then position ∷ [] else [])) }
     ensures err { OnErr result ((other : ℕ) → held other places.new ≡ held other places.old) }

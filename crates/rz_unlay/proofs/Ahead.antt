@@ -9,8 +9,8 @@ use Rattle.rz_unlay_pieces.specs.Ahead.{near_place, told_label, Told}
 abbrev pub HasPlaces : Environment → Type 0
 HasPlaces env = (name : List ℕ) (value : ℤ) → predefined name ≡ Some value → env.give (place_of name) ≡ Some value
 
--- the labels that are near stand there, all labels behind the field stand in the resource, and one whose place is told stands
--- so far behind it
+-- the labels that are near stand there, all labels after the field stand in the resource, and one whose place is told stands
+-- so far after it
 pub record Ahead (all : List Bool) (field : PlainField) (rest : PlainBody) (env : Environment) (at after : ℕ) : Type 0 where
   pub near : (key : Key) (place : ℕ) → near_place (field_and field rest) at key ≡ Some place → (env.give key ≡ Some (pos place)) × (place ≤ length all)
   pub lies : (name : List ℕ) → declares rest (place_of name) ≡ true → (place : ℕ) × (env.give (place_of name) ≡ Some (pos place)) × (place ≤ length all)

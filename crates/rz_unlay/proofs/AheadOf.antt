@@ -48,7 +48,7 @@ by_name : {P : Type 0} (test : Bool) (here : Option ℕ) (there : Option ℕ) (p
 by_name true here there place one other is = one refl is
 by_name false here there place one other is = other is
 
--- the place that is told of a label, or what is told of those behind the field
+-- the place that is told of a label, or what is told of those after the field
 either_told : {P : Type 0} (o : Option ℕ) (more : Option Told) (told : Told) → ((place : ℕ) → o ≡ Some place → record { place = place; width = 0 } ≡ told → P) → (more ≡ Some told → P)
     → or_else (option_map (λ place. record { place = place; width = 0 }) o) more ≡ Some told → P
 either_told None more told one other is = other is
@@ -98,7 +98,7 @@ module _ (known : Facts) (all : List Bool) (env : Environment) (has : HasPlaces 
   gives_label (Array (Some own) count row) name is = absurd cc
   gives_label (Switch cases) name is = absurd cc
 
-  -- the place behind a field is that at its distance
+  -- the place after a field is that at its distance
   fixed_ends : (in_case : Bool) (field : PlainField) (passed : Passed) (value : Option Tree) (at : ℕ) (late : List Bool) (after : ℕ) (late_after : List Bool)
       → is_shaped in_case field ≡ true → FieldSpells true known all field env passed value at late after late_after
       → (next : ℕ) → option_map (λ width. at + width) (fixed_width field) ≡ Some next → after ≡ next
@@ -170,7 +170,7 @@ module _ (known : Facts) (all : List Bool) (env : Environment) (has : HasPlaces 
       (λ own. (at, label_is field here it.0 at late it.2 it.3 it.5 (place_of name) (gives_label field name own), omega (arith, grows)))
       (label_lies in_case fields (behind field here) it.1 it.2 it.3 after late_after test.1 it.6 name) is
 
-  -- a label whose place is told stands behind fields of that width
+  -- a label whose place is told stands after fields of that width
   told_is : (in_case : Bool) (body : PlainBody) (passed : Passed) (line : List Tree) (at : ℕ) (late : List Bool) (after : ℕ) (late_after : List Bool)
       → are_shaped in_case body ≡ true → BodySpells true known all body env passed line at late after late_after
       → (len : ℕ) (names : Environment) → IsPartOf names env → (told : Told) → told_label len body names ≡ Some told → told.place ≡ at + told.width

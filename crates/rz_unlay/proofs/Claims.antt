@@ -10,7 +10,7 @@ use Rattle.rz_unlay.proofs.Asked.{is_asked}
 use Rattle.rz_unlay.proofs.ReadsTests.{by_case, either_of, if_false, if_some, if_true, left_true, right_true}
 use Rattle.rz_unlay.proofs.SpelledNames.{Knows}
 
--- what is known behind a name that has its value
+-- what is known after a name that has its value
 pub record Claimed (key : Key) (value : ℤ) (names more : Environment) : Type 0 where
   pub kept : IsPartOf names more
   pub same : (other : Key) → is_same_key key other ≡ false → more.give other ≡ names.give other

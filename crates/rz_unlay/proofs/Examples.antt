@@ -20,7 +20,7 @@ use Rattle.rz_types.specs.Text.{Plain}
 abbrev read : Facts → PlainBody → List ℕ → Option Line
 read known body bytes = line_of (body_found known (bits_of bytes) (at_front body nothing_passed).met body (names_inside None body outside) 0 [])
 
--- a row, the places of its labels and the place behind it, where no bit is late
+-- a row, the places of its labels and the place after it, where no bit is late
 abbrev line_with : List ℤ → List Tree → ℕ → Option Line
 line_with places row after = Some (record { row = row; places = places; after = after; late = replicate after false })
 
@@ -106,7 +106,7 @@ behind_text : (known : Facts) → read known (field_and zero_ended (field_and (l
 unfolding number_bits int_wrap
 behind_text known = refl
 
--- a number tells where a text ends, a label behind it
+-- a number tells where a text ends, a label after it
 abbrev ends : PlainBody
 ends = field_and (number (Some (bytes_to (codes "e") (codes "s"))))
     (field_and (label (codes "s")) (field_and open_text (field_and (label (codes "e")) (field_and (number None) no_fields))))
@@ -120,7 +120,7 @@ text_to_a_label : (known : Facts) → read known ends (0 ∷ 2 ∷ 1 ∷ 2 ∷ 0
 unfolding number_bits int_wrap
 text_to_a_label known = refl
 
--- then what stands behind it isn't there
+-- then what stands after it isn't there
 text_too_long : (known : Facts) → read known ends (0 ∷ 3 ∷ 1 ∷ 2 ∷ 0 ∷ 5 ∷ []) ≡ None
 unfolding number_bits int_wrap
 text_too_long known = refl
@@ -206,7 +206,7 @@ first_in_place : (known : Facts) → reading known tail (0 ∷ 2 ∷ 0 ∷ 1 ∷
 unfolding number_bits int_wrap
 first_in_place known = refl
 
--- an index behind the last row isn't taken for the last
+-- an index after the last row isn't taken for the last
 no_second : (known : Facts) → reading known tail (0 ∷ 1 ∷ 0 ∷ 1 ∷ 1 ∷ 65 ∷ 0 ∷ 2 ∷ []) ≡ None
 unfolding number_bits int_wrap
 no_second known = refl
@@ -231,7 +231,7 @@ first_label : (known : Facts) → reading known two_labels (170 ∷ 187 ∷ 204 
 unfolding number_bits int_wrap
 first_label known = refl
 
--- a number tells a label behind it by one in a row
+-- a number tells a label after it by one in a row
 abbrev from_row : PlainBody
 from_row = field_and (Array None (Some (pos 2)) (field_and (label (codes "g")) (field_and (byte None) no_fields)))
     (field_and (byte (Some (divided (OfTwo two.Minus (place (codes "e")) (Indexed (codes "g") (Constant (pos 2)))) 8))) (field_and open_text (field_and (label (codes "e")) (field_and (byte None) no_fields))))

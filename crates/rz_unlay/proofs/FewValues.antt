@@ -1,4 +1,4 @@
--- What is read with at most so many values, one part behind the other.
+-- What is read with at most so many values, one part after the other.
 use Rattle.std.proofs.Common.{◌≡◌, ◌⊎◌, inl, inr, ℕ, ◌+◌, ◌-◌, ◌<◌, ◌≤◌, Bool, true, false, List, [], ◌∷◌, ◌++◌, length, map, Option, Some, None, refl, sym, ap, ◌∙◌, subst, arith}
 use Rattle.std.specs.Prelude.{nat_le, if◌then◌else◌, option_and_then, option_map}
 use Rattle.std.specs.List.{sum_by}
@@ -94,7 +94,7 @@ module _ {X Y : Type 0} (count : X → ℕ) (total : Y → ℕ) where
       by None is = refl
       by (Some y) is = sym (few_over total most y (more x y is (is_over count low x none)))
 
-  -- what is behind the first
+  -- what is after the first
   pub some_behind : (low most : ℕ) (o : Option X) (x : X) (next : X → Option Y) → Some x ≡ few count low o
       → few total most (option_and_then next o) ≡ few total most (next x)
   some_behind low most o x next is = ap (λ (p : Option X). few total most (option_and_then next p)) (first_within count low o x is).0
@@ -133,7 +133,7 @@ value_less field at value (Some f) whole is =
 -- Rows of an array.
 
 module _ (row : Option Line) (behind : Line → Option Lines) where
-  -- a row, and those behind it
+  -- a row, and those after it
   abbrev pub one_and : Option Lines
   one_and = option_and_then (λ line. option_map (and_lines line) (behind line)) row
 

@@ -44,7 +44,7 @@ use Rattle.rz_unlay.proofs.FewValues.{count_choice, count_rows, few_fits, first_
 
 -- Fields.
 
--- behind a row that was read
+-- after a row that was read
 abbrev pub with_row : List Tree → List ℤ → Option Found → Option Found
 with_row row places found = option_map (λ f. record { row = row ++ f.row; places = places ++ f.places; after = f.after; names = f.names; late = f.late }) found
 
@@ -104,7 +104,7 @@ pub fits_next : (fields : List Field) (i : ℕ) (field : Field) → i < length f
     → Fits (plain_field field) × AreFit (plain_body (drop (i + 1) fields))
 fits_next fields i field less item fits = subst AreFit (body_next fields i field less item) fits
 
--- the row of a body, without what is known behind it
+-- the row of a body, without what is known after it
 pub line_few : (most : ℕ) (found : Option Found) → few line_count most (line_of found) ≡ line_of (few found_count most found)
 line_few most None = refl
 line_few most (Some f) = open_test (nat_le (values_in f.row) most)
@@ -154,7 +154,7 @@ leaf_found known all here rest met field names at late leaf is =
     by (Array name count row) leaf = absurd leaf
     by (Switch cases) leaf = absurd leaf
 
--- behind it a label is met, and no other name
+-- after it a label is met, and no other name
 pub leaf_met : (field : PlainField) (met : Names) → IsLeaf field → met_past field met ≡ met_behind field met
 leaf_met (Number number) met leaf = refl
 leaf_met (Text text) met leaf = refl
@@ -173,7 +173,7 @@ spent_late learnt (Some m) after is = ap (λ n. Some (met_in (known learnt.notes
 
 -- Rows.
 
--- behind rows that were read
+-- after rows that were read
 abbrev pub with_lines : List (List Tree) → List ℤ → Option Lines → Option Lines
 with_lines rows places lines = option_map (λ l. record { rows = rows ++ l.rows; places = places ++ l.places; after = l.after; late = l.late }) lines
 
@@ -395,7 +395,7 @@ negative_rows row len rest names (negsuc n) at late below = refl
 -- Arrays.
 
 module _ (name : Option Word) (row : PlainBody) (names : Environment) (lines : Option Lines) (most : ℕ) where
-  -- behind the rows
+  -- after the rows
   abbrev rows_step : Lines → Environment → Step
   rows_step l more = record { value = Some (trees.Rows l.rows); after = l.after; names = also_rows row (length l.rows) l.places more; late = l.late }
 
@@ -427,7 +427,7 @@ module _ (name : Option Word) (row : PlainBody) (names : Environment) (lines : O
       none_behind lines_count step_count most most lines array_step
       (λ l step is over. let n = array_less l step (claim_count name (length l.rows) names) is in omega (arith, n, over)) none
 
--- behind them the name of the array and the labels in its rows are met
+-- after them the name of the array and the labels in its rows are met
 pub array_met : (name : Option Word) (count : Option ℤ) (row : PlainBody) (met : Names) → met_in_rows row (met_counted name met) ≡ met_behind (Array name count row) met
 array_met name count row met = λ i key. both (gives_rows row key) (gives_count name key) (met key) i
   where

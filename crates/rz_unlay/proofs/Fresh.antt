@@ -39,7 +39,7 @@ fresh_front which body names = record { none = front }
         inside_none which body (place_in label number) (names.give (place_in label number)) (place_in_none which label number) own (no_stated (place_in label number) (λ name. refl) body)
     front (row_in array) of own = absurd (true_false (sym own ∙ undeclared body array))
 
--- Behind a field.
+-- After a field.
 
 -- what changes no names of rows leaves them unknown
 pub fresh_others : (field : PlainField) (fields : PlainBody) (names more : Environment) → ((key : Key) → of_rows key ≡ true → more.give key ≡ names.give key)
@@ -81,7 +81,7 @@ fresh_rows name count row fields rows places names more own same fresh = record 
         (λ gives. absurd (true_false (sym later ∙ apart_field (Array name count row) fields own key (right_true (gives_count name key) (gives_rows row key) gives))))
         (λ none. none)
 
--- so what is known stays known behind the rows
+-- so what is known stays known after the rows
 pub rows_kept : (row : PlainBody) (rows : ℕ) (places : List ℤ) (names more : Environment) → ((key : Key) → gives_rows row key ≡ true → names.give key ≡ None) → IsPartOf names more
     → IsPartOf names (also_rows row rows places more)
 rows_kept row rows places names more unknown part = record { give = kept }

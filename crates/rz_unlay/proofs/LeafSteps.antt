@@ -70,7 +70,7 @@ module _ (here : Here) (names : Environment) (at : ℕ) (late : Late) (field : F
   pub label_piece : (name : Word) → field ≡ fields.Label name → label_step name names at late ≡ whole (plain_field field)
   label_piece name is = sym (ap whole (label_is field name is) ∙ label_alone here names at late name)
 
--- Behind a field that is no label the same labels are met.
+-- After a field that is no label the same labels are met.
 
 pub past_none : (old : Names) (field one : PlainField) → field ≡ one → ((key : Key) → is_label one key ≡ false) → old ≡ met_past field old
 past_none old field one is none = λ i key. sym (ap (λ (b : Bool). b || old key) (ap (λ (f : PlainField). is_label f key) is ∙ none key)) i

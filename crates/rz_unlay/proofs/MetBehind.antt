@@ -1,4 +1,4 @@
--- What is met behind a field: what was met before it, and its own name.
+-- What is met after a field: what was met before it, and its own name.
 use Rattle.std.proofs.Common.{◌≡◌, List, [], ◌∷◌, Option, Some, None, refl, ◌∙◌}
 use Rattle.rz_expr.specs.Term.{Term}
 use Rattle.rz_types_fields.specs.Field.{PlainField}

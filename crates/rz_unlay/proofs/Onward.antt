@@ -56,7 +56,7 @@ keeps_then a b c one other = record { give = λ key value plain is. other.give k
 pub places_stay : (names more : Environment) → Keeps names more → HasPlaces names → HasPlaces more
 places_stay names more kept has = λ name value is. kept.give _ value refl (has name value is)
 
--- what was read: more is known behind it, and its end lies in the resource, just there where it is known
+-- what was read: more is known after it, and its end lies in the resource, just there where it is known
 pub record Passes (len : ℕ) (names more : Environment) (after : ℕ) (known : Option ℕ) : Type 0 where
   pub kept : Keeps names more
   pub within : after ≤ len
@@ -116,7 +116,7 @@ pub record BodyGoes (len : ℕ) (body : PlainBody) (names : Environment) (at : �
 other_known : (len : ℕ) (names : Environment) (one other : Option ℕ) (step : Step) → one ≡ other → Goes len names one step → Goes len names other step
 other_known len names one other step same it = record { kept = it.kept; within = it.within; is = λ next so. it.is next (same ∙ so) }
 
--- the place behind a field of fixed width
+-- the place after a field of fixed width
 measured : (field : PlainField) (at width : ℕ) → fixed_width field ≡ Some width → behind_measured field at ≡ Some (at + width)
 measured (Number number) at width is = ap (option_map (λ bits. at + bits)) is
 measured (Text text) at width is = ap (option_map (λ bits. at + bits)) is
@@ -174,14 +174,14 @@ label_there here name names at late step is key label =
     (ap (λ (f : Found). f.names.give key) (sym (some_same _ it.0 one.2))
     ∙ subst (λ (s : Step). s.names.give key ≡ Some (pos at)) claimed.2 ((claim_came _ (pos at) names more claimed.1).has key label))
 
--- Names behind rows, and behind the first field.
+-- Names after rows, and after the first field.
 
 rows_stay : (row : PlainBody) (rows : ℕ) (places : List ℤ) (names more : Environment) → Keeps names more → Keeps names (also_rows row rows places more)
 rows_stay row rows places names more kept = record {
   give = λ key value plain is. if_false (gives_rows row key) (row_value row rows places key) (more.give key) (no_rows row key plain) ∙ kept.give key value plain is;
 }
 
--- what was read behind the first field of a body is what was read of the body, but for its first value and label
+-- what was read after the first field of a body is what was read of the body, but for its first value and label
 pub record IsBehind (field : PlainField) (at : ℕ) (value : Option Tree) (inner found : Found) : Type 0 where
   pub row : put value inner.row ≡ found.row
   pub places : label_places field at ++ inner.places ≡ found.places

@@ -40,7 +40,7 @@ use Rattle.rz_unlay.proofs.SpelledNear.{near_keeps}
 use Rattle.rz_unlay.proofs.SpelledNumber.{bits_stand, number_stands}
 use Rattle.rz_unlay.proofs.Told.{part_of_part, same_part}
 
--- what was read: more is known behind it, and its end lies in the resource, just there where it is known
+-- what was read: more is known after it, and its end lies in the resource, just there where it is known
 pub record Onward (len : ℕ) (names more : Environment) (after : ℕ) (known : Option ℕ) : Type 0 where
   pub kept : IsPartOf names more
   pub within : after ≤ len
@@ -91,7 +91,7 @@ module _ (here : Here) (form : TextForm) (fixed : Option (List PlainPart)) (name
 
 -- One piece.
 
--- the place behind a piece at a place, where it is at a known distance
+-- the place after a piece at a place, where it is at a known distance
 abbrev pub behind_one : Piece → ℕ → Option ℕ
 behind_one (OneNumber number) at = Some (at + nat_abs number.width)
 behind_one (OneText text) at = option_map (λ width. at + width) (text_width text.form text.size)
@@ -184,7 +184,7 @@ module _ (here : Here) where
   piece_goes (Filler unit) names at late step has inside is = zeros_go here.all (missing unit at) names at late step is
   piece_goes (Place name) names at late step has inside is = label_goes (length here.all) name names at late step inside is
 
--- One behind the other.
+-- One after the other.
 
 abbrev pub behind_all : List Piece → ℕ → Option ℕ
 behind_all [] at = Some at

@@ -22,7 +22,7 @@ in_size_is : (size : Option ℕ) (bytes : List ℕ) → IsPlainShort size bytes 
 in_size_is None bytes short = refl
 in_size_is (Some size) bytes short = take_short size bytes short
 
--- the bytes stand at the front, and zero bytes behind them
+-- the bytes stand at the front, and zero bytes after them
 record Behind (size : Option ℕ) (bytes : List ℕ) : Type 0 where
   count : ℕ
   is : to_size size bytes ≡ bytes ++ replicate count 0

@@ -58,7 +58,7 @@ pub zeros_found : (all : List Bool) (at count : ℕ) (bits : List Bool) → bits
 zeros_found all at count bits is within there =
     number_found all at count bits (ap length is ∙ length_zeros count) within there ∙ ap (λ (n : ℕ). Some n) (ap number_of is ∙ number_zeros count)
 
--- Numbers one behind the other.
+-- Numbers one after the other.
 
 pub number_append : (front back : List Bool) → number_of (front ++ back) ≡ number_of front * 2 ^ length back + number_of back
 number_append [] back = omega (arith)

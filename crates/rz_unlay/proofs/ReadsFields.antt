@@ -40,7 +40,7 @@ use Rattle.rz_unlay.proofs.ReadsText.{EndsAt}
 use Rattle.rz_unlay.proofs.ReadsWidths.{body_wide, by_choice}
 use Rattle.rz_unlay.proofs.Sees.{IsKnownOf}
 
--- the reader is behind a body, with its row and the places of its labels
+-- the reader is after a body, with its row and the places of its labels
 record Reaches (facts : Facts) (all : List Bool) (met : Names) (body : PlainBody) (names env : Environment) (line : List Tree) (at : ℕ) (late : Late) (after : ℕ) (late_after : Late) : Type 0 where
   places : List ℤ
   more : Environment

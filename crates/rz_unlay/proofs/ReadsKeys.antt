@@ -183,7 +183,7 @@ module _ (back : (width number : ℕ) → number < 2 ^ width → number_of (numb
       (λ other. key_apart others key env passed value at late after late_after both.1 has apart.2 from.1 other within)
       (is_case name value) it
 
-  -- so the keys of a case aren't there where another behind it is spelled
+  -- so the keys of a case aren't there where another after it is spelled
   pub keys_absent : (row : PlainBody) (others : PlainCases) (own : HasKey row others) (env : Environment) (passed : Passed) (value : Option Tree) (at : ℕ) (late : List Bool) (after : ℕ) (late_after : List Bool)
       → are_cases_shaped others ≡ true → HasPlaces env → AreCasesApart others → CaseSpells true known all others env passed value at late after late_after → after ≤ length all
       → has_keys all at (case_keys row) ≡ false

@@ -226,7 +226,7 @@ its_names rest term passed reads =
 
 -- Reading it.
 
--- the reader is behind a piece or a field, with its value and the late bits, and knows a part of the finished names
+-- the reader is after a piece or a field, with its value and the late bits, and knows a part of the finished names
 pub record Steps (passed : Passed) (env : Environment) (value : Option Tree) (after : ℕ) (late_after : Late) (step : Option Step) : Type 0 where
   pub names : Environment
   pub is : step ≡ Some (record { value = value; after = after; names = names; late = late_after })

@@ -80,7 +80,7 @@ label_goes name names env at after late late_after value part has none ends mark
     ap (λ (b : Bool). option_map (λ more. record { value = None; after = at; names = more; late = late }) (if b then Some (also key (pos at) names) else None)) test
     ∙ (λ i. Some (record { value = sym none i; after = sym ends i; names = also key (pos at) names; late = sym marks i }))
 
--- Numbers one behind the other.
+-- Numbers one after the other.
 
 abbrev AreNumbers : List Piece → Type 0
 AreNumbers [] = Unit {0}
@@ -110,7 +110,7 @@ order_grows facts all env passed (piece ∷ pieces) values at late after late_af
     let ends = it.5.ends in
     omega (arith, rest, ends)
 
--- what is met and near behind a number is what was so before it
+-- what is met and near after a number is what was so before it
 still_met : (fixed : Option Term) (passed : Passed) → (told_by fixed passed).met ≡ passed.met
 still_met None passed = refl
 still_met (Some term) passed = refl
@@ -119,7 +119,7 @@ still_near : (fixed : Option Term) (passed : Passed) → (told_by fixed passed).
 still_near None passed = refl
 still_near (Some term) passed = refl
 
--- the reader is behind pieces, with their values
+-- the reader is after pieces, with their values
 record Finds (passed : Passed) (env : Environment) (values : List Tree) (after : ℕ) (late_after : Late) (found : Option Found) : Type 0 where
   names : Environment
   is : found ≡ Some (record { row = values; places = []; after = after; names = names; late = late_after })
@@ -274,7 +274,7 @@ module _ (read : (width number : ℕ) → number_of (number_bits width number) �
         part = part;
       }
 
-  -- behind a label its place is known
+  -- after a label its place is known
   label_knows : (name : Word) → Knows (behind (Label name) (there (Label name))) (also (place_key name.bytes) (pos at) names)
   label_knows name key asked is = by (stands_at name.bytes key) is
     where

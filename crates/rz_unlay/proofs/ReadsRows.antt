@@ -1,4 +1,4 @@
--- The rows of an array are read, and their number is known behind it.
+-- The rows of an array are read, and their number is known after it.
 use Rattle.std.proofs.Common.{◌≡◌, ℕ, zero, suc, ◌+◌, ◌-◌, ◌<◌, ◌≤◌, ◌==◌, ℤ, pos, Bool, true, false, ◌&&◌, ◌||◌, List, [], ◌∷◌, length, Option, Some, None, refl, sym, ap, ◌∙◌, subst, arith}
 use Rattle.std.specs.Prelude.{◌*◌, ◌++◌, if◌then◌else◌, int_le, nat_abs, nat_le, nat_lt, option_and_then, option_map, slice_get}
 use Rattle.std.specs.Option.{is_some}
@@ -47,7 +47,7 @@ none_found row names number at late after late_after found is ends marks = recor
   have = no_rows_have row names number;
 }
 
--- one row and those behind it
+-- one row and those after it
 and_found : (row : PlainBody) (names : Environment) (number : ℕ) (line : List Tree) (rows : List (List Tree)) (mid : ℕ) (late_mid : Late) (after : ℕ) (late : Late) (first : Option Line) (next : Line → Option Lines) (found : Option Lines)
     → found ≡ option_and_then (λ line. option_map (and_lines line) (next line)) first → LineFound row names number line mid late_mid first
     → ((places : List ℤ) → LinesFound row names (number + 1) rows after late (next (record { row = line; places = places; after = mid; late = late_mid })))
@@ -61,7 +61,7 @@ and_found row names number line rows mid late_mid after late first next found so
       have = rows_have row names number (length rows) one.places more.places one.has more.have;
     }
 
--- Rows one behind the other.
+-- Rows one after the other.
 
 module _ (row : PlainBody) (env : Environment) (f : ReadsRow) (Row : ℕ → List Tree → RowSpells) (least last : ℕ)
     (one : (number : ℕ) (line : List Tree) (at : ℕ) (late : Late) (after : ℕ) (late_after : Late) → after ≤ last → Row number line at late after late_after
@@ -228,7 +228,7 @@ module _ (row : PlainBody) (env : Environment) (f : ReadsRow) (Row : ℕ → Lis
           (rows_again row env f Row least last one rise 1 rows at late after late_after within it)
       by None is = open_go is ends lies stops end
 
--- Behind the array.
+-- After the array.
 
 abbrev pub passed_behind : Passed → Option Word → Passed
 passed_behind passed name = record { met = λ key. gives_count name key || passed.met key; told = passed.told; near = λ key. false }

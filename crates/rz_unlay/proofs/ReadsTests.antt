@@ -75,7 +75,7 @@ if_true test x y is = ap (λ (b : Bool). if b then x else y) is
 pub if_false : {A : Type 0} (test : Bool) (x y : A) → test ≡ false → (if test then x else y) ≡ y
 if_false test x y is = ap (λ (b : Bool). if b then x else y) is
 
--- an answer behind a test, or none
+-- an answer after a test, or none
 pub if_some : {A : Type 0} (test : Bool) (x : A) (y : A) → (if test then Some x else None) ≡ Some y → (test ≡ true) × (x ≡ y)
 if_some true x y is = (refl, some_same x y is)
 if_some false x y is = absurd (none_is y is)

@@ -1,4 +1,4 @@
--- Rows that are read, one behind the other, and their number.
+-- Rows that are read, one after the other, and their number.
 use Rattle.std.proofs.Common.{◌≡◌, ℕ, zero, suc, ◌+◌, ◌-◌, ◌≤◌, ◌==◌, ℤ, pos, negsuc, Bool, true, false, List, [], ◌∷◌, ◌++◌, length, Option, Some, None, refl, ap, subst}
 use Rattle.std.specs.Prelude.{if◌then◌else◌, nat_lt, option_and_then, option_map}
 use Rattle.rz_core.specs.declared.resource.Word.{Word}
@@ -18,7 +18,7 @@ pub if_either : {A P : Type 0} (test : Bool) (x y : Option A) (z : A) → (x ≡
 if_either true x y z one other is = one is
 if_either false x y z one other is = other is
 
--- rows that were read one behind the other, each as a line, and the places of the labels in them, row by row
+-- rows that were read one after the other, each as a line, and the places of the labels in them, row by row
 abbrev pub LinesRead : (ℕ → Line → ℕ → Late → Type 0) → ℕ → List (List Tree) → List ℤ → RowSpells
 LinesRead Read number [] places at late after late_after = (places ≡ []) × (after ≡ at) × (late_after ≡ late)
 LinesRead Read number (row ∷ rows) places at late after late_after =

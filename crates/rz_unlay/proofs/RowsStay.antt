@@ -134,7 +134,7 @@ module _ (facts : Facts) (all : List Bool) where
       subst (λ (s : Step). KeepsRows names s.names) it.2 (stay_same names))
       (λ later. cases_stay met others names at late step later) is
 
-  -- behind a field the names of rows that it doesn't give have the values that they had
+  -- after a field the names of rows that it doesn't give have the values that they had
   pub field_stays : (rest : PlainBody) (met : Names) (field : PlainField) (names : Environment) (at : ℕ) (late : Late) (step : Step) → field_found facts all rest met field names at late ≡ Some step
       → (key : Key) → of_rows key ≡ true → gives_key field key ≡ false → step.names.give key ≡ names.give key
   field_stays rest met (Number number) names at late step is key of none = (of_pieces_stays (here_at facts all (Number number) rest at met) (Number number) names at late step is).give key of

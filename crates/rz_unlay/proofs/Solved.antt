@@ -23,7 +23,7 @@ pub record WasSolved (near : Environment → Environment) (solved : Key → Envi
   pub absent : (near mid).give key ≡ None
   pub is : solved key mid ≡ Some value
 
--- what is known behind names that are solved
+-- what is known after names that are solved
 pub record Solved (near : Environment → Environment) (solved : Key → Environment → Option ℤ) (has : Names) (names more : Environment) : Type 0 where
   pub kept : IsPartOf names more
   pub same : (key : Key) → has key ≡ false → more.give key ≡ names.give key

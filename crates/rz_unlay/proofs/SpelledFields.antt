@@ -77,7 +77,7 @@ module _ (tells : Tells) (facts : Facts) (all : List Bool) (short : length all �
       CameNear all (field_and field rest) at (declares (field_and field rest)) names step.names at late step.after step.late (λ env. FieldSpells true facts all field env passed step.value)
       × Knows (is_held (behind field passed)) step.names
 
-  -- passed: before the field, where the labels behind it aren't near yet
+  -- passed: before the field, where the labels after it aren't near yet
   abbrev FieldCame : PlainBody → Passed → PlainField → Type 0
   FieldCame rest passed field = (names : Environment) (at : ℕ) (late : Late) (step : Step) → Before passed names at → Fresh (field_and field rest) names → NearShort all (field_and field rest) at
       → field_found facts all rest passed.met field names at late ≡ Some step → FieldRead rest (at_field (field_and field rest) passed) field names at late step
@@ -184,7 +184,7 @@ module _ (tells : Tells) (facts : Facts) (all : List Bool) (short : length all �
         (sym (it.differs name differ)) (it.spells env part);
   }
 
-  -- what was read behind a field, with what is known there
+  -- what was read after a field, with what is known there
   before_others : (in_case : Bool) (field : PlainField) (fields : PlainBody) (passed : Passed) (names : Environment) (at : ℕ) (late : Late) (step : Step) → is_shaped in_case field ≡ true → Before passed names at
       → field_found facts all fields passed.met field names at late ≡ Some step → FieldRead fields (at_field (field_and field fields) passed) field names at late step
       → Before (behind field (at_field (field_and field fields) passed)) step.names step.after
@@ -192,7 +192,7 @@ module _ (tells : Tells) (facts : Facts) (all : List Bool) (short : length all �
       let goes = (field_on facts all field in_case fields passed.met names at late step shaped before.has before.inside is).goes in
       record { knows = came.1; has = places_stay names step.names goes.kept before.has; inside = goes.within }
 
-  -- a label has its place behind all fields of its body
+  -- a label has its place after all fields of its body
   label_stands : (in_case : Bool) (field : PlainField) (fields : PlainBody) (passed : Passed) (names : Environment) (at : ℕ) (late : Late) (step : Step) (more : Environment) → is_shaped in_case field ≡ true → Before passed names at
       → field_found facts all fields passed.met field names at late ≡ Some step → IsPartOf step.names more → FieldStands field more at
   label_stands in_case (Number number) fields passed names at late step more shaped before is kept = tt
@@ -206,14 +206,14 @@ module _ (tells : Tells) (facts : Facts) (all : List Bool) (short : length all �
   label_stands in_case (Array name count row) fields passed names at late step more shaped before is kept = tt
   label_stands in_case (Switch cases) fields passed names at late step more shaped before is kept = tt
 
-  -- what was read of a body, and of the fields behind its first one
+  -- what was read of a body, and of the fields after its first one
   labelled : (field : PlainField) (at : ℕ) (value : Option Tree) (others : Option Found) (found : Found) → with_label field at (with_value value others) ≡ Some found
       → (inner : Found) × (others ≡ Some inner) × (record { row = put value inner.row; places = label_places field at ++ inner.places; after = inner.after; names = inner.names; late = inner.late } ≡ found)
   labelled field at value None found is = absurd (none_is found is)
   labelled field at value (Some inner) found is =
       (inner, refl, some_same (record { row = put value inner.row; places = label_places field at ++ inner.places; after = inner.after; names = inner.names; late = inner.late }) found is)
 
-  -- names of rows that the fields behind one give are unknown there, too
+  -- names of rows that the fields after one give are unknown there, too
   fresh_behind : (field : PlainField) (fields : PlainBody) (passed : Passed) (names : Environment) (at : ℕ) (late : Late) (step : Step) → AreOwn (names_of (field_and field fields)) → Fresh (field_and field fields) names
       → field_found facts all fields passed.met field names at late ≡ Some step → Fresh fields step.names
   fresh_behind field fields passed names at late step own fresh is = record {

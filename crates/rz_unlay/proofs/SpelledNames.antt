@@ -1,4 +1,4 @@
--- What is known of names while bytes are read, and what stays so behind it.
+-- What is known of names while bytes are read, and what stays so after it.
 use Rattle.std.proofs.Common.{◌≡◌, ℕ, ◌≤◌, ◌^◌, ◌%◌, ℤ, pos, Bool, true, false, List, length, Option, Some, Result, Ok, Err, refl, ap, ◌∙◌}
 use Rattle.std.specs.Prelude.{if◌then◌else◌, option_and_then, option_map}
 use Rattle.std.specs.Int.{cast_unsigned, w64}
@@ -90,7 +90,7 @@ pub record Grows (declared : Names) (names more : Environment) : Type 0 where
   pub kept : IsPartOf names more
   pub same : (key : Key) → declared key ≡ false → more.give key ≡ names.give key
 
--- what was read, with more known behind it: it is spelled so under each environment of which that is a part, and the marks of
+-- what was read, with more known after it: it is spelled so under each environment of which that is a part, and the marks of
 -- late bits are those that were read
 pub record Came (declared : Names) (names more : Environment) (at : ℕ) (late : Late) (after : ℕ) (late_after : Late) (Reads : Environment → RowSpells) : Type 0 where
   pub grows : Grows declared names more

@@ -64,7 +64,7 @@ number_stands all at width n is =
     let it = mapped number_of (bits_at all at width) n is in
     record { bits = it.0; stand = bits_stand all at width it.0 it.1; is = it.2 }
 
--- what was read of a piece of a field, whose first place this is: its bits, what is known behind it, and the marks of its bits
+-- what was read of a piece of a field, whose first place this is: its bits, what is known after it, and the marks of its bits
 pub record PieceRead (all : List Bool) (body : PlainBody) (first : ℕ) (declared : Names) (behind : Passed) (names : Environment) (at : ℕ) (late : Late)
     (Is : Environment → Option Tree → List Bool → Type 0) (marks : Environment → ℕ → Late) (step : Step) : Type 0 where
   pub count : ℕ
@@ -78,7 +78,7 @@ pub record PieceRead (all : List Bool) (body : PlainBody) (first : ℕ) (declare
 
 -- Names of an expression that is read.
 
--- each of its names is known, or the fields behind it give it
+-- each of its names is known, or the fields after it give it
 known_or_given : (rest : PlainBody) (met known : Names) → ((key : Key) → met key ≡ true → known key ≡ true) → (term : Term)
     → (all_known met known term || tells_one rest met known term term) ≡ true → (key : Key) → has_key key term ≡ true → (declares rest key || known key) ≡ true
 known_or_given rest met known leads term reads key has =
@@ -115,7 +115,7 @@ each_solved known solved names (OfTwo op left right) each = (
   each_solved known solved names right (λ key has. each key (right_true (has_key key left) (has_key key right) has)),
 )
 
--- Behind a fixed number.
+-- After a fixed number.
 
 -- what is told by the number is held, and so is what was held before it
 newly_held : (met test told : Bool) → test ≡ true → (met || (test || told)) ≡ true

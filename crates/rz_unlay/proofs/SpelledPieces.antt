@@ -34,7 +34,7 @@ use Rattle.rz_unlay.proofs.SpelledNumber as numbers
 use Rattle.rz_unlay.proofs.SpelledText.{text_came, zeros_came}
 use Rattle.rz_unlay.proofs.Told.{part_of_part, same_part}
 
--- One behind the other.
+-- One after the other.
 
 pub wide : (few many : Names) → ((key : Key) → many key ≡ false → few key ≡ false) → (names more : Environment) (at : ℕ) (late : Late) (after : ℕ) (late_after : Late) (Reads : Environment → RowSpells)
     → Came few names more at late after late_after Reads → Came many names more at late after late_after Reads
@@ -43,7 +43,7 @@ wide few many leads names more at late after late_after Reads it = record { grow
 module _ (all : List Bool) (body : PlainBody) (first : ℕ) (declared : Names) (One : Environment → Option Tree → RowSpells) (Others : Environment → List Tree → RowSpells) (value : Option Tree) (rest : List Tree)
     (names mid more : Environment) (at : ℕ) (late : Late) (between : ℕ) (late_between : Late) (after : ℕ) (late_after : Late)
     (near : (env : Environment) → IsPartOf more env → NearIn all body first env) (one : CameNear all body first declared names mid at late between late_between (λ env. One env value)) where
-  -- a field, and the fields behind it: what is known behind them tells that its near labels have their places
+  -- a field, and the fields after it: what is known after them tells that its near labels have their places
   pub then_came : Came declared mid more between late_between after late_after (λ env. Others env rest) → Came declared names more at late after late_after (λ env. Then (One env) (Others env) (put value rest))
   then_came others = record {
     grows = grows_then declared names mid more one.grows others.grows;
@@ -95,7 +95,7 @@ module _ (tells : Tells) (facts : Facts) (all : List Bool) (short : length all �
   abbrev IsNearTo : Passed → Type 0
   IsNearTo passed = (key : Key) → passed.near key ≡ is_near body key
 
-  -- what was read of a piece: so much is known behind it
+  -- what was read of a piece: so much is known after it
   abbrev CamePiece : Passed → Passed → Piece → Environment → ℕ → Late → Step → Type 0
   CamePiece passed behind piece names at late step =
       CameNear all body first (declares body) names step.names at late step.after step.late (λ env. PieceSpells true facts all env passed piece step.value) × Knows (is_held behind) step.names

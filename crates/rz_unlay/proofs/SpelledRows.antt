@@ -29,7 +29,7 @@ use Rattle.rz_unlay.proofs.Told.{same_part}
 
 -- The rows of an array.
 
--- what is known behind their number
+-- what is known after their number
 record Counted (name : Option Word) (rows : ℕ) (passed : Passed) (names more : Environment) : Type 0 where
   grows : Grows (gives_count name) names more
   counted : (env : Environment) → IsPartOf more env → IsCounted name rows env
@@ -50,7 +50,7 @@ count_came (Some name) rows passed names more knows is =
       knows = record { covers = known.covers; only = known.only };
     }
 
--- and behind the labels in them
+-- and after the labels in them
 pub record Rowed (name : Option Word) (count : Option ℤ) (row : PlainBody) (rows : ℕ) (places : List ℤ) (passed : Passed) (names more : Environment) : Type 0 where
   pub grows : Grows (gives_key (Array name count row)) names (also_rows row rows places more)
   pub counted : (env : Environment) → IsPartOf (also_rows row rows places more) env → IsCounted name rows env
@@ -237,7 +237,7 @@ inside_came facts all row which passed names found env at late after late_after 
     let own = own_names which row found env in
     (own, own_within row which names found env came.grows part places, came.spells own (own_part row which names found env came.grows part))
 
--- Rows one behind the other.
+-- Rows one after the other.
 
 -- a row was read: its labels have these places, and it is spelled so where they have them outside of it by its number
 pub record RowRead (facts : Facts) (all : List Bool) (name : Option Word) (row : PlainBody) (passed : Passed) (names : Environment) (number : ℕ) (line : Line) (at : ℕ) (late : Late) : Type 0 where

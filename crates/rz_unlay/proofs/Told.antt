@@ -114,7 +114,7 @@ module _ (known : Names) (env : Environment) (near : Environment → Environment
         has = at_key (also key value names) value ((widens.more (also key value names)).give key value (also_has key value names));
       }
 
-  -- one set of names, and another behind it
+  -- one set of names, and another after it
   then_told : (Has Others : Key → Type 0) (names : Environment) (found : Option Environment) (next : Environment → Option Environment)
       → (one : Tells env near Has names found) → Tells env near Others one.more (next one.more) → Tells env near (λ key. Has key ⊎ Others key) names (option_and_then next found)
   then_told Has Others names found next one other = record {

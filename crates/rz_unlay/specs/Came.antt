@@ -16,7 +16,7 @@ use Rattle.rz_types_fields.specs.RowLabels.{row_of, RowOf}
 use Rattle.rz_unlay.specs.declared.came.RowCame.{RowCame}
 use Rattle.rz_unlay.specs.declared.came.RowsCame.{RowsCame}
 
--- the row of a body, where so much is known behind it
+-- the row of a body, where so much is known after it
 abbrev pub found_of : Learnt → RowCame → Found
 found_of learnt came = record { row = came.row; places = came.places.items; after = came.after; names = known learnt.notes.items; late = marked came.after learnt.marks }
 

@@ -1,4 +1,4 @@
--- What is read from left to right: rows of arrays, cases by their keys, fields one behind the other, and the row that bytes tell.
+-- What is read from left to right: rows of arrays, cases by their keys, fields one after the other, and the row that bytes tell.
 -- (Inside Macintosh: More Macintosh Toolbox, Resource Manager; MPW Rez.)
 use Rattle.std.specs.Prelude.{ℕ, zero, suc, ◌+◌, ◌-◌, ◌==◌, ℤ, pos, negsuc, nat_le, nat_lt, Bool, true, false, ◌&&◌, if◌then◌else◌, List, [], ◌∷◌, ◌++◌, length, drop, Option, Some, None, option_and_then, option_map}
 use Rattle.rz_core.specs.declared.facts.Facts.{Facts}
@@ -22,7 +22,7 @@ use Rattle.rz_types_fields.specs.RowLabels.{also_rows, label_places, row_of}
 
 -- Rows.
 
--- a row of an array, the places of the labels that stand directly in it, the place behind it, and the late bits before that
+-- a row of an array, the places of the labels that stand directly in it, the place after it, and the late bits before that
 pub record Line : Type 0 where
   pub row : List Tree
   pub places : List ℤ
@@ -86,7 +86,7 @@ abbrev pub count_known : Environment → Option Word → Option ℤ → Option �
 count_known names name (Some count) = Some count
 count_known names name None = known_count name names
 
--- as many rows as are known, or those up to a label or the end of the resource, behind which these fields stand
+-- as many rows as are known, or those up to a label or the end of the resource, after which these fields stand
 abbrev pub rows_by : ReadsRow → ℕ → PlainBody → Environment → Option ℤ → ℕ → Late → Option Lines
 rows_by row len rest names (Some (pos count)) at late = rows_at row count 1 at late
 rows_by row len rest names (Some (negsuc n)) at late = None
@@ -140,7 +140,7 @@ abbrev mutual
   body_found known all met (field_and field fields) names at late =
       option_and_then (λ step. with_label field at (with_value step.value (body_found known all (met_behind field met) fields step.names step.after step.late))) (field_found known all fields met field names at late)
 
--- the row that bytes tell: behind it are fewer than eight bits, all zero, and it has at most 1,048,576 values
+-- the row that bytes tell: after it are fewer than eight bits, all zero, and it has at most 1,048,576 values
 abbrev pub ended : List Bool → Option Found → Option (List Tree)
 ended all None = None
 ended all (Some found) =

@@ -59,7 +59,7 @@ piece_step here (Place name) names at late = label_step name names at late
 
 -- Pieces in order.
 
--- what is read of pieces or of a body: its row, the places of the labels that stand directly in it, the place behind it, and what is known there of names and of late bits
+-- what is read of pieces or of a body: its row, the places of the labels that stand directly in it, the place after it, and what is known there of names and of late bits
 pub record Found : Type 0 where
   pub row : List Tree
   pub places : List ℤ
@@ -102,6 +102,6 @@ field_of_pieces here field names at late =
 
 -- Labels that are met.
 
--- behind the pieces of a field that is a label it is met
+-- after the pieces of a field that is a label it is met
 abbrev pub met_past : PlainField → Names → Names
 met_past field met key = is_label field key || met key

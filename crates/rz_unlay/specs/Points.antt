@@ -1,4 +1,4 @@
--- The numbers of points and rectangles, one behind the other.
+-- The numbers of points and rectangles, one after the other.
 use Rattle.std.specs.Prelude.{ℕ, List, ◌++◌, map, replicate, Option, Some, None, option_map}
 use Rattle.rz_expr.specs.Environment.{Environment}
 use Rattle.rz_expr.specs.Term.{Term}
@@ -18,6 +18,6 @@ abbrev pub fixed_read : Here → List Term → Environment → ℕ → Late → 
 fixed_read here terms names at late =
     option_map (λ f. record { value = grouped (Some terms) f.row; after = f.after; names = f.names; late = f.late }) (pieces_found here (map fixed_integer terms) names at late)
 
--- behind numbers that were read
+-- after numbers that were read
 abbrev pub behind_numbers : List ℕ → Option Found → Option Found
 behind_numbers numbers found = option_map (λ f. record { row = map trees.Number numbers ++ f.row; places = f.places; after = f.after; names = f.names; late = f.late }) found

@@ -18,6 +18,6 @@ stop_at len (Some width) = if nat_lt len width then None else Some (len - width)
 abbrev pub stop_before : Told → Option ℕ
 stop_before told = if nat_lt told.place told.width then None else Some (told.place - told.width)
 
--- fewer than eight bits stand behind a place, all zero
+-- fewer than eight bits stand after a place, all zero
 abbrev pub is_end : List Bool → ℕ → Bool
 is_end all at = nat_lt (length all) (at + 8) && (number_of (drop at all) == 0)

@@ -9,7 +9,7 @@ pub struct RowCame {
     pub row: Row,
     /// The places of the labels that stand directly in it, in order, in bits.
     pub places: Vec<i32>,
-    /// The place behind it, in bits.
+    /// The place after it, in bits.
     pub after: u32,
     /// How many values more there may be.
     pub left: u32,
@@ -22,7 +22,7 @@ pub struct RowsCame {
     pub rows: RowList,
     /// The places of the labels that stand directly in them, row by row, in bits.
     pub places: Vec<i32>,
-    /// The place behind them, in bits.
+    /// The place after them, in bits.
     pub after: u32,
     /// How many values more there may be.
     pub left: u32,

@@ -13,7 +13,7 @@ use rz_types_fields::{Field, NumField, fixed_width, key_bits};
 /// One bit more than the most bits of a resource.
 const MOST_BITS: u64 = 134_217_697;
 
-/// Whether the keys of a case stand at their places behind this one. It takes no memory.
+/// Whether the keys of a case stand at their places after this one. It takes no memory.
 pub fn has_keys(view: &BitView<'_>, row: &[Field], at: u32) -> bool
     requires fits { AreFit (plain_body row.now) }
     requires at { at ≤ length (seen view.now) }
@@ -29,7 +29,7 @@ pub fn has_keys(view: &BitView<'_>, row: &[Field], at: u32) -> bool
     true
 }
 
-/// Whether the key that a field is, where it is one, stands behind so many bits.
+/// Whether the key that a field is, where it is one, stands after so many bits.
 fn has_field_key(view: &BitView<'_>, field: &Field, before: Option<u64>, at: u32) -> bool
     requires fits { Fits (plain_field field.now) }
     requires at { at ≤ length (seen view.now) }
@@ -55,7 +55,7 @@ fn has_number_key(view: &BitView<'_>, number: &NumField, before: Option<u64>, at
     }
 }
 
-/// The number in the bits of a key behind so many others.
+/// The number in the bits of a key after so many others.
 #[tactic(auto, using(rz_unlay_pieces::proofs::PieceSteps::seen_length))]
 fn key_at(view: &BitView<'_>, width: u8, before: Option<u64>, at: u32) -> Option<u32>
     requires width { width ≤ 32 }

@@ -62,7 +62,7 @@ impl Reader<'_> {
     ghost use Rattle.rz_unlay_pieces.specs.Seen.{told_of};
     ghost use Rattle.rz_unlay.specs.Rows.{pushed, stop_at, stop_before};
 
-    /// Reads the row of a body, with at most so many values: what is learnt of the names of its own is forgotten behind it.
+    /// Reads the row of a body, with at most so many values: what is learnt of the names of its own is forgotten after it.
     #[cycle(read)]
     pub fn read_body<'a>(
         &self,
@@ -89,7 +89,7 @@ impl Reader<'_> {
         Ok(came)
     }
 
-    /// Reads fields one behind the other.
+    /// Reads fields one after the other.
     #[cycle(read)]
     fn read_fields<'a>(
         &self,

@@ -78,7 +78,7 @@ fn count_of(rect: bool) -> u32
     if rect { 4 } else { 2 }
 }
 
-/// Reads numbers with fixed values, one behind the other.
+/// Reads numbers with fixed values, one after the other.
 fn read_fixed_numbers<'a>(
     spot: &Spot<'_>,
     exprs: &'a [Expr],

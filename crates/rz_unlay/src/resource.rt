@@ -36,14 +36,14 @@ pub enum Reading {
 ///
 /// A row is plain where its bytes tell it again: each number with a fixed value solves to the counts of arrays and the places
 /// of labels that it tells, a `cstring` has no zero byte, a text with a size is no longer than the size leaves, a `string` with a size doesn't
-/// end in a zero byte, filler and the fewer than eight bits behind the last field are zero, and it has at most 1,048,576
+/// end in a zero byte, filler and the fewer than eight bits after the last field are zero, and it has at most 1,048,576
 /// numbers, texts and rows of arrays, where a point counts as two numbers and a rectangle as four.
 ///
 /// A row spells at most 16,777,212 bytes, so of more `NoTree` comes at once. Time and memory grow with what
 /// is read of them: for each row with the fields of its array and the cases of each switch, with the square of the
 /// operators in an expression that tells a name, and with the square of the names in one row. A name is looked for from the
 /// newest on, in its row and the bodies around, and then through the fields ahead, for a label at a known distance; an open
-/// text or array looks through the fields behind it for a label whose place is told. The places of labels in rows take 4 bytes
+/// text or array looks through the fields after it for a label whose place is told. The places of labels in rows take 4 bytes
 /// for each in each row, until the body of their array ends. (MPW Rez.)
 pub fn read(
     alloc: Global,

@@ -1,4 +1,4 @@
-//! The row of a whole resource, behind which less than a byte is left. Its end is defined in `specs/Rows`.
+//! The row of a whole resource, after which less than a byte is left. Its end is defined in `specs/Rows`.
 
 ghost use Rattle.std.specs.Prelude.{◌≡◌, ◌≤◌, true, length, IfOk};
 ghost use Rattle.rz_bits.specs.View.{seen};
@@ -19,7 +19,7 @@ use std::alloc::Global;
 /// The most values that a row has.
 const MOST_VALUES: u32 = 1_048_576;
 
-/// The row that bytes tell under these fields: behind it stand fewer than eight bits, all of them 0, and it has at most
+/// The row that bytes tell under these fields: after it stand fewer than eight bits, all of them 0, and it has at most
 /// 1,048,576 values. Its time and memory are in proportion to what is read.
 pub fn read_row(
     alloc: Global,
@@ -53,7 +53,7 @@ pub fn read_row(
     }
 }
 
-/// Whether fewer than eight bits stand behind a place, all of them 0.
+/// Whether fewer than eight bits stand after a place, all of them 0.
 fn is_end(view: &BitView<'_>, at: u32) -> bool
     requires { at ≤ length (seen view.now) }
     ensures { result ≡ is_end (seen view.now) at }

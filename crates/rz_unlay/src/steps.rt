@@ -1,4 +1,4 @@
-//! Steps between fields and rows: what is behind a field, one value more, and where rows end. See `specs/Rows` and
+//! Steps between fields and rows: what is after a field, one value more, and where rows end. See `specs/Rows` and
 //! `specs/Cursor`.
 
 ghost use Rattle.std.specs.Prelude.{◌≡◌, ◌+◌, ◌<◌, ◌≤◌, ◌++◌, ◌∷◌, [], length, drop, OnOk};
@@ -16,7 +16,7 @@ use rz_core::{NoMemory, Word};
 use rz_types_fields::{Field, InRow, Note, Row, RowList, Tree, rows_of};
 use rz_unlay_pieces::LabelAhead;
 
-/// The fields behind so many.
+/// The fields after so many.
 pub fn tail(fields: &[Field], count: usize) -> &[Field]
     requires { count ≤ length fields.now }
     ensures { result.now ≡ drop count fields.now }
@@ -57,7 +57,7 @@ pub fn push_row(rows: &mut RowList, places: &mut Vec<i32>, came: RowCame) -> Res
     rows.push(came.row)
 }
 
-/// Which row of the array of this name stands behind these.
+/// Which row of the array of this name stands after these.
 pub fn row_behind<'a>(name: &'a Option<Word>, rows: &RowList) -> Option<InRow<'a>>
     requires { length rows.now < 4294967295 }
     ensures { which_of result ≡ row_of name.now (length rows.now + 1) }

@@ -1,4 +1,4 @@
--- What is known and met behind notes more.
+-- What is known and met after notes more.
 use Rattle.std.proofs.Common.{◌≡◌, ℕ, Bool, true, ℤ, List, [], ◌∷◌, ◌++◌, Option, Some, None, refl, ap, ◌∙◌}
 use Rattle.std.specs.Option.{is_some}
 use Rattle.std.specs.Prelude.{if◌then◌else◌}
@@ -32,7 +32,7 @@ module _ (notes new : List Note) (note : Note) (is : new ≡ notes ++ note ∷ [
     pub claims : true ≡ agrees ((known notes).give key) value → Some (known new) ≡ claim key value (known notes)
     claims same = ap Some tells ∙ ap (λ (b : Bool). if b then Some (also key value (known notes)) else None) same
 
--- Behind several notes.
+-- After several notes.
 
 noted_behind : (other : Option ℤ) (old more : List Note) (key : Key) → noted other (old ++ more) key ≡ noted (noted other old key) more key
 noted_behind other [] more key = refl

@@ -18,9 +18,9 @@ use Rattle.rz_unlay_pieces.specs.declared.spot.Spot.{Spot}
 some_is : (a b : ℕ) → ◌≡◌ {A = Option ℕ} (Some a) (Some b) → a ≡ b
 some_is a b is = cc
 
--- Places behind fields.
+-- Places after fields.
 
--- a place behind a field isn't before it
+-- a place after a field isn't before it
 
 map_grows : (width : Option ℕ) (at next : ℕ) → option_map (λ bits. at + bits) width ≡ Some next → at ≤ next
 map_grows None at next is = absurd cc
@@ -36,7 +36,7 @@ behind_grows (Label name) at next is = map_grows (fixed_width (Label name)) at n
 behind_grows (Array name count row) at next is = map_grows (fixed_width (Array name count row)) at next is
 behind_grows (Switch cases) at next is = map_grows (fixed_width (Switch cases)) at next is
 
--- where widths are capped the place is the same, or both are behind the most bits
+-- where widths are capped the place is the same, or both are after the most bits
 record Capped (field : PlainField) (at next : ℕ) : Type 0 where
   place : ℕ
   is : behind_measured field at ≡ Some place
@@ -85,7 +85,7 @@ near_within len body at key = place_within len (option_map (λ p. pos p) (near_p
 abbrev near_step : ℕ → PlainBody → Key → ℕ → Bool → Option ℕ → Option ℕ
 near_step len fields key at test next = place_within len (option_map (λ p. pos p) (if test then Some at else option_and_then (λ n. near_place fields n key) next))
 
--- behind the end of the resource none is looked for
+-- after the end of the resource none is looked for
 pub near_over : (len : ℕ) (body : PlainBody) (at : ℕ) (key : Key) → len < at → None ≡ near_within len body at key
 near_over len no_fields at key over = refl
 near_over len (field_and field fields) at key over = by (is_label field key) (behind_measured field at) (behind_grows field at) (λ n. near_over len fields n key)

@@ -45,7 +45,7 @@ value_beside marks sight term value is = ap result_ok (sym (value_grows (beside 
 abbrev late_value : Names → Term → Result ℤ EvalFault → Bool
 late_value met term value = names_later met term || not (is_ok value)
 
--- then a number with it is late where it names a label behind it
+-- then a number with it is late where it names a label after it
 pub late_named : (met : Names) (marks : List Bool) (at : ℕ) (sight : Sight) (term : Term) (value : ℤ) (later : Bool) → Ok value ≡ value_of term (beside marks sight) → later ≡ names_later met term
     → later ≡ is_late met (marked at marks) term sight
 late_named met marks at sight term value later is named =

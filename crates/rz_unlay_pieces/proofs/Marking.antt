@@ -14,7 +14,7 @@ pub late_more : (late : Late) (one other : ℕ) (mark : Bool) → late_behind (l
 late_more late one other mark =
     append_assoc late (replicate one mark) (replicate other mark) ∙ ap (λ (marks : List Bool). late ++ marks) (replicate-append-replicate one other mark)
 
--- behind bits that aren't late no more is marked
+-- after bits that aren't late no more is marked
 pub marked_more : (marks : List Bool) (at count : ℕ) → length marks ≤ at → marked (at + count) marks ≡ late_behind (marked at marks) count false
 marked_more marks at count few =
     let e : at + count - length marks ≡ (at - length marks) + count = omega (arith, few) in
@@ -65,7 +65,7 @@ step_behind learnt None at count few after = refl
 step_behind learnt (Some c) at count few after =
     ap (λ (late : Late). Some (step_in (known learnt.notes.items) late c)) (ap (λ (n : ℕ). marked n learnt.marks) after ∙ marked_more learnt.marks at count few)
 
--- and its bits end behind the marks
+-- and its bits end after the marks
 pub ends_behind : (came : Option Came) (at count few : ℕ) → few ≤ at → IfSome came (λ c. c.after ≡ at + count) → IfSome came (λ c. few ≤ c.after)
 ends_behind None at count few short after = after
 ends_behind (Some c) at count few short after = omega (arith, short, after)

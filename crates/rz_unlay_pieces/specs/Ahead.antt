@@ -17,7 +17,7 @@ in_resource len place = option_map (λ p. pos p) (place_within len place)
 
 -- Near labels.
 
--- the place behind a field at a place, where it is at a known distance
+-- the place after a field at a place, where it is at a known distance
 abbrev pub behind_measured : PlainField → ℕ → Option ℕ
 behind_measured (Align unit) at = Some (at + missing unit at)
 behind_measured field at = option_map (λ width. at + width) (fixed_width field)
@@ -43,7 +43,7 @@ pub record Told : Type 0 where
 abbrev pub wider : ℕ → Told → Told
 wider bits told = record { place = told.place; width = bits + told.width }
 
--- the first label behind fields of fixed width of which the place is known
+-- the first label after fields of fixed width of which the place is known
 abbrev pub told_label : ℕ → PlainBody → Environment → Option Told
 told_label len no_fields names = None
 told_label len (field_and field fields) names =

@@ -11,7 +11,7 @@ use Rattle.rz_unlay_pieces.specs.declared.came.Met.{Met}
 use Rattle.rz_types_fields.specs.Sees.{marked, Late}
 use Rattle.rz_unlay_pieces.specs.declared.learnt.Learnt.{Learnt}
 
--- a value or none that stands at a piece or at a field, where so much is known behind it
+-- a value or none that stands at a piece or at a field, where so much is known after it
 abbrev pub step_in : Environment → Late → Came → Step
 step_in names late came = record { value = came.value; after = came.after; names = names; late = late }
 

@@ -1,4 +1,4 @@
--- What is known behind a call.
+-- What is known after a call.
 use Rattle.std.specs.Prelude.{Bool, true, false, Option, Some, None}
 use Rattle.rz_expr.specs.Environment.{Environment}
 

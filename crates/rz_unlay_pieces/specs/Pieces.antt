@@ -1,4 +1,4 @@
--- What stands at a place: numbers, zero bits and labels, where they end, and what is known behind them. (MPW Rez.)
+-- What stands at a place: numbers, zero bits and labels, where they end, and what is known after them. (MPW Rez.)
 use Rattle.rz_core.specs.Lists.{or_else}
 use Rattle.std.specs.Prelude.{ℕ, ◌+◌, ◌==◌, ◌++◌, ℤ, pos, nat_abs, Bool, true, false, ◌&&◌, if◌then◌else◌, List, length, replicate, Option, Some, None, option_and_then, option_map, Ok, Err}
 use Rattle.std.specs.Ordering.{int_eq}
@@ -44,7 +44,7 @@ abbrev pub known_count : Option Word → Environment → Option ℤ
 known_count None names = None
 known_count (Some name) names = names.give (count_key name.bytes)
 
--- Where a field is read: what is known of the resource, its bits, the field with those behind it in its body, the place of the
+-- Where a field is read: what is known of the resource, its bits, the field with those after it in its body, the place of the
 -- field, and the labels that stand before it.
 pub record Here : Type 0 where
   pub known : Facts
@@ -69,7 +69,7 @@ seen_at here names at = sees here.known here.all (with_near here names) at
 
 -- Numbers.
 
--- what stands at a piece: its value or none, the place behind it, and what is known there of names and of late bits
+-- what stands at a piece: its value or none, the place after it, and what is known there of names and of late bits
 pub record Step : Type 0 where
   pub value : Option Tree
   pub after : ℕ
@@ -102,7 +102,7 @@ abbrev pub is_stored : NumForm → ℤ → Result ℤ EvalFault → ℕ → Bool
 is_stored form width (Err fault) stored = false
 is_stored form width (Ok value) stored = fits_number form width value && (stored_number (nat_abs width) value == stored)
 
--- the marks behind so many bits more, late or not
+-- the marks after so many bits more, late or not
 abbrev pub late_behind : Late → ℕ → Bool → Late
 late_behind late count is_late = late ++ replicate count is_late
 

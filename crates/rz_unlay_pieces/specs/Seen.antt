@@ -37,21 +37,21 @@ env_sight env = hidden_by env.hides env.learnt.now.marks (sight_at env.spot.now 
 
 -- Labels that are met.
 
--- behind a label it is met
+-- after a label it is met
 abbrev pub met_placed : Word → Names → Names
 met_placed name met key = stands_at name.bytes key || met key
 
--- behind the rows of an array its name is met
+-- after the rows of an array its name is met
 abbrev pub met_counted : Option Word → Names → Names
 met_counted name met key = gives_count name key || met key
 
--- behind the rows of an array the labels in them are met
+-- after the rows of an array the labels in them are met
 abbrev pub met_in_rows : PlainBody → Names → Names
 met_in_rows row met key = gives_rows row key || met key
 
 -- Labels ahead.
 
--- a place behind a field, where widths of more bits than a resource has are as good as one more than it can have
+-- a place after a field, where widths of more bits than a resource has are as good as one more than it can have
 abbrev pub behind_capped : PlainField → ℕ → Option ℕ
 behind_capped (Align unit) at = Some (at + missing unit at)
 behind_capped field at = option_map (λ width. at + capped width) (fixed_width field)

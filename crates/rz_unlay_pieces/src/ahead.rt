@@ -30,7 +30,7 @@ pub struct LabelAhead {
     pub width: u64,
 }
 
-/// The first label behind fields of fixed width of which the place is known, in a resource of so many bits. Each label on
+/// The first label after fields of fixed width of which the place is known, in a resource of so many bits. Each label on
 /// the way is looked for from the newest note on, and each field is measured, with the fields of arrays within it.
 pub fn told_label(rest: &[Field], notes: &[Note<'_>], len: u32) -> Option<LabelAhead>
     ensures within { IfSome result (λ label. label.place ≤ len) }
@@ -117,7 +117,7 @@ fn is_label(field: &Field, name: &Word) -> bool
     }
 }
 
-/// The place behind a field, where it is at a known distance.
+/// The place after a field, where it is at a known distance.
 fn behind_measured(field: &Field, at: u32) -> Option<u32>
     requires { at ≤ 134217696 }
     ensures { result ≡ behind_capped (plain_field field.now) at }

@@ -1,4 +1,4 @@
-//! What stands at a piece or a field: its value, the place behind it, and how many values it counts or leaves.
+//! What stands at a piece or a field: its value, the place after it, and how many values it counts or leaves.
 
 ghost use Rattle.std.specs.Prelude.{◌≡◌};
 ghost use Rattle.rz_unlay_pieces.specs.Few.{value_count};
@@ -10,7 +10,7 @@ use rz_types_fields::Tree;
 pub struct Came {
     /// Its value, where the row has one.
     pub value: Option<Tree>,
-    /// The place behind it, in bits.
+    /// The place after it, in bits.
     pub after: u32,
     /// How many values it counts.
     pub cost: u32,
@@ -22,7 +22,7 @@ pub struct Came {
 pub struct Met {
     /// Its value, where the row has one.
     pub value: Option<Tree>,
-    /// The place behind it, in bits.
+    /// The place after it, in bits.
     pub after: u32,
     /// How many values more there may be.
     pub left: u32,

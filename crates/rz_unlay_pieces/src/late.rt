@@ -115,7 +115,7 @@ fn is_one_late(exprs: &[&Expr], spot: &Spot<'_>, learnt: &Learnt<'_>, at: u32) -
     false
 }
 
-/// Whether an expression is late: it names a label behind it, or has no value beside the late bits.
+/// Whether an expression is late: it names a label after it, or has no value beside the late bits.
 fn is_late(expr: &Expr, spot: &Spot<'_>, learnt: &Learnt<'_>, at: u32) -> bool
     ensures { result ≡ is_late (met learnt.now.notes.items) (marked at learnt.now.marks) (term_of expr.now) (sight_at spot.now learnt.now at) }
 {

@@ -1,6 +1,6 @@
 //! What stands at a place of a resource as a number, as zero bits or as a label, and what these tell of the numbers of rows of
 //! arrays, of the places of labels and of late bits. Each call gives exactly its definition: the value of the piece, the place
-//! behind it and what is known there, or that it isn't there or isn't stored so.
+//! after it and what is known there, or that it isn't there or isn't stored so.
 //! It rests on `rz_core`, `rz_words`, `rz_expr`, `rz_bits` and `rz_types_fields`.
 //! Bits are read in place; what is learnt of names is one list of notes, which only grows here, and late bits are marked up to
 //! the last of them. Labels that stand ahead at a known distance are looked for in the fields, and aren't noted.

@@ -26,7 +26,7 @@ use rz_types_fields::{NumField, NumForm, Tree, fits_number, stored_number};
 
 /// Reads a number: its bits are the value of the row, or are as its expression is stored, which tells the names that
 /// aren't known. `Ok(None)` where they aren't there or aren't stored so. Its bits are late where its expression names a label
-/// behind it, or has no value beside late bits.
+/// after it, or has no value beside late bits.
 pub fn read_number<'a>(
     spot: &Spot<'_>,
     field: &'a NumField,

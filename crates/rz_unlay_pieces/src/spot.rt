@@ -11,9 +11,9 @@ pub struct Spot<'r> {
     pub view: &'r BitView<'r>,
     /// What is known of the resource.
     pub facts: &'r Facts,
-    /// The field and those behind it in its body.
+    /// The field and those after it in its body.
     pub fields: &'r [Field],
-    /// The fields behind it in its body.
+    /// The fields after it in its body.
     pub rest: &'r [Field],
     /// Its place, in bits.
     pub first: u32,

@@ -31,7 +31,7 @@ pub fn front(bytes: &[u8], count: usize) -> &[u8]
     }
 }
 
-/// The bytes behind so many.
+/// The bytes after so many.
 pub fn behind(bytes: &[u8], count: usize) -> &[u8]
     ensures { result.now ≡ drop count bytes.now }
 {

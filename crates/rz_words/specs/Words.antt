@@ -19,7 +19,7 @@ is word name = str_eq_ignore_ascii_case name word
 abbrev pub is_other_name : List ℕ → Bool
 is_other_name name = is_some (attribute_word name) || is (codes "true") name || is (codes "false") name
 
--- a text whose name stands behind `$$`
+-- a text whose name stands after `$$`
 abbrev pub text_role : List ℕ → Role
 text_role name =
     if is (codes "Name") name then Text texts.Name
@@ -31,7 +31,7 @@ text_role name =
     else if is (codes "Format") name then Text texts.Format
     else OtherFunction
 
--- a fact whose name stands behind `$$`
+-- a fact whose name stands after `$$`
 abbrev pub fact_role : List ℕ → Role
 fact_role name =
     if is (codes "ID") name then Fact facts.Id
@@ -46,7 +46,7 @@ fact_role name =
     else if is (codes "Weekday") name then Fact facts.Weekday
     else text_role name
 
--- the function whose name stands behind `$$`
+-- the function whose name stands after `$$`
 abbrev pub function_role : List ℕ → Role
 function_role name =
     if is (codes "CountOf") name then Call CountOf
@@ -66,7 +66,7 @@ keyword_role None = Label
 abbrev pub plain_role : List ℕ → Role
 plain_role name = if is_other_name name then OtherName else keyword_role (keyword_of name)
 
--- what stands behind a first `$`
+-- what stands after a first `$`
 abbrev pub dollar_role : List ℕ → List ℕ → Role
 dollar_role name [] = plain_role name
 dollar_role name (b ∷ bs) = if b == 36 then function_role bs else plain_role name

@@ -39,7 +39,7 @@ pub enum Function {
     CountOf,
     /// `$$ArrayIndex`: in which row of an array it stands, from 1.
     ArrayIndex,
-    /// `$$BitField`: so many bits, a start and a width behind a label.
+    /// `$$BitField`: so many bits, a start and a width after a label.
     BitField,
     /// `$$Byte`, `$$Word`, `$$Long`: 8, 16 or 32 bits at a label.
     Data(u8),

@@ -8,7 +8,7 @@ use Rattle.rz_types_format.specs.Format.{byte_of, number_converted, unsigned_of}
 use Rattle.rz_types_format.proofs.convert.converted_number.Goals as goal
 use Rattle.rz_types_format.proofs.convert.converted_number.Goals.{in-100+in_ok-write_signed-in-100, in-117+in_ok-write_decimal-in-117, in-120+in_ok-write_hexadecimal-in-120, in-111+in_ok-write_octal-in-111, in-99+in-Ok+in_ok-push-in-Ok}
 
--- what is written behind nothing
+-- what is written after nothing
 alone : (bytes into empty text : List ℕ) → bytes ≡ into → into ≡ empty ++ text → empty ≡ [] → bytes ≡ text
 alone bytes into empty text same wrote none = same ∙ wrote ∙ ap (λ (front : List ℕ). front ++ text) none
 

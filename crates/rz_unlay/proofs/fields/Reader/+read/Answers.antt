@@ -45,7 +45,7 @@ some_so (Some x) P holds = holds
 rows_short : (rows : List (List Tree)) (more left : ℕ) → 1 ≤ more → left < 4294967296 → more + rows_count rows ≡ left → length rows < 4294967295
 rows_short rows more left some small is = let count : rows_count rows ≡ length rows + sum_by values_in rows = refl in omega (arith, some, small, is, count)
 
--- what was read of a field stands behind what was read before it
+-- what was read of a field stands after what was read before it
 pub read_fields-loop-field-preserved : goal.read_fields-loop-field-preserved
 read_fields-loop-field-preserved t c =
     let fs = c.args.fields.now in
