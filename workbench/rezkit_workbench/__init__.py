@@ -6,6 +6,7 @@
     facts      what a file is: its form, what the Finder keeps, its forks and resources
     writing    files and folders that are written without overwriting any
     command    the frame of a program: options, messages, statuses
+    reading    bytes that are read from left to right, and what a decoder of resources gives
 
 Of Rez and DeRez:
 

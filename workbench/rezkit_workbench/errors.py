@@ -23,3 +23,15 @@ class RezkitRefused(Refused):
 
 class OutOfMemory(Refused):
     """Memory was refused, to rezkit or to Python."""
+
+
+class Damaged(Refused):
+    """A resource isn't what its type's format says. `place` is the byte, from 0, from which it isn't."""
+
+    def __init__(self, place, said):
+        Refused.__init__(self, "%s at byte %d" % (said, place))
+        self.place, self.said = place, said
+
+
+class TooLarge(Refused):
+    """A picture has more pixels than are decoded."""
