@@ -8,6 +8,12 @@
     command    the frame of a program: options, messages, statuses
     reading    bytes that are read from left to right, and what a decoder of resources gives
 
+What resources look and sound like; a module of decoders has KINDS, the decoder of each type:
+
+    sounds     sounds as WAV
+    styled     texts and their styles as HTML
+    letters    letters of texts as a page can have them
+
 Of Rez and DeRez:
 
     options    the options of other Rezes, in one table
