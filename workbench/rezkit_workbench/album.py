@@ -6,11 +6,11 @@ Figures go to a file of their own until the page is written, so that memory does
 """
 import collections
 import contextlib
-import html
 import io
 import tempfile
 import wave
 
+from .letters import escaped
 from .roman import four, quoted
 from .writing import cant
 
@@ -48,14 +48,19 @@ img { display: block; max-width: 100%; height: auto; }
 img.small { image-rendering: pixelated; }
 img.checked { background: repeating-conic-gradient(#d9d9df 0 25%, #c3c3cb 0 50%) 0 0 / 16px 16px; }
 audio { display: block; width: 20rem; max-width: 100%; }
-.text { max-height: 20rem; overflow: auto; padding: .75rem; border: 1px solid var(--line); background: #fff; color: #000; }
+.box { max-height: 20rem; overflow: auto; border: 1px solid var(--line); }
+.text { padding: .75rem; }
 .wrong { color: var(--wrong); }
 .scroll { overflow-x: auto; }
 table { border-collapse: collapse; }
 th, td { padding: .25rem 1.25rem .25rem 0; border-bottom: 1px solid var(--line); text-align: left; vertical-align: top; }
 td.number { text-align: right; }
 """
-TEXT_STYLE = "body { margin: 0 auto; max-width: 50rem; padding: 1rem; background: #fff; color: #000; overflow-wrap: anywhere; }"
+TEXT_STYLE = """
+:root { color-scheme: light dark; }
+body { margin: 0 auto; max-width: 50rem; padding: 1rem; font: 1rem/1.5 system-ui, sans-serif; overflow-wrap: anywhere; }
+h1 { font-size: 1.05rem; }
+"""
 HEAD = """<!DOCTYPE html>
 <html lang="en">
 <head>
@@ -67,11 +72,6 @@ HEAD = """<!DOCTYPE html>
 <body>
 """
 FOOT = "</body>\n</html>\n"
-
-
-def escaped(text):
-    """A text as HTML has it, also between the marks of an attribute."""
-    return html.escape(text, quote=True)
 
 
 def type_word(kind):
@@ -113,7 +113,7 @@ def text(name, one, shown):
     """A text in a box that scrolls, or a word about its length."""
     if len(shown.data) > INLINE_MOST:
         return '<p>A long text, <a href="%s">on a page of its own</a>.</p>' % name
-    return '<div class="text" role="region" tabindex="0" aria-label="%s">%s</div>' % (escaped(told(one)), shown.data.decode("utf-8"))
+    return '<div class="box" role="region" tabindex="0" aria-label="%s">%s</div>' % (escaped(told(one)), shown.data.decode("utf-8"))
 
 
 ELEMENTS = {"png": picture, "wav": sound, "html": text}

@@ -23,7 +23,7 @@ the number of its file, its type, its id. In a type x23 is the byte 23 that is n
 
 exit status: 0 done, 1 a file isn't read, 2 wrong arguments"""
 DECODERS = {**icons.KINDS, **pictures.KINDS, **sounds.KINDS, **styled.KINDS}
-SHOWN_WITH = {b"styl": b"TEXT"}
+PARTS = (b"styl",)  # types that are shown with another, and have no section of their own
 NO_DECODER, DAMAGED, TOO_LARGE, NO_MEMORY = "no decoder", "damaged", "too many pixels", "out of memory"
 BETWEEN = 0.2  # seconds between two lines of progress
 
@@ -69,6 +69,8 @@ class Resources:
 
     def shown(self, one):
         """What a resource looks or sounds like; or None, why it isn't shown, and the reason that is counted."""
+        if one.kind not in DECODERS:
+            return None, NO_DECODER, NO_DECODER
         try:
             return DECODERS[one.kind](one.bytes_in(self.fork), self.beside(one.ident)), None, None
         except Damaged as fault:
@@ -79,12 +81,6 @@ class Resources:
             return None, str(fault), str(fault)
         except MemoryError:
             return None, NO_MEMORY, NO_MEMORY
-
-    def count_others(self, kind, group, left):
-        """Counts the resources of a type that has no decoder."""
-        for one in group:
-            beside = SHOWN_WITH.get(kind)
-            left[kind, "shown with %s" % four(beside) if (beside, one.ident) in self.by_key else NO_DECODER] += 1
 
 
 # The work.
@@ -129,8 +125,8 @@ def show_resources(made, number, called, found, progress):
     resources, done = Resources(found), 0
     made.begin_file(number, called, about(found), len(resources.all))
     for kind, group in resources.groups():
-        if kind not in DECODERS:
-            resources.count_others(kind, group, made.left)
+        if kind not in DECODERS or kind in PARTS:
+            made.left.update((kind, resources.shown(one)[2]) for one in group)
             done += len(group)
             continue
         made.begin_type(kind, len(group))

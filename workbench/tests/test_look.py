@@ -47,7 +47,8 @@ RESOURCES = [
 FORK = fork_of(RESOURCES)
 NAMES = ["1-ICNx23--16455.png", "1-ICNx23-128.png", "1-PICT-200.png", "1-TEXT-1.html", "1-sndx20-1.wav", "index.html"]
 LEFT = [["'CODE'", "2", "no decoder"], ["'ICN#'", "1", "damaged"], ["'PICT'", "1", "too many pixels"], ["'STR '", "1", "no decoder"],
-        ["'styl'", "1", "no decoder"], ["'styl'", "1", "shown with 'TEXT'"]]
+        ["'snd '", "1", "has no samples: its commands are beeps, notes or wave tables"],
+        ["'styl'", "1", "has no TEXT of the same id"], ["'styl'", "1", "is shown in the TEXT of the same id"]]
 
 
 def looked(tmp_path, *files, out="album", **more):
@@ -82,7 +83,8 @@ def test_an_album_of_one_file(tmp_path):
     assert page.all("audio")[0]["aria-label"] == "'snd ' 1 \"Beep\""
     assert "'ICN#' 129 \"Cut\": 128 bytes are wanted and 127 are there at byte 128" in page.texts
     assert "'PICT' 201: 32767 by 32767 pixels are more than the 16777216 that are decoded" in page.texts
-    assert [row for row in left_of(page) if row[0] != "'snd '"] == LEFT and len(left_of(page)) == len(LEFT) + 1
+    assert "'snd ' 2: has no samples: its commands are beeps, notes or wave tables" in page.texts
+    assert left_of(page) == LEFT
 
 
 def test_what_the_files_of_an_album_have(tmp_path):
@@ -141,16 +143,16 @@ def test_files_that_are_not_read_are_told_and_the_others_shown(tmp_path):
     os.mkdir(str(tmp_path / "folder"))
     status, messages, page = looked(tmp_path, "cut", "nofile", "fork", "folder", "text")
     assert status == 1 and messages.splitlines() == [
-        "rezkit-look: cut: 403 MapOutside offset 4 value %d" % struct.unpack(">I", FORK[4:8]),
+        "rezkit-look: cut: 403 MapOutside offset 4 value %d" % struct.unpack(">I", FORK[12:16]),
         "rezkit-look: nofile: can't be read: No such file or directory",
         "rezkit-look: folder: is a folder",
-        "rezkit-look: text: 441 NoBinHex: 0",
+        "rezkit-look: text: 441 NoStart: 0",
         "rezkit-look: resources shown: 5 of 13, damaged: 1"]
     assert names_in(tmp_path / "album") == [name.replace("1-", "3-", 1) if name != "index.html" else name for name in NAMES]
     assert "Resources shown: 5 of 13. Files that weren't read: 4 of 5. " in page.texts
     assert [text for text in page.texts if text.startswith("Not read: ")] == [
-        "Not read: 403 MapOutside offset 4 value %d" % struct.unpack(">I", FORK[4:8]), "Not read: can't be read: No such file or directory",
-        "Not read: is a folder", "Not read: 441 NoBinHex: 0"]
+        "Not read: 403 MapOutside offset 4 value %d" % struct.unpack(">I", FORK[12:16]), "Not read: can't be read: No such file or directory",
+        "Not read: is a folder", "Not read: 441 NoStart: 0"]
     assert page.texts.count("not read") == 4
 
 
@@ -197,7 +199,7 @@ def test_a_long_text_has_a_page_of_its_own(tmp_path):
 
 
 def test_names_of_files_differ_without_regard_to_case():
-    assert sorted(look.DECODERS) == sorted(TYPES)
+    assert sorted(look.DECODERS) == sorted(TYPES + look.PARTS)
     words = [album.type_word(kind) for kind in TYPES]
     assert words[:2] == ["ICON", "ICNx23"] and words[14:16] == ["PATx20", "PATx23"] and album.type_word(b"\0\xC4a-") == "x00xC4ax2D"
     assert len({word.lower() for word in words}) == len(words) and all(word.isascii() and word.isalnum() for word in words)
@@ -228,8 +230,8 @@ def test_nothing_is_overwritten_without_f(tmp_path):
 
 
 def test_a_full_disk_leaves_nothing(tmp_path):
-    write(tmp_path, "fork", FORK)
-    for largest, name in ((20, "1-ICNx23-128.png"), (400, "index.html"), (3000, "index.html")):
+    for largest, count, name in ((20, 1, "1-ICNx23-0.png"), (2000, 1, "index.html"), (9000, 100, "index.html")):
+        write(tmp_path, "fork", fork_of([(b"ICN#", number, b"", 0, ICON) for number in range(count)]))
         status, output, messages = run("rezkit-look", "fork", "-o", "album", folder=str(tmp_path), largest=largest)
         assert (status, output, messages) == (1, b"", "rezkit-look: album/%s: can't be written: File too large\n" % name)
         assert names_in(tmp_path) == ["fork"]
