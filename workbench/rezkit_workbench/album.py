@@ -72,6 +72,33 @@ HEAD = """<!DOCTYPE html>
 <body>
 """
 FOOT = "</body>\n</html>\n"
+FRONT = """<header>
+<h1>%s</h1>
+<p>%s</p>
+</header>
+<nav aria-labelledby="contents">
+<h2 id="contents">Contents</h2>
+<ol>
+%s</ol>
+</nav>
+<main>
+"""
+FIGURE = """<figure%s>
+%s
+<figcaption>%s%s</figcaption>
+</figure>
+"""
+LEFT = """<section>
+<h2 id="left">What isn't shown</h2>
+<div class="scroll">
+<table>
+<thead><tr><th scope="col">Type</th><th scope="col">Resources</th><th scope="col">Reason</th></tr></thead>
+<tbody>
+%s</tbody>
+</table>
+</div>
+</section>
+"""
 
 
 def type_word(kind):
@@ -138,7 +165,7 @@ def figure(name, one, shown):
     """A resource with its id, its name, and what isn't shown of it."""
     notes = "".join("<li>%s</li>" % escaped(note) for note in shown.notes)
     parts = ['<a href="%s">%d</a>' % (name, one.ident), escaped(quoted(one.name)) if one.name else "", escaped(length_of(shown))]
-    return '<figure%s>\n%s\n<figcaption>%s%s</figcaption>\n</figure>\n' % (
+    return FIGURE % (
         ' class="wide"' if shown.ending == "html" else "", ELEMENTS.get(shown.ending, other)(name, one, shown),
         " ".join(part for part in parts if part), "<ul>%s</ul>" % notes if notes else "")
 
@@ -208,7 +235,8 @@ class Album:
     def refuse_file(self, number, name, fault):
         """A file that wasn't read, and why."""
         self.entries.append(Entry(number, name, fault))
-        self.put('<section>\n<h2 id="file-%d">%s</h2>\n<p class="wrong">Not read: %s</p>\n</section>\n' % (number, escaped(name), escaped(fault)))
+        self.put('<section>\n<h2 id="file-%d">%s</h2>\n<p class="wrong">Not read: %s</p>\n</section>\n' % (
+            number, escaped(name), escaped(fault)))
 
     def begin_file(self, number, name, about, there):
         """A file with so many resources; `about` says what it is."""
@@ -233,8 +261,8 @@ class Album:
         """Writes a resource's file, and puts the resource on the page."""
         name = file_name(self.entries[-1].number, one, shown.ending)
         if shown.ending == "html":
-            title = escaped(told(one))
-            self.folder.write_pieces(name, [(HEAD % (title, TEXT_STYLE) + "<h1>%s</h1>\n" % title).encode("utf-8"), shown.data, FOOT.encode("utf-8")])
+            head = HEAD % (escaped(told(one)), TEXT_STYLE) + "<h1>%s</h1>\n" % escaped(told(one))
+            self.folder.write_pieces(name, (head.encode("utf-8"), shown.data, FOOT.encode("utf-8")))
         else:
             self.folder.write(name, shown.data)
         self.put(figure(name, one, shown))
@@ -261,7 +289,7 @@ class Album:
         with self.writing():
             self.body.seek(0)
             yield from iter(lambda: self.body.read(PIECE), b"")
-        yield ("</main>\n" + FOOT).encode("utf-8") if not self.left else (self.left_table() + "</main>\n" + FOOT).encode("utf-8")
+        yield (self.left_table() + "</main>\n" + FOOT).encode("utf-8")
 
     def title(self):
         return "Album of %s" % self.entries[0].name if len(self.entries) == 1 else "Album of %d files" % len(self.entries)
@@ -272,12 +300,10 @@ class Album:
         lines = ["Resources shown: %d of %d." % (self.shown(), self.there())]
         lines += ["Files that weren't read: %d of %d." % (refused, len(self.entries))] if refused else []
         lines += ['<a href="#left">What isn\'t shown</a>.'] if self.left else []
-        return '<header>\n<h1>%s</h1>\n<p>%s</p>\n</header>\n<nav aria-labelledby="contents">\n<h2 id="contents">Contents</h2>\n<ol>\n%s</ol>\n</nav>\n<main>\n' % (
-            escaped(self.title()), " ".join(lines), "".join(entry.text() for entry in self.entries))
+        return FRONT % (escaped(self.title()), " ".join(lines), "".join(entry.text() for entry in self.entries))
 
     def left_table(self):
-        """What isn't shown, by type and reason."""
+        """What isn't shown, by type and reason; nothing where all is."""
         rows = "".join('<tr><td>%s</td><td class="number">%d</td><td>%s</td></tr>\n' % (escaped(four(kind)), count, escaped(reason))
                        for (kind, reason), count in sorted(self.left.items()))
-        return ('<section>\n<h2 id="left">What isn\'t shown</h2>\n<div class="scroll">\n<table>\n<thead><tr><th scope="col">Type</th>'
-                '<th scope="col">Resources</th><th scope="col">Reason</th></tr></thead>\n<tbody>\n%s</tbody>\n</table>\n</div>\n</section>\n' % rows)
+        return LEFT % rows if rows else ""
