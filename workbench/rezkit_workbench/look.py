@@ -25,6 +25,8 @@ exit status: 0 done, 1 a file isn't read, 2 wrong arguments"""
 DECODERS = {**icons.KINDS, **pictures.KINDS, **sounds.KINDS, **styled.KINDS}
 PARTS = (b"styl",)  # types that are shown with another, and have no section of their own
 NO_DECODER, DAMAGED, TOO_LARGE, NO_MEMORY = "no decoder", "damaged", "too many pixels", "out of memory"
+SHARED = "shares bytes with too many others"
+SHARED_MOST = 4  # how many times as long as its fork all resources of a file may be together
 BETWEEN = 0.2  # seconds between two lines of progress
 
 
@@ -54,6 +56,7 @@ class Resources:
     def __init__(self, found):
         self.fork, self.all = found.fork, found.resources()
         self.by_key = {(one.kind, one.ident): one for one in self.all}
+        self.left = SHARED_MOST * len(self.fork)
 
     def groups(self):
         """Each type with its resources."""
@@ -71,6 +74,9 @@ class Resources:
         """What a resource looks or sounds like; or None, why it isn't shown, and the reason that is counted."""
         if one.kind not in DECODERS:
             return None, NO_DECODER, NO_DECODER
+        self.left -= one.length
+        if self.left < 0:
+            return None, SHARED, SHARED
         try:
             return DECODERS[one.kind](one.bytes_in(self.fork), self.beside(one.ident)), None, None
         except Damaged as fault:
@@ -86,8 +92,10 @@ class Resources:
 # The work.
 
 def read(name):
-    """The facts of a file, which is refused if rezkit doesn't read it or its fork is broken."""
+    """The facts of a file. It is refused if it is too long, rezkit doesn't read it, or its fork is broken."""
     with facts.Opened(name) as file:
+        if file.size > facts.BY_HEAD:
+            raise Refused("is longer than %d bytes" % facts.BY_HEAD)
         found = facts.facts_of(file)
     if found.refused or found.broken:
         raise Refused(found.refused or found.broken)

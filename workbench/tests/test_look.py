@@ -259,6 +259,26 @@ def test_2000_resources_take_less_than_20_seconds(tmp_path):
     assert len(names_in(tmp_path / "album")) == 2001 and (len(page.all("img")), len(page.all("audio"))) == (1000, 500)
 
 
+def test_resources_that_share_bytes_are_shown_up_to_four_times_the_fork(tmp_path):
+    """All 1,000 references lead to the 20,000 bytes of the first."""
+    fork = bytearray(fork_of([(b"TEXT", number, b"", 0, b"x" * 20000 * (number == 0)) for number in range(1000)]))
+    first = struct.unpack(">I", fork[4:8])[0] + 28 + 10
+    for number in range(1000):
+        fork[first + 12 * number + 5:first + 12 * number + 8] = bytes(3)
+    write(tmp_path, "fork", bytes(fork))
+    count = 4 * len(fork) // 20000
+    status, messages, page = looked(tmp_path, "fork")
+    assert (status, messages, count) == (0, "rezkit-look: resources shown: %d of 1000\n" % count, 7)
+    assert left_of(page) == [["'TEXT'", str(1000 - count), "shares bytes with too many others"]]
+
+
+def test_a_file_that_is_too_long_is_not_read(tmp_path):
+    with open(str(tmp_path / "long"), "wb") as file:
+        file.truncate((128 << 20) + 1)
+    status, messages, page = looked(tmp_path, "long", memory=MEMORY, cpu=5)
+    assert (status, messages) == (1, "rezkit-look: long: is longer than 134217728 bytes\nrezkit-look: resources shown: 0 of 0\n")
+
+
 def test_progress_is_shown_on_a_terminal(tmp_path):
     write(tmp_path, "fork", FORK)
     ours, theirs = pty.openpty()
