@@ -7,6 +7,9 @@
     writing    files and folders that are written without overwriting any
     command    the frame of a program: options, messages, statuses
     reading    bytes that are read from left to right, and what a decoder of resources gives
+    palettes   the standard color tables, and those of resources
+    pixels     pictures of bit maps and pixel maps, and PNG
+    icons      icons, cursors and patterns as PNG
 
 What resources look and sound like; a module of decoders has KINDS, the decoder of each type:
 
