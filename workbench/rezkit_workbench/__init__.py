@@ -16,6 +16,7 @@ What resources look and sound like; a module of decoders has KINDS, the decoder 
     sounds     sounds as WAV
     styled     texts and their styles as HTML
     letters    letters of texts as a page can have them
+    album      the page of an album, and the names of its files
 
 Of Rez and DeRez:
 

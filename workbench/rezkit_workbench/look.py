@@ -11,7 +11,7 @@ import itertools
 import os
 import time
 
-from . import album, command, facts, icons, pictures, program, sounds, styled
+from . import album, command, facts, icons, pictures, pixels, program, sounds, styled
 from .errors import Damaged, Refused, TooLarge, Usage
 from .roman import four, printable
 from .writing import Folder
@@ -171,6 +171,7 @@ def options_of(words):
 def body(words):
     options = options_of(words)
     program.path()
+    pixels.pillow()
     with Folder(options.folder, options.force) as folder, album.Album(folder) as made:
         progress = Progress(len(options.files))
         read_all = [show_file(made, number, name, progress) for number, name in enumerate(options.files, 1)]

@@ -7,7 +7,7 @@ ATTRIBUTE = r'\s+[a-zA-Z_:][-\w:.]*(?:="[^"<]*")?'
 TAG = re.compile(r"<[a-zA-Z][\w:-]*(?:%s)*\s*/?>" % ATTRIBUTE)
 ADDRESSES = ("src", "href", "xlink:href", "action", "data", "poster", "srcset", "background", "cite", "formaction")
 FORBIDDEN = ("script", "iframe", "object", "embed", "base", "link", "form", "foreignobject")
-OUTSIDE = re.compile(r"(?:url\(|@import|https?:|javascript:|//)", re.I)
+OUTSIDE = re.compile(r"(?:url\((?!#)|@import|https?:|javascript:|//)", re.I)
 
 
 class Page(html.parser.HTMLParser):
@@ -23,7 +23,7 @@ class Page(html.parser.HTMLParser):
 
     def handle_starttag(self, tag, attributes):
         told, raw = dict(attributes), self.get_starttag_text()
-        self.elements.append((tag, told))
+        self.elements.append(("svg:title" if tag == "title" and "svg" in self.open else tag, told))
         if not TAG.fullmatch(raw):
             self.faults.append("marks are missing: " + raw)
         if len(told) != len(attributes):

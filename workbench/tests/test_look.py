@@ -3,6 +3,7 @@ import os
 import pty
 import struct
 import subprocess
+import sys
 import tracemalloc
 import wave
 
@@ -247,6 +248,13 @@ def test_wrong_arguments(tmp_path):
     assert run("rezkit-look", "--version")[:2] == (0, rezkit("--version"))
     status, output, _ = run("rezkit-look", "--help")
     assert status == 0 and b"ALBUM gets index.html" in output
+
+
+def test_without_pillow_nothing_is_made(tmp_path):
+    write(tmp_path, "fork", FORK)
+    status, output, messages = run(sys.executable, "-S", os.path.join(WORKBENCH, "rezkit-look"), "fork", "-o", "album", folder=str(tmp_path))
+    assert (status, output) == (1, b"") and names_in(tmp_path) == ["fork"]
+    assert messages == "rezkit-look: Python's module PIL is missing (Debian's package python3-pil)\n"
 
 
 # Time and memory.

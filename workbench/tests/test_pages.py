@@ -3,7 +3,7 @@ import pytest
 from pages import Page
 
 WHOLE = ('<!DOCTYPE html>\n<html lang="en">\n<head><title>T</title><style>p { color: red; }</style></head>\n<body><main id="m"><h1>One</h1><h2>Two</h2>'
-         '<p><a href="#m">in</a> <a href="a.png">out</a><br></p><img src="a.png" alt="A"><svg><path d="M0 0"/></svg>'
+         '<p><a href="#m">in</a> <a href="a.png">out</a><br></p><img src="a.png" alt="A"><svg><title>S</title><path d="M0 0" style="fill: url(#m)"/></svg>'
          '<img src="data:image/png;base64,AA==" alt="B"></main></body>\n</html>\n')
 
 
@@ -14,7 +14,7 @@ def faults(before, after):
 
 def test_a_whole_page_has_no_faults():
     assert faults("One", "One") == []
-    assert Page(WHOLE, ["a.png"]).texts == ["T", "p { color: red; }", "One", "Two", "in", "out"]
+    assert Page(WHOLE, ["a.png"]).texts == ["T", "p { color: red; }", "One", "Two", "in", "out", "S"]
 
 
 @pytest.mark.parametrize("before, after, fault", (
@@ -40,6 +40,8 @@ def test_a_whole_page_has_no_faults():
     ("Two", "<script>x</script>", "not allowed: <script>"),
     ("<p>", '<p onclick="x">', 'not allowed: <p onclick="x">'),
     ("<p>", '<p style="background: url(b)">', "leads outside: "),
+    ("url(#m)", "url(b)", "leads outside: "),
+    ("<title>T</title>", "", "title: 0"),
     ("color: red", "@import b", "the style leads outside"),
     ("Two", "<audio></audio>", "no name for a sound: <audio>"),
     ("Two", "T\x1bwo", "a control letter"),
