@@ -19,16 +19,15 @@ Pixels outside of a mask are transparent, but those of a cursor that invert the 
 """
 from functools import partial
 
-from .errors import Damaged, Refused, TooLarge
+from .errors import Damaged, Refused
 from .palettes import STANDARD, WHITE, colors_of, read_color_table
-from .pixels import Grid, PixelMap, black_and_white, masked, notes_of_colors, pillow, read_grid, shown, side_by_side
+from .pixels import Grid, PixelMap, black_and_white, check_row, masked, notes_of_colors, pillow, read_grid, shown, side_by_side
 from .reading import Reader
 
 LARGE, SMALL, MINI, TILE = (32, 32), (16, 16), (16, 12), (8, 8)
 BYTES_OF_SMALL, BYTES_OF_TILE = 32, 8
 OLD_CURSOR, COLOR_CURSOR = 0x8000, 0x8001
 OLD_PATTERN, COLOR_PATTERN, RGB_PATTERN = 0, 1, 2
-MOST_PATTERNS = 4096
 PLACE_OF_TABLE = 42  # in a PixMap, where the place of the color table stands
 NO_MASK = "It has no mask. All pixels are shown."
 RGB_NOTE = "An RGB pattern: the tile is filled with the color that the pattern stands for."
@@ -80,9 +79,10 @@ def small_icons(data, beside):
     """A SICN, whose icons stand side by side."""
     Reader(data).take(BYTES_OF_SMALL)
     count, rest = divmod(len(data), BYTES_OF_SMALL)
-    tiles = (black_and_white(data[at:at + BYTES_OF_SMALL], SMALL) for at in range(0, len(data) - rest, BYTES_OF_SMALL))
+    check_row(count)
+    icons = (black_and_white(data[at:at + BYTES_OF_SMALL], SMALL) for at in range(0, len(data) - rest, BYTES_OF_SMALL))
     notes = ["Bytes after the last icon that aren't shown: %d." % rest] if rest else []
-    return shown(side_by_side([SMALL] * count, tiles, 0), notes)
+    return shown(side_by_side([SMALL] * count, icons, 0), notes)
 
 
 # Icons with a color table of their own.
@@ -175,6 +175,7 @@ def tiles(data, beside):
     count = reader.word()
     if not count:
         raise Refused("has no patterns")
+    check_row(count)
     bits = reader.take(count * BYTES_OF_TILE)
     pictures = (black_and_white(bits[at:at + BYTES_OF_TILE], TILE) for at in range(0, len(bits), BYTES_OF_TILE))
     return shown(side_by_side([TILE] * count, pictures, 1), note_of_rest(reader))
@@ -192,7 +193,8 @@ class Pattern:
         reader.take(10)  # what the Macintosh makes for a screen
         self.bits = reader.take(BYTES_OF_TILE)
         self.pixel_map = PixelMap(Reader(data, begin + self.map_place)) if self.kind == COLOR_PATTERN else None
-        self.size = self.pixel_map.grid.size if self.pixel_map else TILE
+        grid = self.pixel_map.grid if self.pixel_map else Grid(TILE)
+        self.size, self.length = grid.size, grid.length()
 
     def picture(self):
         """The tile, and notes."""
@@ -218,15 +220,15 @@ def color_tile(data, beside):
 
 
 def color_tiles(data, beside):
-    """A ppt#, whose tiles stand side by side."""
+    """A ppt#, whose tiles stand side by side. Patterns that share pixels are refused: a short list could make long work."""
     reader = Reader(data)
     count = reader.word()
     if not count:
         raise Refused("has no patterns")
-    if count > MOST_PATTERNS:
-        raise TooLarge("%d patterns are more than the %d that are decoded" % (count, MOST_PATTERNS))
-    view = memoryview(data)  # of which parts are no copies: patterns can share bytes
-    patterns = [Pattern(view, reader.long()) for _ in range(count)]
+    check_row(count)
+    patterns = [Pattern(data, reader.long()) for _ in range(count)]
+    if sum(pattern.length for pattern in patterns) > len(data):
+        raise Damaged(2, "patterns that share their pixels")
     notes = []
 
     def pictures():

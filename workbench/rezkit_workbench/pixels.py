@@ -19,6 +19,7 @@ except ImportError:
 DEPTHS = (1, 2, 4, 8)  # bits of a pixel that is an index
 ROW_BYTES = 0x3FFF  # the two bits above them are flags
 MOST_FULL = MOST_PIXELS // 4  # pixels of four bytes
+MOST_IN_ROW = 4096  # pictures side by side
 QUICK = 1  # how hard PNG is packed
 NO_COLOR = "Some pixels have values that aren't in the color table. They are shown black."
 
@@ -34,6 +35,12 @@ def check_full(width, height):
     """Refuses a picture in which pixels can be transparent, before memory is taken: such a pixel takes four bytes."""
     if width * height > MOST_FULL:
         raise TooLarge("%d by %d pixels, of which some can be transparent, are more than the %d that are decoded" % (width, height, MOST_FULL))
+
+
+def check_row(count):
+    """Refuses more pictures side by side than a page can show."""
+    if count > MOST_IN_ROW:
+        raise TooLarge("%d pictures are more than the %d of one resource that are decoded" % (count, MOST_IN_ROW))
 
 
 class Grid:
