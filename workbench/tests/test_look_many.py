@@ -1,22 +1,26 @@
-"""Many whole forks whose resources are damaged through rezkit-look: each has its album, in little memory and time."""
+"""Many whole forks whose resources are damaged through rezkit-look and rezkit-draw: each is shown, in little memory and time."""
 import os
 import re
 import sys
 
 import pytest
 from helpers import WORKBENCH, run
-from test_look import TYPES
 
 pytest.importorskip("PIL")
 
-FORKS, LEAST = 2000, 300
+LEAST = 300
+SHOWN = ("ICON", "ICN#", "icl4", "icl8", "ics#", "ics4", "ics8", "icm#", "icm4", "icm8", "SICN", "CURS", "crsr", "cicn", "PAT_", "PAT#", "ppat",
+         "ppt#", "PICT", "snd_", "TEXT", "styl")
+DRAWN = ("read_dialog", "read_alert", "read_items", "read_control", "read_menu", "read_bar")
+NEVER_SHOWN = "styl"  # it is shown in its TEXT
 
 
-def test_forks_whose_resources_are_damaged():
-    status, output, messages = run(sys.executable, os.path.join(WORKBENCH, "tests", "many_albums.py"), str(FORKS), seconds=1800)
+@pytest.mark.parametrize("which, forks, names", (("look", 2000, SHOWN), ("draw", 500, DRAWN)))
+def test_forks_whose_resources_are_damaged(which, forks, names):
+    status, output, messages = run(sys.executable, os.path.join(WORKBENCH, "tests", "many_albums.py"), which, str(forks), seconds=1800)
     first, *lines = output.decode().splitlines()
-    assert (status, first, messages) == (0, "status 0: %d" % FORKS, "")
-    counts = dict((kind.replace("_", " ").encode(), (int(given), int(shown)))
-                  for kind, given, shown in (re.fullmatch(r"(\S{4}) (\d+) (\d+)", line).groups() for line in lines))
-    assert sorted(counts) == sorted(TYPES)
-    assert all(given >= LEAST and 30 <= shown <= given for given, shown in counts.values()), counts
+    assert (status, first, messages) == (0, "status 0: %d" % forks, "")
+    counts = dict((name, (int(given), int(well))) for name, given, well in (re.fullmatch(r"(\S+) (\d+) (\d+)", line).groups() for line in lines))
+    assert sorted(counts) == sorted(names)
+    for name, (given, well) in counts.items():
+        assert given >= LEAST and (well == 0 if name == NEVER_SHOWN else given / 10 < well), (name, counts)

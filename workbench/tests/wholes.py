@@ -1,7 +1,8 @@
-"""Whole resources of each type that an album shows, written from the formats of Inside Macintosh, and ways to damage them.
+"""Whole resources of each type that is shown or drawn, written from the formats of Inside Macintosh, and ways to damage them.
 
     Imaging With QuickDraw    icons, cursors and patterns in color, color tables, pictures
-    Macintosh Toolbox Essentials, More Macintosh Toolbox    icons with masks, cursors
+    More Macintosh Toolbox    icons with masks
+    Macintosh Toolbox Essentials    dialogs, alerts, their items, controls, menus
     Sound    the resource 'snd '
     Text    the resource 'styl', which is a StScrpRec
 """
@@ -208,13 +209,70 @@ def styles(chance):
         for start in runs)
 
 
+# Dialogs and menus.
+
+def string(chance):
+    letters = chance.choice((b"", b"OK", b"Cancel", b"Caf\x8E <b>", b"^0 and ^1", b"A text that is longer than its rectangle", b"-"))
+    return bytes([len(letters)]) + letters
+
+
+def bounds(chance):
+    top, left = chance.randrange(-20, 200), chance.randrange(-20, 300)
+    return struct.pack(">4h", top, left, top + chance.randrange(0, 60), left + chance.randrange(0, 200))
+
+
+def dialog(chance):
+    """A DLOG whose items are those of the DITL 128."""
+    return (struct.pack(">4hhBBBBLh", 40, 40, 240, 400, chance.choice((0, 1, 2, 3, 4, 5, 8, 12, 16)), 1, 0, 1, 0, 0, 128) + string(chance)
+            + chance.choice((b"", b"\x28\x0A", b"\0\x28\x0A")))
+
+
+def alert(chance):
+    return struct.pack(">4hhH", 40, 40, 140, 340, 128, chance.randrange(65536)) + chance.choice((b"", b"\x28\x0A"))
+
+
+def items(chance):
+    """A DITL with items of all kinds."""
+    out, count = b"", chance.randrange(1, 12)
+    for _ in range(count):
+        kind = chance.choice((0, 1, 4, 5, 6, 7, 7, 7, 8, 16, 32, 64))
+        data = {0: b"\0", 1: b"\4\0\1\0\x80", 7: b"\2\0\x80", 32: b"\2\0\x80", 64: b"\2\0\x80"}.get(kind, None) or string(chance)
+        out += bytes(4) + bounds(chance) + bytes([kind | chance.choice((0, 0x80))]) + padded_item(data)
+    return struct.pack(">H", count - 1) + out
+
+
+def padded_item(data):
+    return data + bytes((len(data) + 1) % 2)
+
+
+def control(chance):
+    return bounds(chance) + struct.pack(">hBBhhhL", 0, 1, 0, 100, 0, chance.choice((0, 1, 2, 16, 160, 368, 400, 1008)), 0) + string(chance)
+
+
+def menu(chance):
+    """A MENU with marks, keys, icons, styles, submenus and separators."""
+    out = struct.pack(">hhhhhL", 128, 0, 0, 0, 0, chance.randrange(1 << 32)) + chance.choice((b"\4File", b"\1\x14"))
+    for _ in range(chance.randrange(12)):
+        letters = string(chance)
+        if letters != b"\0":
+            out += letters + bytes([chance.choice((0, 1)), chance.choice((0, 0x51, 0x1B, 0x1C, 0x1D, 0x1E)), chance.choice((0, 0x12, 128)), chance.randrange(128)])
+    return out + b"\0"
+
+
+def menu_bar(chance):
+    count = chance.randrange(1, 5)
+    return struct.pack(">H", count) + b"".join(struct.pack(">h", chance.choice((128, 129, -1))) for _ in range(count))
+
+
+DRAWN = {b"DLOG": dialog, b"ALRT": alert, b"DITL": items, b"CNTL": control, b"MENU": menu, b"MBAR": menu_bar}
 MADE = {b"PAT#": pattern_list, b"cicn": color_icon, b"crsr": color_cursor, b"ppat": color_pattern, b"ppt#": color_patterns, b"PICT": picture,
         b"snd ": sound, b"TEXT": text}
 
 
 def whole(kind, chance):
     """The bytes of a whole resource of a type."""
-    return MADE[kind](chance) if kind in MADE else noise(chance, SIZES[kind])
+    make = MADE.get(kind) or DRAWN.get(kind)
+    return make(chance) if make else noise(chance, SIZES[kind])
 
 
 KINDS = tuple(SIZES) + tuple(MADE)
@@ -243,12 +301,24 @@ def damaged(kind, data, chance):
 MASKS = {b"icl4": b"ICN#", b"icl8": b"ICN#", b"ics4": b"ics#", b"ics8": b"ics#", b"icm4": b"icm#", b"icm8": b"icm#"}
 
 
-def fork_resources(chance):
-    """The resources of a fork: some ten of all types, mostly damaged, and all with one id, so that masks and styles meet."""
+def mostly_damaged(kinds, chance):
+    """A resource of each of some types, by type."""
     found = {}
-    for kind in chance.sample(KINDS, 10):
+    for kind in kinds:
         data = whole(kind, chance)
         found[kind] = damaged(kind, data, chance) if chance.random() < 0.85 else data
+    return found
+
+
+def drawn_fork(chance):
+    """The resources of a fork with dialogs and menus, whose items name the icons, pictures and controls in it."""
+    found = mostly_damaged(tuple(DRAWN) + (b"ICON", b"cicn", b"SICN", b"PICT"), chance)
+    return [(kind, ident, b"", 0, data) for kind, data in found.items() if chance.random() < 0.8 for ident in ((128, 257) if kind in KINDS else (128,))]
+
+
+def fork_resources(chance):
+    """The resources of a fork: some ten of all types, mostly damaged, and all with one id, so that masks and styles meet."""
+    found = mostly_damaged(chance.sample(KINDS, 10), chance)
     for kind in [kind for kind in found if kind in MASKS]:
         found.setdefault(MASKS[kind], noise(chance, SIZES[MASKS[kind]]))
     if b"TEXT" in found:
