@@ -58,7 +58,7 @@ def picture_of(file):
         except image.UnidentifiedImageError:
             raise Refused("%s: is no picture that is read (%s)" % (file.told, ", ".join(FORMATS))) from None
         except NOT_DECODED as fault:
-            raise Refused("%s: is damaged: %s" % (file.told, printable(str(fault)))) from None
+            raise Refused("%s: can't be decoded: %s" % (file.told, printable(str(fault)))) from None
 
 
 def check_size(size, told):
