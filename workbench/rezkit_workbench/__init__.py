@@ -8,6 +8,16 @@
     command    the frame of a program: options, messages, statuses
     reading    bytes that are read from left to right, and what a decoder of resources gives
 
+Of pictures (PICT):
+
+    pictures   a picture that is played, and its frame
+    opcodes    what each opcode reads, sets and draws
+    quickdraw  patterns, modes, and the pixels that are drawn on
+    regions    the pixels that a shape covers
+    packing    bitmaps and pixmaps, packed or not
+    quicktime  JPEG in a picture
+    lettering  letters of a picture in another font
+
 Of Rez and DeRez:
 
     options    the options of other Rezes, in one table
