@@ -18,6 +18,16 @@ What resources look and sound like; a module of decoders has KINDS, the decoder 
     letters    letters of texts as a page can have them
     album      the page of an album, and the names of its files
 
+Of pictures (PICT):
+
+    pictures   a picture that is played, and its frame
+    opcodes    what each opcode reads, sets and draws
+    quickdraw  patterns, modes, and the pixels that are drawn on
+    regions    the pixels that a shape covers
+    packing    bitmaps and pixmaps, packed or not
+    quicktime  JPEG in a picture
+    lettering  letters of a picture in another font
+
 Of Rez and DeRez:
 
     options    the options of other Rezes, in one table
