@@ -16,7 +16,8 @@ from .writing import cant
 
 PAGE = "index.html"
 INLINE_MOST = 1 << 16  # bytes of a text that stands in the page; a longer one has a link alone
-SMALL, TIMES_MOST = 128, 4  # pictures are enlarged up to so many pixels, and by so much
+WIDE, HIGH, TIMES_MOST = 480, 96, 4  # pictures are enlarged up to so many pixels, and by so much
+OF_ANY_SIZE = (b"PICT", b"cicn", b"ppat")  # types of pictures of which the page says the size
 PIECE = 1 << 20
 WORDS = {
     b"ICON": "icons", b"ICN#": "icons with masks", b"icl4": "icons in 16 colors", b"icl8": "icons in 256 colors",
@@ -36,21 +37,27 @@ body { margin: 0 auto; max-width: 76rem; padding: 1rem; background: var(--ground
 a { color: var(--link); }
 h1, h2, h3 { line-height: 1.25; }
 h2 { margin: 2.5rem 0 .5rem; padding-top: .75rem; border-top: 1px solid var(--line); }
-h3 { margin: 1.5rem 0 .75rem; font-size: 1.05rem; }
+h3 { margin: 1rem 0 .5rem; font-size: 1.05rem; }
+.file { display: flex; flex-wrap: wrap; gap: 0 3rem; }
+.file > h2, .file > p { flex: 0 0 100%; }
+.file > p { margin: 0 0 .5rem; }
+.file > section { max-width: 100%; }
 h3 span, .faint, figcaption { color: var(--faint); font-weight: normal; }
 .types { display: flex; flex-wrap: wrap; gap: 0 1.25rem; margin: 0 0 .5rem; padding: 0; list-style: none; }
-.figures { display: flex; flex-wrap: wrap; gap: 1.25rem; align-items: flex-end; }
-figure { margin: 0; min-width: 6.5rem; max-width: 100%; }
+.figures { display: flex; flex-wrap: wrap; gap: 1rem; align-items: flex-start; }
+figure { margin: 0; min-width: 6rem; max-width: 100%; }
+figure.noted { min-width: 11rem; }
 figure.wide { width: 100%; }
 figcaption { width: 0; min-width: 100%; margin-top: .25rem; font-size: .85rem; line-height: 1.35; }
 figcaption ul { margin: .15rem 0 0; padding-left: 1rem; }
-img { display: block; max-width: 100%; height: auto; }
+img { display: block; max-width: 100%; height: auto; outline: 1px solid var(--line); }
 img.small { image-rendering: pixelated; }
-img.checked { background: repeating-conic-gradient(#d9d9df 0 25%, #c3c3cb 0 50%) 0 0 / 16px 16px; }
+img.checked { outline: none; background: repeating-conic-gradient(#d9d9df 0 25%, #c3c3cb 0 50%) 0 0 / 16px 16px; }
 audio { display: block; width: 20rem; max-width: 100%; }
 .box { max-height: 20rem; overflow: auto; border: 1px solid var(--line); }
 .text { padding: .75rem; }
 .wrong { color: var(--wrong); }
+ul.wrong { margin: .5rem 0; padding-left: 1.25rem; font-size: .85rem; line-height: 1.4; }
 .scroll { overflow-x: auto; }
 table { border-collapse: collapse; }
 th, td { padding: .25rem 1.25rem .25rem 0; border-bottom: 1px solid var(--line); text-align: left; vertical-align: top; }
@@ -118,17 +125,18 @@ def told(one):
 
 # A figure.
 
-def times(size):
+def times(width, height):
     """How many times as large as it is a picture is shown."""
-    return max(1, min(TIMES_MOST, SMALL // max(size)))
+    return max(1, min(TIMES_MOST, WIDE // width, HIGH // height))
 
 
 def picture(name, one, shown):
     """The element of a picture. A small one is enlarged, and what may let the ground through stands on checks."""
-    width, height = shown.size
-    classes = ["small"] * (times(shown.size) > 1) + ["checked"] * (one.kind != b"PICT")
+    larger = times(*shown.size)
+    width, height = (larger * pixels for pixels in shown.size)
+    classes = ["small"] * (larger > 1) + ["checked"] * (one.kind != b"PICT")
     return '<img%s src="%s" alt="%s" width="%d" height="%d" loading="lazy">' % (
-        ' class="%s"' % " ".join(classes) if classes else "", name, escaped(told(one)), width * times(shown.size), height * times(shown.size))
+        ' class="%s"' % " ".join(classes) if classes else "", name, escaped(told(one)), width, height)
 
 
 def sound(name, one, _):
@@ -151,10 +159,10 @@ def other(*_):
     return '<p>A browser can\'t play this file.</p>'
 
 
-def length_of(shown):
+def length_of(one, shown):
     """What a figure says of a picture's size or of a sound's length."""
-    if shown.ending == "png":
-        return "%d × %d" % shown.size
+    if one.kind in OF_ANY_SIZE:
+        return "%d\u00a0×\u00a0%d" % shown.size
     if shown.ending == "wav":
         with wave.open(io.BytesIO(shown.data)) as file:
             return "%.2f s" % (file.getnframes() / file.getframerate())
@@ -164,9 +172,9 @@ def length_of(shown):
 def figure(name, one, shown):
     """A resource with its id, its name, and what isn't shown of it."""
     notes = "".join("<li>%s</li>" % escaped(note) for note in shown.notes)
-    parts = ['<a href="%s">%d</a>' % (name, one.ident), escaped(quoted(one.name)) if one.name else "", escaped(length_of(shown))]
+    parts = ['<a href="%s">%d</a>' % (name, one.ident), escaped(quoted(one.name)) if one.name else "", escaped(length_of(one, shown))]
     return FIGURE % (
-        ' class="wide"' if shown.ending == "html" else "", ELEMENTS.get(shown.ending, other)(name, one, shown),
+        ' class="wide"' if shown.ending == "html" else ' class="noted"' if notes else "", ELEMENTS.get(shown.ending, other)(name, one, shown),
         " ".join(part for part in parts if part), "<ul>%s</ul>" % notes if notes else "")
 
 
@@ -242,7 +250,7 @@ class Album:
         """A file with so many resources; `about` says what it is."""
         self.entries.append(Entry(number, name))
         self.entries[-1].there = there
-        self.put('<section>\n<h2 id="file-%d">%s</h2>\n<p class="faint">%s</p>\n' % (number, escaped(name), escaped(about)))
+        self.put('<section class="file">\n<h2 id="file-%d">%s</h2>\n<p class="faint">%s</p>\n' % (number, escaped(name), escaped(about)))
 
     def end_file(self):
         entry = self.entries[-1]
@@ -275,8 +283,8 @@ class Album:
         self.left[one.kind, reason] += 1
 
     def end_type(self):
-        faults = "".join('<li>%s</li>\n' % escaped(fault) for fault in self.faults)
-        self.put("</div>\n%s</section>\n" % ('<p>Not shown:</p>\n<ul class="wrong">\n%s</ul>\n' % faults if faults else ""))
+        faults = "".join('<li>Not shown: %s</li>\n' % escaped(fault) for fault in self.faults)
+        self.put("</div>\n%s</section>\n" % ('<ul class="wrong">\n%s</ul>\n' % faults if faults else ""))
         self.faults = []
 
     def finish(self):

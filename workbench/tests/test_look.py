@@ -80,11 +80,11 @@ def test_an_album_of_one_file(tmp_path):
         "1-ICNx23-128.png", "1-ICNx23--16455.png", "1-PICT-200.png", "1-sndx20-1.wav"]
     assert [each["alt"] for each in page.all("img")] == ["'ICN#' 128 \"App\"", "'ICN#' -16455", "'PICT' 200 \"Half\""]
     assert [(each.get("class"), each["width"], each["height"]) for each in page.all("img")] == [
-        ("small checked", "128", "128"), ("small checked", "128", "128"), (None, "300", "2")]
+        ("small checked", "96", "96"), ("small checked", "96", "96"), (None, "300", "2")]
     assert page.all("audio")[0]["aria-label"] == "'snd ' 1 \"Beep\""
-    assert "'ICN#' 129 \"Cut\": 128 bytes are wanted and 127 are there at byte 128" in page.texts
-    assert "'PICT' 201: 32767 by 32767 pixels are more than the 16777216 that are decoded" in page.texts
-    assert "'snd ' 2: has no samples: its commands are beeps, notes or wave tables" in page.texts
+    assert "Not shown: 'ICN#' 129 \"Cut\": 128 bytes are wanted and 127 are there at byte 128" in page.texts
+    assert "Not shown: 'PICT' 201: 32767 by 32767 pixels are more than the 16777216 that are decoded" in page.texts
+    assert "Not shown: 'snd ' 2: has no samples: its commands are beeps, notes or wave tables" in page.texts
     assert left_of(page) == LEFT
 
 
@@ -320,7 +320,7 @@ def test_a_resource_for_which_there_is_no_memory_is_told(tmp_path, monkeypatch):
     path = write(tmp_path, "fork", FORK)
     assert look.body([path, "-o", str(tmp_path / "album")]) == 0
     page = Page(read(str(tmp_path / "album" / "index.html")).decode("utf-8"), names_in(tmp_path / "album"))
-    assert page.faults == [] and "'PICT' 200 \"Half\": out of memory" in page.texts and ["'PICT'", "2", "out of memory"] in left_of(page)
+    assert page.faults == [] and "Not shown: 'PICT' 200 \"Half\": out of memory" in page.texts and ["'PICT'", "2", "out of memory"] in left_of(page)
 
 
 def test_other_endings_have_a_link(tmp_path):
