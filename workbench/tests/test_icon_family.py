@@ -186,9 +186,9 @@ def test_what_is_transparent_gives_no_color_when_it_is_reduced(tmp_path):
 
 def test_no_seams_beside_an_edge(tmp_path):
     """Half of the picture is gray of 204, half of 51: nothing lighter or darker comes of it."""
-    resources = icons_of(tmp_path, png(128, 128, [(204, 204, 204, 255) if at % 128 < 64 else (51, 51, 51, 255) for at in range(128 * 128)]))
-    for row in range(0, 1024, 32):
-        assert list(resources[b"icl8"][row:row + 15]) == [43] * 15 and list(resources[b"icl8"][row + 17:row + 32]) == [172] * 15
+    data = png(128, 128, [(204, 204, 204, 255) if at % 128 < 64 else (51, 51, 51, 255) for at in range(128 * 128)])
+    with facts.Opened(write(tmp_path, "a", data)) as file:
+        assert icon_family.fitted(icon_family.picture_of(file), 32).getextrema() == ((51, 204), (51, 204), (51, 204), (255, 255))
 
 
 def test_a_small_picture_is_doubled(tmp_path):
