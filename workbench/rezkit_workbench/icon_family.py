@@ -85,12 +85,15 @@ def with_alpha(picture):
 
 
 def fitted(picture, side):
-    """The picture in a square of this side: reduced if it is larger, enlarged by a whole number if that fits, in the middle."""
+    """The picture in the middle of a square of this side: reduced if it is larger, else enlarged by a whole number.
+
+    The filter weighs no pixel negatively, as others do: so no bright or dark seams come up beside an edge.
+    """
     image, (width, height) = pillow(), picture.size
     longest = max(width, height)
     if longest > side:
         size = max(1, round(width * side / longest)), max(1, round(height * side / longest))
-        picture = picture.resize(size, image.LANCZOS)
+        picture = picture.resize(size, image.HAMMING)
     else:
         times = side // longest
         picture = picture.resize((width * times, height * times), image.NEAREST)
@@ -123,7 +126,8 @@ def packed(values, depth):
 def family(picture):
     """The type and the bytes of each icon."""
     for side, plain, *colored in SIZES:
-        pixels = [(pixel[:3], pixel[3] >= OPAQUE) for pixel in fitted(picture, side).getdata()]
+        parts = fitted(picture, side).tobytes()
+        pixels = [(tuple(parts[at:at + 3]), parts[at + 3] >= OPAQUE) for at in range(0, len(parts), 4)]
         bits = packed([is_in and is_black(color) for color, is_in in pixels], 1)
         yield plain, bits + packed([is_in for _, is_in in pixels], 1)
         for kind, depth in zip(colored, (4, 8)):

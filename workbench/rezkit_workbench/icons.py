@@ -21,7 +21,7 @@ from functools import partial
 
 from .errors import Damaged, Refused
 from .palettes import STANDARD, WHITE, colors_of, read_color_table
-from .pixels import Grid, PixelMap, black_and_white, check_row, masked, notes_of_colors, pillow, read_grid, shown, side_by_side
+from .pixels import Grid, PixelMap, black_and_white, check_row, masked, notes_of_colors, pillow, read_grid, row_size, shown, side_by_side
 from .reading import Reader
 
 LARGE, SMALL, MINI, TILE = (32, 32), (16, 16), (16, 12), (8, 8)
@@ -80,9 +80,9 @@ def small_icons(data, beside):
     Reader(data).take(BYTES_OF_SMALL)
     count, rest = divmod(len(data), BYTES_OF_SMALL)
     check_row(count)
-    icons = (black_and_white(data[at:at + BYTES_OF_SMALL], SMALL) for at in range(0, len(data) - rest, BYTES_OF_SMALL))
+    icons = [black_and_white(data[at:at + BYTES_OF_SMALL], SMALL) for at in range(0, len(data) - rest, BYTES_OF_SMALL)]
     notes = ["Bytes after the last icon that aren't shown: %d." % rest] if rest else []
-    return shown(side_by_side([SMALL] * count, icons, 0), notes)
+    return shown(side_by_side(icons, 0), notes)
 
 
 # Icons with a color table of their own.
@@ -177,8 +177,8 @@ def tiles(data, beside):
         raise Refused("has no patterns")
     check_row(count)
     bits = reader.take(count * BYTES_OF_TILE)
-    pictures = (black_and_white(bits[at:at + BYTES_OF_TILE], TILE) for at in range(0, len(bits), BYTES_OF_TILE))
-    return shown(side_by_side([TILE] * count, pictures, 1), note_of_rest(reader))
+    pictures = [black_and_white(bits[at:at + BYTES_OF_TILE], TILE) for at in range(0, len(bits), BYTES_OF_TILE)]
+    return shown(side_by_side(pictures, 1), note_of_rest(reader))
 
 
 class Pattern:
@@ -229,16 +229,10 @@ def color_tiles(data, beside):
     patterns = [Pattern(data, reader.long()) for _ in range(count)]
     if sum(pattern.length for pattern in patterns) > len(data):
         raise Damaged(2, "patterns that share their pixels")
-    notes = []
-
-    def pictures():
-        for pattern in patterns:
-            picture, more = pattern.picture()
-            notes.extend(note for note in more if note not in notes)
-            yield picture
-
-    row = side_by_side([pattern.size for pattern in patterns], pictures(), 1)
-    return shown(row, notes)
+    row_size([pattern.size for pattern in patterns], 1)  # before their pixels are read
+    made = [pattern.picture() for pattern in patterns]
+    notes = dict.fromkeys(note for _, some in made for note in some)
+    return shown(side_by_side([picture for picture, _ in made], 1), notes)
 
 
 KINDS = {

@@ -39,9 +39,8 @@ def read_color_table(reader):
     count = (reader.word() + 1) & 0xFFFF
     if count > MOST_COLORS:
         raise Damaged(place, "a color table of %d colors" % count)
-    numbers = struct.unpack(">%dH" % (4 * count), reader.take(8 * count))
-    colors = [tuple(number >> 8 for number in numbers[at + 1:at + 4]) for at in range(0, 4 * count, 4)]
-    return list(enumerate(colors)) if flags & BY_PLACE else list(zip(numbers[::4], colors))
+    entries = [(value, (red, green, blue)) for value, red, green, blue in struct.iter_unpack(">HBxBxBx", reader.take(8 * count))]
+    return [(number, color) for number, (_, color) in enumerate(entries)] if flags & BY_PLACE else entries
 
 
 def colors_of(entries):

@@ -123,11 +123,16 @@ def masked(picture, mask):
     return full
 
 
-def side_by_side(sizes, tiles, between):
-    """Pictures of these sizes in a row, with so many empty columns between two of them. `tiles` may make them one by one."""
-    size = sum(width for width, _ in sizes) + between * (len(sizes) - 1), max(height for _, height in sizes)
-    check_full(*size)
-    row, left = pillow().new("RGBA", size), 0
+def row_size(sizes, between):
+    """The width and height of pictures of these sizes in a row, with so many empty columns between two; refused if too large."""
+    width, height = sum(width for width, _ in sizes) + between * (len(sizes) - 1), max(height for _, height in sizes)
+    check_full(width, height)
+    return width, height
+
+
+def side_by_side(tiles, between):
+    """Pictures in a row, with so many empty columns between two of them."""
+    row, left = pillow().new("RGBA", row_size([tile.size for tile in tiles], between)), 0
     for tile in tiles:
         row.paste(tile.convert("RGBA"), (left, 0))
         left += tile.size[0] + between

@@ -184,6 +184,13 @@ def test_what_is_transparent_gives_no_color_when_it_is_reduced(tmp_path):
     assert resources[b"icl8"] == (b"\x23" * 16 + bytes(16)) * 32 and resources[b"ics8"] == (b"\x23" * 8 + bytes(8)) * 16
 
 
+def test_no_seams_beside_an_edge(tmp_path):
+    """Half of the picture is gray of 204, half of 51: nothing lighter or darker comes of it."""
+    data = png(128, 128, [(204, 204, 204, 255) if at % 128 < 64 else (51, 51, 51, 255) for at in range(128 * 128)])
+    with facts.Opened(write(tmp_path, "a", data)) as file:
+        assert icon_family.fitted(icon_family.picture_of(file), 32).getextrema() == ((51, 204), (51, 204), (51, 204), (255, 255))
+
+
 def test_a_small_picture_is_doubled(tmp_path):
     resources = icons_of(tmp_path, png(16, 16, small_pixels()))
     assert resources[b"icl8"][:6] == resources[b"icl8"][32:38] == b"\xFF\xFF\0\0\x47\x47"

@@ -1,11 +1,13 @@
 """Icons, cursors and patterns: of each type the pixels by hand, and what is refused."""
 import io
+import os
 import struct
 
 import pytest
 from icon_bytes import (BLACK, BLUE, CICN, CRSR, GREEN, OLD_PPAT, PPAT, RED, RGB_PPAT, TABLE, WHITE, WHOLE, bit_map, cicn, color_pattern,
                         color_table, crsr, pixel_map, ppat, ppt_list)
-from rezkit_workbench import icons, pixels
+from helpers import TYPES, rezkit, write
+from rezkit_workbench import facts, icons, pixels
 from rezkit_workbench.errors import Damaged, Refused, TooLarge
 
 Image = pytest.importorskip("PIL.Image")
@@ -40,6 +42,25 @@ def refusal(kind, data, beside=nothing):
     with pytest.raises(Refused) as fault:
         decoded(kind, data, beside)
     return type(fault.value), str(fault.value)
+
+
+SOURCE = """
+resource 'cicn' (128) {
+    0, 0x8002, {0, 0, 2, 4}, 0, unpacked, 0, 0x480000, 0x480000, chunky, 2, 1, 2, 0, 0, 0,
+    0, 2, {0, 0, 2, 4}, 0, 2, {0, 0, 2, 4}, 0, $"7000 E000", $"F000 F000",
+    0, 0, { 0, 65535, 65535, 65535; 1, 65535, 0, 0; 2, 0, 0x8000, 0x1234; 3, 0, 0, 0 }, $"1B00 F100"
+};
+resource 'ppat' (128) {
+    newPattern, -1, $"AA55 AA55 AA55 AA55",
+    0, 0x8002, {0, 0, 2, 4}, 0, unpacked, 0, 0x480000, 0x480000, chunky, 2, 1, 2, 0, 0, $"1B00 F100",
+    0, 0, { 0, 65535, 65535, 65535; 1, 65535, 0, 0; 2, 0, 0x8000, 0x1234; 3, 0, 0, 0 }
+};
+resource 'crsr' (128) {
+    newCursor, $"%s", $"8000%s", {2, 1}, 0, 0,
+    0, 0x8002, {0, 0, 16, 16}, 0, unpacked, 0, 0x480000, 0x480000, chunky, 1, 1, 1, 0, 0, $"C000%s0001",
+    0, 0, { 0, 65535, 65535, 65535; 1, 65535, 0, 0 }
+};
+""" % ("00" * 32, "00" * 30, "00" * 28)  # the same as CICN, PPAT and CRSR
 
 
 # Icons of fixed sizes.
@@ -334,6 +355,14 @@ def test_each_type_with_numbers_that_lie(kind):
                     found["refused"] += 1
     has_numbers = kind in (b"cicn", b"crsr", b"ppat", b"PAT#", b"ppt#")
     assert found["decoded"] >= 20 and (found["refused"] > 0) == has_numbers
+
+
+def test_the_type_file_has_the_same_layouts(tmp_path):
+    write(tmp_path, "a.r", SOURCE.encode())
+    rezkit("rez", os.path.join(TYPES, "Types.r"), "a.r", "-o", "a.rsrc", folder=str(tmp_path))
+    with facts.Opened(str(tmp_path / "a.rsrc")) as file:
+        found = facts.facts_of(file)
+        assert {one.kind: one.bytes_in(found.fork) for one in found.resources()} == {b"cicn": CICN, b"ppat": PPAT, b"crsr": CRSR}
 
 
 def test_all_types_are_there():
