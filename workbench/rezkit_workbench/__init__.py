@@ -14,6 +14,18 @@ What resources look and sound like; a module of decoders has KINDS, the decoder 
     styled     texts and their styles as HTML
     letters    letters of texts as a page can have them
 
+Of rezkit-draw:
+
+    dialogs         what DLOG, ALRT, DITL and CNTL hold
+    menus           what MENU and MBAR hold, and the order of menus on a page
+    dialog_drawing  dialogs and alerts as SVG, and their texts that may not fit
+    menu_drawing    menus and menu bars as SVG
+    frames          the borders and title bars of windows
+    chicago         how wide a text is in the system font, and where its lines break
+    svg             elements of SVG
+    embed           icons and pictures as addresses that stand in a page
+    drawn_page      what stands around the drawings
+
 Of Rez and DeRez:
 
     options    the options of other Rezes, in one table

@@ -83,6 +83,17 @@ def test_an_editable_text_has_a_frame_of_three_pixels():
     assert only(made) == ("1: editable text, name", [("rect", "box", 70.5, 57.5, 219, 21), ("text", 73, 72, 36, "name")])
 
 
+def test_places_of_the_program_stay_as_they_are():
+    made = drawing(ditl(item(STATIC, (10, 20, 42, 200), b"Save ^0 as ^1^2^3?")))
+    assert [part[-1] for part in only(made)[1]] == ["Save ^0 as ^1^2^3?"]
+
+
+def test_lines_below_the_window_are_not_drawn():
+    """The window is 200 high: of a text at 150 the lines at 150, 166, 182 and 198 are seen."""
+    made = drawing(ditl(item(STATIC, (150, 20, 600, 99), b"\r".join(b"%d" % each for each in range(20)))))
+    assert [part[-1] for part in only(made)[1]] == ["0", "1", "2", "3"] and made.over == []
+
+
 def test_a_disabled_item_looks_the_same():
     for kind, data in ((BUTTON, b"Hi"), (CHECK, b"Hi"), (RADIO, b"Hi"), (STATIC, b"Hi"), (EDIT, b"Hi"), (USER, b""), (ICON, b"\0\1"), (PICTURE, b"\0\1")):
         one, other = (only(drawing(ditl(item(kind, (10, 20, 30, 80), data, disabled)))) for disabled in (False, True))
@@ -386,7 +397,15 @@ def test_any_letters_make_xml():
 
 
 def test_2000_items_take_little_time():
+    """The window is 200 high, and so 13 lines of an item are seen."""
     begin = os.times().user
     made = drawing(ditl(*(item(STATIC, (0, 0, 100, 100), b"a few words that are wrapped " * 8) for _ in range(2000))))
-    assert len(groups(made)) == 2000 and len(made.over) == 2000
+    assert len(groups(made)) == 2000 and len(made.over) == 2000 and made.svg.count("<text ") == made.lines == 20000
+    assert made.notes == ["Lines of text that aren't drawn, for there are more than 20000: 6000."]
     assert os.times().user - begin < SECONDS / 2
+
+
+def test_lines_of_a_button_that_are_seen():
+    """Of 61 lines around the middle of a window that is 200 high, those from 30 - 6 to 30 + 6 are seen, and one is cut at each end."""
+    made = drawing(ditl(item(BUTTON, (92, 20, 108, 99), b"\r".join(b"%d" % each for each in range(61)))), default=0)
+    assert [part[-1] for part in only(made)[1] if part[0] == "text"] == [str(each) for each in range(24, 37)]

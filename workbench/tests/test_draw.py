@@ -258,16 +258,19 @@ def test_the_items_of_a_page_are_limited(tmp_path):
 
 
 def test_many_resources_take_little_time_and_memory(tmp_path):
-    items = ditl(*[item(STATIC, (0, 0, 16, 60), b"words that are wrapped " * 10)] * 4000)
-    control = (b"CNTL", 1, b"", 0, cntl(1008, b"x" * 255, maximum=32767))
-    data = fork_of([(b"DITL", 1, b"", 0, items), control, (b"DITL", 2, b"", 0, ditl(*[item(7, (0, 0, 16, 60), b"\0\1")] * 4000))]
-                   + [(b"DLOG", each, b"", 0, dlog((0, 0, 99, 300), 2, 1 + each % 2)) for each in range(2000)]
-                   + [(b"MBAR", each, b"", 0, mbar(*[each] * 2000)) for each in range(100)]
-                   + [(b"MENU", each, b"", 0, menu(each, b"M", *[(b"x", 0, 0x1B, each % 256, 0)] * 10)) for each in range(1000)])
+    lines = ditl(*[item(STATIC, (0, 0, 4000, 60), b"a\r" * 127)] * 4000)
+    words = ditl(*[item(STATIC, (0, 0, 16, 60), b"words that are wrapped " * 10)] * 1000)
+    controls = ditl(*[item(7, (0, 0, 16, 60), b"\0\1")] * 1000)
+    data = fork_of([(b"DITL", ident, b"", 0, items) for ident, items in enumerate((words, controls, lines))]
+                   + [(b"CNTL", 1, b"", 0, cntl(1008, b"x" * 255, maximum=32767))]
+                   + [(b"DLOG", each, b"", 0, dlog((0, 0, 4000, 300), 2, min(each, 2))) for each in range(500)]
+                   + [(b"MBAR", each, b"", 0, mbar(*[each] * 2000)) for each in range(50)]
+                   + [(b"MENU", each, b"", 0, menu(each, b"M", *[(b"x", 0, 0x1B, each % 256, 0)] * 10)) for each in range(200)])
     path = write(tmp_path, "fork", data)
     status, _, messages = run("rezkit-draw", path, "-o", str(tmp_path / "page.html"), memory=MEMORY, cpu=SECONDS)
-    assert status == 0, messages
-    assert "more resources aren't drawn" in messages and b"<h3>DLOG 0</h3>" in read(str(tmp_path / "page.html"))
+    assert status == 0 and "more resources aren't drawn" in messages
+    page = read(str(tmp_path / "page.html"))
+    assert b"<h3>DLOG 0</h3>" in page and page.count(b"<text ") < 60000
 
 
 def test_many_references_to_the_same_bytes(tmp_path):
