@@ -79,11 +79,11 @@ class DialogDrawing:
                 reaching.append(item.number)
             parts.append(self.item_drawing(item))
         if outside:
-            self.notes.append("Items that aren't seen, for they are outside or have no area: %s." % numbers(outside))
+            self.notes.append("Items that aren't seen, because they are outside the window or have no area: %s." % numbers(outside))
         if reaching:
             self.notes.append("Items that reach out of the window: %s." % numbers(reaching))
         if self.lines_too_many:
-            self.notes.append("Lines of text that aren't drawn, for there are more than %d: %d." % (MOST_LINES, self.lines_too_many))
+            self.notes.append("Lines of text that aren't drawn, because there are more than %d: %d." % (MOST_LINES, self.lines_too_many))
         return parts
 
     def item_drawing(self, item):

@@ -39,8 +39,8 @@ class FileDrawing:
         self.draw_windows()
         self.draw_menus()
         if self.undrawn:
-            self.told.append("the page has drawings enough: %d more resources aren't drawn" % self.undrawn)
-            self.parts.append(drawn_page.paragraph("The page has drawings enough of this file: %d more resources aren't drawn." % self.undrawn))
+            self.told.append("the page has enough drawings: %d more resources aren't drawn" % self.undrawn)
+            self.parts.append(drawn_page.paragraph("The page has enough drawings of this file: %d more resources aren't drawn." % self.undrawn))
         if not self.parts:
             self.parts.append(drawn_page.paragraph("The file has no dialogs, alerts and menus."))
 
