@@ -28,6 +28,18 @@ Of pictures (PICT):
     quicktime  JPEG in a picture
     lettering  letters of a picture in another font
 
+Of rezkit-draw:
+
+    dialogs         what DLOG, ALRT, DITL and CNTL hold
+    menus           what MENU and MBAR hold, and the order of menus on a page
+    dialog_drawing  dialogs and alerts as SVG, and their texts that may not fit
+    menu_drawing    menus and menu bars as SVG
+    frames          the borders and title bars of windows
+    chicago         how wide a text is in the system font, and where its lines break
+    svg             elements of SVG
+    embed           icons and pictures as addresses that stand in a page
+    drawn_page      what stands around the drawings
+
 Of Rez and DeRez:
 
     options    the options of other Rezes, in one table

@@ -12,7 +12,7 @@ import unicodedata
 OTHER = 7
 ASCENT, LINE, LEADING = 12, 16, 1  # pixels from the top of a line to its base line, from line to line, and between them
 BY_WIDTH = {3: "'", 4: " ,.:;il\u00A0", 5: "()[]{}|", 6: "!<>IT`fjrt", 7: '"$*+-/\\EFJLScs', 8: "0123456789=?ABCDGHOPQRUVXYZ^_abdeghknopquvxyz~",
-            9: "KN", 10: "#&", 11: "%@", 12: "MWmw"}
+            9: "KN\u2713\u25C6", 10: "#&", 11: "%@\u2318", 12: "MWmw\u2026"}  # with the check mark, the diamond, the command key, and three dots
 WIDTHS = {letter: width for width, letters in BY_WIDTH.items() for letter in letters}
 WORDS = re.compile("[^ ]+ *| +")
 

@@ -10,6 +10,7 @@ from .errors import Damaged
 from .letters import escaped, lines_of
 
 MOST_SIDE = 4096  # pixels of a drawing's width and height
+MOST_LINES = 20000  # lines of text in a drawing
 MOST_IN_MENU = 64  # items of a pop-up menu that are looked at
 BUTTON_EDGE, BOX, BOX_TEXT = 2, 12, 18  # pixels at the sides of a button; a check box, and where its text begins
 POP_UP_EDGE = 15
@@ -22,12 +23,13 @@ class DialogDrawing:
     """A drawing of a window with items: the SVG, the texts that may not fit, and sentences about what isn't seen.
 
     `window` is None for items without a window, which get a plain box as large as they are. `find` gives the bytes of a
-    resource by its type and id. `default` is the number of the item that is drawn as the default button.
+    resource by its type and id. `default` is the number of the item that is drawn as the default button. `lines` counts the
+    lines of text that are drawn.
     """
 
     def __init__(self, window, items, label, find, embedded, default=1):
         self.window, self.items, self.find, self.embedded, self.default = window, items, find, embedded, default
-        self.over, self.notes = [], []
+        self.over, self.notes, self.lines, self.lines_too_many = [], [], 0, 0
         self.contents = self.bounds_of_contents()
         self.svg = self.drawn(label)
 
@@ -61,7 +63,8 @@ class DialogDrawing:
                          transform="translate(%d %d)" % (inside.left, inside.top))
         items = svg.clipped(inside.left, inside.top, inside.width, inside.height, "".join(self.seen_items()))
         left, top, width, height = frames.bounds(look, inside.width, inside.height)
-        return svg.drawing(left + inside.left - AROUND, top + inside.top - AROUND, width + 2 * AROUND, height + 2 * AROUND, label, border + items)
+        return svg.drawing(left + inside.left - AROUND, top + inside.top - AROUND, width + 2 * AROUND, height + 2 * AROUND, label,
+                           border + items)
 
     def seen_items(self):
         """The drawings of the items that are seen; the others are told."""
@@ -76,9 +79,11 @@ class DialogDrawing:
                 reaching.append(item.number)
             parts.append(self.item_drawing(item))
         if outside:
-            self.notes.append("Items that aren't seen, for they are outside or have no area: %s." % numbers(outside))
+            self.notes.append("Items that aren't seen, because they are outside the window or have no area: %s." % numbers(outside))
         if reaching:
             self.notes.append("Items that reach out of the window: %s." % numbers(reaching))
+        if self.lines_too_many:
+            self.notes.append("Lines of text that aren't drawn, because there are more than %d: %d." % (MOST_LINES, self.lines_too_many))
         return parts
 
     def item_drawing(self, item):
@@ -131,8 +136,8 @@ class DialogDrawing:
                                  rx=10, class_="line", stroke_width=3))
         parts.append(self.fits(place, lines, place.width - 2 * BUTTON_EDGE, item))
         top = place.top + (place.height - LINE * len(lines)) // 2
-        for number, each in enumerate(lines):
-            parts.append(svg.text(place.left + (place.width - width_of(each)) // 2, top + LINE * number + ASCENT, each))
+        for line_top, each in self.seen_lines(top, lines):
+            parts.append(svg.text(place.left + (place.width - width_of(each)) // 2, line_top + ASCENT, each))
         return "".join(parts)
 
     def box_with_text(self, place, letters, item, is_round, is_on):
@@ -144,7 +149,8 @@ class DialogDrawing:
         if is_on and is_round:
             parts.append(svg.tag("circle", cx=place.left + 2 + BOX / 2, cy=top + BOX / 2, r=3, class_="black"))
         elif is_on:
-            parts += [svg.line(place.left + 3, top + 1, place.left + BOX, top + BOX - 2), svg.line(place.left + BOX, top + 1, place.left + 3, top + BOX - 2)]
+            parts.append(svg.line(place.left + 3, top + 1, place.left + BOX, top + BOX - 2))
+            parts.append(svg.line(place.left + BOX, top + 1, place.left + 3, top + BOX - 2))
         top = place.top + (place.height - LINE * len(lines)) // 2
         return "".join(parts) + self.lines_drawing(place.left + BOX_TEXT, top, lines)
 
@@ -161,9 +167,20 @@ class DialogDrawing:
         return frame + mark + self.lines_drawing(place.left, place.top, lines)
 
     def lines_drawing(self, left, top, lines):
-        """Lines one below the other, as far as they are seen."""
-        seen = lines[:max(0, (self.contents.bottom - top + LINE - 1) // LINE)]
-        return "".join([svg.text(left, top + LINE * number + ASCENT, each) for number, each in enumerate(seen)])
+        """Lines one below the other."""
+        return "".join([svg.text(left, line_top + ASCENT, each) for line_top, each in self.seen_lines(top, lines)])
+
+    def seen_lines(self, top, lines):
+        """The top and the text of each line that is seen, as long as there aren't too many."""
+        for number, each in enumerate(lines):
+            line_top = top + LINE * number
+            if not each or not self.contents.top - LINE < line_top < self.contents.bottom:
+                continue
+            if self.lines == MOST_LINES:
+                self.lines_too_many += 1
+                continue
+            self.lines += 1
+            yield line_top, each
 
     def picture(self, item, kinds):
         """The picture that the item names, scaled into its rectangle, or a box with the id."""

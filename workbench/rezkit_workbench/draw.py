@@ -4,7 +4,7 @@
 
 The page has no script and no address of another page. A file that isn't read, or whose fork breaks a rule, is told and is
 named on the page; a resource that is damaged is drawn as far as it goes. Of a file 10,000 items are drawn at most, where a
-drawing itself counts as two; what isn't drawn is told.
+drawing itself counts as two, and four more lines of text than items as one; what isn't drawn is told.
 """
 import os
 
@@ -39,8 +39,8 @@ class FileDrawing:
         self.draw_windows()
         self.draw_menus()
         if self.undrawn:
-            self.told.append("the page has drawings enough: %d more resources aren't drawn" % self.undrawn)
-            self.parts.append(drawn_page.paragraph("The page has drawings enough of this file: %d more resources aren't drawn." % self.undrawn))
+            self.told.append("the page has enough drawings: %d more resources aren't drawn" % self.undrawn)
+            self.parts.append(drawn_page.paragraph("The page has enough drawings of this file: %d more resources aren't drawn." % self.undrawn))
         if not self.parts:
             self.parts.append(drawn_page.paragraph("The file has no dialogs, alerts and menus."))
 
@@ -67,7 +67,7 @@ class FileDrawing:
         self.parts.append(drawn_page.section(heading(one), *parts))
 
     def add_drawing(self, one, cost, *parts):
-        """Adds a drawing, which costs as many as its items."""
+        """Adds a drawing; `cost` are its items, or what counts as such."""
         self.drawings, self.left = self.drawings + 1, self.left - cost - COST
         self.add(one, *parts)
 
@@ -100,7 +100,8 @@ class FileDrawing:
         default = window.stages[0].default if window is not None and window.stages else 1
         drawing = DialogDrawing(window, items, heading(one), self.find, self.embedded, default)
         self.over += len(drawing.over)
-        self.add_drawing(one, len(items), drawn_page.paragraph(window_facts(window)), drawn_page.listed(stage_facts(window)),
+        cost = len(items) + max(0, drawing.lines - len(items)) // 4
+        self.add_drawing(one, cost, drawn_page.paragraph(window_facts(window)), drawn_page.listed(stage_facts(window)),
                          drawn_page.warning(drawing.over), drawn_page.listed(notes + drawing.notes), drawn_page.figure(drawing.svg),
                          drawn_page.table("Items: %d" % len(items), ITEM_HEAD, [item_cells(item) for item in items]))
 

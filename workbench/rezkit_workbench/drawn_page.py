@@ -4,7 +4,8 @@ from .letters import escaped
 
 STYLE = """:root{color-scheme:light dark;--ground:#fff;--ink:#1a1a1a;--soft:#555;--line:#ccc;--warning:#fff3e0;--warning-ink:#7a1500;--link:#0645ad}
 @media (prefers-color-scheme:dark){:root{--ground:#16181c;--ink:#e6e6e6;--soft:#aaa;--line:#444;--warning:#3a2412;--warning-ink:#ffcba4;--link:#8ab4f8}}
-body{margin:0 auto;padding:1rem;max-width:60rem;background:var(--ground);color:var(--ink);font:1rem/1.45 system-ui,sans-serif;overflow-wrap:anywhere}
+body{margin:0 auto;padding:1rem;max-width:60rem;background:var(--ground);color:var(--ink);font:1rem/1.45 system-ui,sans-serif}
+body{overflow-wrap:anywhere}
 a{color:var(--link)}
 h1{font-size:1.6rem}h2{font-size:1.3rem;border-top:2px solid var(--line);padding-top:1rem;margin-top:2.5rem}h3{font-size:1.05rem;margin:2rem 0 .3rem}
 p,ul{margin:.3rem 0}
@@ -16,11 +17,11 @@ summary{cursor:pointer}
 table{border-collapse:collapse;font-size:.85rem;overflow-wrap:normal}
 th,td{border:1px solid var(--line);padding:.15rem .5rem;text-align:left;vertical-align:top;white-space:pre-wrap}
 """ + svg.STYLE
-ABOUT = """The drawings show what the resources say. A text is as wide as a table of the system font, Chicago of 12 points, says, with
-16 pixels a line; so what is marked as too long is an estimate. A box with a dashed line is what the program draws, or what isn't
-in the file. In a dialog, item 1 is drawn as the default button if it is a button, which is the custom; a program can choose
-another. ^0 to ^3 stand for texts that the program puts in. An item of a dialog that is disabled looks like the others: the
-program isn't told of clicks in it."""
+ABOUT = """The drawings show what the resources say. Each text is as wide as it is in Chicago, the system font, at 12 points; a table
+has the widths. So it is an estimate that a text may not fit. A box with a dashed line stands for what the program draws, and for
+what the file lacks. Item 1 of a dialog is drawn as the default button if it is a button. That is the custom, and a program can
+choose another item. ^0 to ^3 stand for texts that the program puts in. A disabled item of a dialog looks like the others: it
+is disabled only in that the program isn't told of clicks in it."""
 PAGE = """<!DOCTYPE html>
 <html lang="en">
 <head>

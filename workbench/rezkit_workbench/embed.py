@@ -10,7 +10,7 @@ FRAMES = {b"PICT": 2, b"cicn": 6}  # where a rectangle states how large the pict
 MOST_PIXELS = 16777216  # of all pictures of a fork
 MOST_READ = 64 << 20  # bytes of the resources that are decoded, of a fork
 MOST_BYTES = 16 << 20  # of all addresses of a fork
-ENOUGH = "the page has pictures enough"
+ENOUGH = "the page has enough pictures"
 
 
 class Embedded:

@@ -83,6 +83,17 @@ def test_an_editable_text_has_a_frame_of_three_pixels():
     assert only(made) == ("1: editable text, name", [("rect", "box", 70.5, 57.5, 219, 21), ("text", 73, 72, 36, "name")])
 
 
+def test_places_of_the_program_stay_as_they_are():
+    made = drawing(ditl(item(STATIC, (10, 20, 42, 200), b"Save ^0 as ^1^2^3?")))
+    assert [part[-1] for part in only(made)[1]] == ["Save ^0 as ^1^2^3?"]
+
+
+def test_lines_below_the_window_are_not_drawn():
+    """The window is 200 high: of a text at 150 the lines at 150, 166, 182 and 198 are seen."""
+    made = drawing(ditl(item(STATIC, (150, 20, 600, 99), b"\r".join(b"%d" % each for each in range(20)))))
+    assert [part[-1] for part in only(made)[1]] == ["0", "1", "2", "3"] and made.over == []
+
+
 def test_a_disabled_item_looks_the_same():
     for kind, data in ((BUTTON, b"Hi"), (CHECK, b"Hi"), (RADIO, b"Hi"), (STATIC, b"Hi"), (EDIT, b"Hi"), (USER, b""), (ICON, b"\0\1"), (PICTURE, b"\0\1")):
         one, other = (only(drawing(ditl(item(kind, (10, 20, 30, 80), data, disabled)))) for disabled in (False, True))
@@ -137,7 +148,7 @@ def test_icons_and_pictures_that_are_not_shown(monkeypatch):
         [("rect", "dashed", 0.5, 40.5, 31, 31), ("text", 3, 53, 15, "-1")], [("rect", "dashed", 40.5, 40.5, 49, 31)],
         [("rect", "dashed", 0.5, 80.5, 49, 18), ("text", 3, 93, 24, "130")]]
     assert made.notes == ["Item 1: the icon 128 isn't shown: it is broken at byte 7.",
-                          "Item 2: the picture 129 isn't shown: the page has pictures enough.", "Item 3: the icon -1 isn't in the file.",
+                          "Item 2: the picture 129 isn't shown: the page has enough pictures.", "Item 3: the icon -1 isn't in the file.",
                           "Item 5: the picture 130 isn't shown: 2 bytes are wanted and 1 are there at byte 4."]
 
 
@@ -146,7 +157,7 @@ def test_pictures_of_a_page_are_limited(monkeypatch):
     monkeypatch.setattr(embed, "MOST_BYTES", 9000)  # an address has 4022
     made = drawing(ditl(*[item(ICON, (0, 0, 32, 32), b"\0\x80")] * 3), found={(b"ICON", 128): b"icon"})
     assert [parts[0].tag for _, parts in groups(made)] == ["image", "image", "rect"]
-    assert made.notes == ["Item 3: the icon 128 isn't shown: the page has pictures enough."]
+    assert made.notes == ["Item 3: the icon 128 isn't shown: the page has enough pictures."]
 
 
 # Controls.
@@ -226,7 +237,7 @@ def test_a_long_text_is_told_by_its_beginning():
 
 def test_widths():
     assert chicago.width_of("") == 0 and chicago.width_of("iW m") == 4 + 12 + 4 + 12
-    assert chicago.width_of("\u00e9\u00fc\u00c5\u00f1") == 32 and chicago.width_of("\u2318\u0394") == 14
+    assert chicago.width_of("\u00e9\u00fc\u00c5\u00f1") == 32 and chicago.width_of("\u2318\u0394\u2026") == 11 + 7 + 12
     assert {letter for letter in map(chr, range(32, 127)) if letter not in chicago.WIDTHS} == set()
     assert chicago.wrapped("aa aa  aa", 36) == ["aa aa", "aa"]      # a letter has 8 pixels, a space 4
     assert chicago.wrapped("aa aa  aa", 35) == ["aa", "aa", "aa"]
@@ -291,7 +302,7 @@ def test_items_outside_the_window():
     made = drawing(ditl(item(STATIC, (200, 10, 220, 90), b"below"), item(STATIC, (10, -90, 26, 0), b"left"), item(BUTTON, (10, 290, 30, 320), b"OK"),
                         item(STATIC, (10, 10, 10, 90), b"flat"), item(STATIC, (0, 0, 16, 60), b"inside"), item(USER, (-1, -1, 300, 400))))
     assert [title for title, _ in groups(made)] == ["3: button, OK", "5: static text, inside", "6: user item"]
-    assert made.notes == ["Items that aren't seen, for they are outside or have no area: 1 to 2, 4.", "Items that reach out of the window: 3."]
+    assert made.notes == ["Items that aren't seen, because they are outside the window or have no area: 1 to 2, 4.", "Items that reach out of the window: 3."]
     assert len(made.items) == 6 and numbers([1, 2, 3, 5, 7, 8]) == "1 to 3, 5, 7 to 8"
 
 
@@ -386,7 +397,15 @@ def test_any_letters_make_xml():
 
 
 def test_2000_items_take_little_time():
+    """The window is 200 high, and so 13 lines of an item are seen."""
     begin = os.times().user
     made = drawing(ditl(*(item(STATIC, (0, 0, 100, 100), b"a few words that are wrapped " * 8) for _ in range(2000))))
-    assert len(groups(made)) == 2000 and len(made.over) == 2000
+    assert len(groups(made)) == 2000 and len(made.over) == 2000 and made.svg.count("<text ") == made.lines == 20000
+    assert made.notes == ["Lines of text that aren't drawn, because there are more than 20000: 6000."]
     assert os.times().user - begin < SECONDS / 2
+
+
+def test_lines_of_a_button_that_are_seen():
+    """Of 61 lines around the middle of a window that is 200 high, those from 30 - 6 to 30 + 6 are seen, and one is cut at each end."""
+    made = drawing(ditl(item(BUTTON, (92, 20, 108, 99), b"\r".join(b"%d" % each for each in range(61)))), default=0)
+    assert [part[-1] for part in only(made)[1] if part[0] == "text"] == [str(each) for each in range(24, 37)]

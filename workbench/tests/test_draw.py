@@ -1,19 +1,24 @@
 """rezkit-draw: its page, its messages, its statuses, and what it never does."""
+import base64
 import collections
+import contextlib
 import html.parser
+import io
 import os
 import re
+import struct
+import unittest.mock
 from xml.etree import ElementTree
 
-import many_dialogs
 import pytest
-from dialog_makers import alrt, cntl, ditl, dlog, item, mbar, menu
+from dialog_makers import alrt, cntl, ditl, dlog, forks, item, mbar, menu
 from fork import fork_of
 from forms import double, hqx, macbin, single
 from helpers import MEMORY, SECONDS, WHOLE, mutants, names_in, read, rezkit, run, write
-from rezkit_workbench import draw
+from PIL import Image
+from rezkit_workbench import command, draw
 
-BUTTON, STATIC, ICON = 4, 8, 32
+BUTTON, STATIC, ICON, PICTURE = 4, 8, 32, 64
 ITEMS = ditl(item(BUTTON, (70, 230, 90, 290), b"OK"), item(STATIC, (10, 10, 26, 60), b"Save as text", disabled=True))
 FORK = fork_of([
     (b"MENU", 129, b"", 0, menu(129, b"File", (b"Open", 0, ord("O"), 0, 0), b"-", (b"Font", 0, 0x1B, 5, 0))),
@@ -65,11 +70,11 @@ class Page(html.parser.HTMLParser):
 
 
 def drawn(tmp_path, data, *words, name="fork"):
-    """The status, the page or None, and the messages."""
+    """The status, the page or None, and the messages of the program, which is run in this process."""
     page = tmp_path / "page.html"
-    status, output, messages = run("rezkit-draw", write(tmp_path, name, data), "-o", str(page), *words)
-    assert output == b""
-    return status, read(str(page)) if page.exists() else None, messages
+    with contextlib.redirect_stderr(io.TextIOWrapper(io.BytesIO(), "utf-8")) as messages, unittest.mock.patch.object(command, "drop_out"):
+        status = command.ended("rezkit-draw", draw.body, [write(tmp_path, name, data), "-o", str(page), *words])
+    return status, read(str(page)) if page.exists() else None, messages.buffer.getvalue().decode("utf-8")
 
 
 def drawings(data):
@@ -113,6 +118,27 @@ def test_the_drawings_of_the_page(tmp_path):
     assert rings == [1, 0, 1]  # the default of the alert's first stage is item 2, which is no button
     assert [each.text for each in by_name["MENU 129"].iter("text")] == ["File", "Open", "\u2318O", "Font"]
     assert [each.text for each in by_name["MBAR 128"].iter("text")] == ["File"]
+
+
+def pixels(address):
+    """The rows of a picture's pixels: `#` is black, `.` is white or nothing."""
+    front = "data:image/png;base64,"
+    assert address.startswith(front)
+    picture = Image.open(io.BytesIO(base64.b64decode(address[len(front):]))).convert("RGBA")
+    return ["".join("#" if picture.getpixel((x, y)) == (0, 0, 0, 255) else "." for x in range(picture.width)) for y in range(picture.height)]
+
+
+def test_an_icon_and_a_picture_are_in_the_page(tmp_path):
+    """The icon has a black pixel more in each row; the picture is a black square in a frame of 4 by 4."""
+    icon = b"".join(struct.pack(">I", (0xFFFFFFFF << (31 - y)) & 0xFFFFFFFF) for y in range(32))
+    picture = bytes(2) + struct.pack(">4h", 0, 0, 4, 4) + b"\x11\x01" + b"\x31" + struct.pack(">4h", 1, 1, 3, 3) + b"\xFF"
+    items = ditl(item(ICON, (10, 10, 42, 42), b"\0\x80"), item(PICTURE, (10, 60, 30, 90), b"\0\x81"))
+    _, data, messages = drawn(tmp_path, fork_of([(b"DITL", 1, b"", 0, items), (b"ICON", 128, b"", 0, icon), (b"PICT", 129, b"", 0, picture)]))
+    first, second = [each.attrib for each in drawings(data)[0][1].iter("image")]
+    assert pixels(first["href"]) == ["#" * (y + 1) + "." * (31 - y) for y in range(32)]
+    assert pixels(second["href"]) == ["....", ".##.", ".##.", "...."]
+    assert [second[name] for name in ("x", "y", "width", "height")] == ["60", "10", "30", "20"]
+    assert messages == "rezkit-draw: drawings: 1, texts that may not fit: 0\n"
 
 
 def test_the_page_stands_alone(tmp_path):
@@ -250,24 +276,27 @@ def test_the_items_of_a_page_are_limited(tmp_path):
     items = ditl(*[item(STATIC, (0, 0, 16, 60), b"text")] * 5000)
     data = fork_of([(b"DITL", 1, b"", 0, items)] + [(b"DLOG", each, b"", 0, dlog((0, 0, 99, 300), 2, 1)) for each in range(8)])
     status, page, messages = drawn(tmp_path, data)
-    assert status == 0 and messages == ("rezkit-draw: %s/fork: the page has drawings enough: 5 more resources aren't drawn\n"
+    assert status == 0 and messages == ("rezkit-draw: %s/fork: the page has enough drawings: 5 more resources aren't drawn\n"
                                         "rezkit-draw: drawings: 3, texts that may not fit: 0\n" % tmp_path)
     page = Page(page)  # 10000 less 4096 and 2, less 4096 and 2, is 1804
     assert page.of("li") == ["DITL 1 has 5000 items; %d of them are drawn." % most for most in (4096, 4096, 1804)]
-    assert page.of("p")[-1] == "The page has drawings enough of this file: 5 more resources aren't drawn."
+    assert page.of("p")[-1] == "The page has enough drawings of this file: 5 more resources aren't drawn."
 
 
 def test_many_resources_take_little_time_and_memory(tmp_path):
-    items = ditl(*[item(STATIC, (0, 0, 16, 60), b"words that are wrapped " * 10)] * 4000)
-    control = (b"CNTL", 1, b"", 0, cntl(1008, b"x" * 255, maximum=32767))
-    data = fork_of([(b"DITL", 1, b"", 0, items), control, (b"DITL", 2, b"", 0, ditl(*[item(7, (0, 0, 16, 60), b"\0\1")] * 4000))]
-                   + [(b"DLOG", each, b"", 0, dlog((0, 0, 99, 300), 2, 1 + each % 2)) for each in range(2000)]
-                   + [(b"MBAR", each, b"", 0, mbar(*[each] * 2000)) for each in range(100)]
-                   + [(b"MENU", each, b"", 0, menu(each, b"M", *[(b"x", 0, 0x1B, each % 256, 0)] * 10)) for each in range(1000)])
+    lines = ditl(*[item(STATIC, (0, 0, 4000, 60), b"a\r" * 127)] * 4000)
+    words = ditl(*[item(STATIC, (0, 0, 16, 60), b"words that are wrapped " * 10)] * 1000)
+    controls = ditl(*[item(7, (0, 0, 16, 60), b"\0\1")] * 1000)
+    data = fork_of([(b"DITL", ident, b"", 0, items) for ident, items in enumerate((words, controls, lines))]
+                   + [(b"CNTL", 1, b"", 0, cntl(1008, b"x" * 255, maximum=32767))]
+                   + [(b"DLOG", each, b"", 0, dlog((0, 0, 4000, 300), 2, min(each, 2))) for each in range(500)]
+                   + [(b"MBAR", each, b"", 0, mbar(*[each] * 2000)) for each in range(50)]
+                   + [(b"MENU", each, b"", 0, menu(each, b"M", *[(b"x", 0, 0x1B, each % 256, 0)] * 10)) for each in range(200)])
     path = write(tmp_path, "fork", data)
     status, _, messages = run("rezkit-draw", path, "-o", str(tmp_path / "page.html"), memory=MEMORY, cpu=SECONDS)
-    assert status == 0, messages
-    assert "more resources aren't drawn" in messages and b"<h3>DLOG 0</h3>" in read(str(tmp_path / "page.html"))
+    assert status == 0 and "more resources aren't drawn" in messages
+    page = read(str(tmp_path / "page.html"))
+    assert b"<h3>DLOG 0</h3>" in page and page.count(b"<text ") < 60000
 
 
 def test_many_references_to_the_same_bytes(tmp_path):
@@ -290,9 +319,8 @@ def test_100_mutated_files_in_this_process(tmp_path, capsysbinary):
 
 
 def test_100_whole_forks_with_mutated_resources(tmp_path, capsysbinary):
-    """The whole number is in many_dialogs.py."""
     drawings_of = collections.Counter()
-    for data in many_dialogs.forks(13, 100):
+    for data in forks(13, 100):
         assert draw.body([write(tmp_path, "f", data), "-o", str(tmp_path / "page.html"), "-f"]) == 0
         drawings_of.update(name.split()[0] for name, _ in drawings(read(str(tmp_path / "page.html"))))
     assert names_in(tmp_path) == ["f", "page.html"]

@@ -62,15 +62,15 @@ def test_the_places_of_a_menu():
     assert [short(part) for part in tree.findall("rect")] == [("rect", "bar", 0, 0, 47, 20), ("rect", "box", 0.5, 19.5, 119, 49)]
     assert rows(tree) == [
         ("title File", [("text", None, 12, 14, 23, "File")]),  # 7 4 4 8
-        ("1: Open", [("text", None, 14, 32, 32, "Open"), ("text", None, 94, 32, 15, "\u2318O")]),
+        ("1: Open", [("text", None, 14, 32, 32, "Open"), ("text", None, 94, 32, 19, "\u2318O")]),
         ("2: separator", [("path", "separator", "M1.5 44.5L118.5 44.5")]),
-        ("3: Close, disabled", [("text", "dim", 2, 64, 7, "\u2713"), ("text", "dim", 14, 64, 35, "Close")])]  # 8 4 8 7 8
+        ("3: Close, disabled", [("text", "dim", 2, 64, 9, "\u2713"), ("text", "dim", 14, 64, 35, "Close")])]  # 8 4 8 7 8
 
 
 def test_a_submenu_and_marks():
     tree = drawing(menu(129, b"A", (b"Font", 0, 0x1B, 5, 0), (b"B", 0, 0, DIAMOND, 0), (b"C", 0, 0, ord("*"), 0)))
     assert rows(tree)[1] == ("1: Font, submenu MENU 5", [("text", None, 14, 32, 29, "Font"), ("path", "black", "M106 23l6 5l-6 5z")])
-    assert rows(tree)[2][1][0] == ("text", None, 2, 48, 7, "\u25C6") and rows(tree)[3][1][0] == ("text", None, 2, 64, 7, "*")
+    assert rows(tree)[2][1][0] == ("text", None, 2, 48, 9, "\u25C6") and rows(tree)[3][1][0] == ("text", None, 2, 64, 7, "*")
 
 
 def test_styles():
