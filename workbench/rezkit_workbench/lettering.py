@@ -5,8 +5,7 @@ Bold and underlined letters are shown, the other styles are plain.
 """
 import functools
 
-from PIL import Image, ImageChops, ImageDraw, ImageFont
-
+from .pixels import Image, ImageChops, ImageDraw, ImageFont
 from .regions import Rect
 from .roman import text_of
 

@@ -7,9 +7,8 @@ Source: Inside Macintosh: Imaging With QuickDraw, chapter 4 'Color QuickDraw' (p
 """
 import collections
 
-from PIL import Image, ImageChops
-
 from .errors import Damaged
+from .pixels import Image, ImageChops
 from .reading import check_pixels
 from .regions import read_rect
 

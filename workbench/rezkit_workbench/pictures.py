@@ -14,6 +14,7 @@ import io
 
 from .errors import Damaged, TooLarge
 from .opcodes import END_OF_PICTURE, HEADER, OPCODES, skip_reserved
+from .pixels import pillow
 from .quickdraw import ALL_BLACK, COPY, GRAY_TEXT, HIGHLIGHT, OR, PLAIN, XOR, Raster, State, Work, known_mode
 from .reading import Reader, Shown, check_pixels
 from .regions import read_rect, read_region, rectangle
@@ -129,6 +130,7 @@ def read_frame(reader):
 
 def decode(data, beside):
     """A picture as PNG. Refused is one without a size, and one that breaks off before anything is drawn."""
+    pillow()
     reader = Reader(data)
     version, frame = read_frame(reader)
     if frame.is_empty():

@@ -12,9 +12,9 @@ from .palettes import BLACK, STANDARD, colors_of, read_color_table
 from .reading import MOST_PIXELS, Reader, Shown, check_pixels
 
 try:
-    from PIL import Image
-except ImportError:
-    Image = None
+    from PIL import Image, ImageChops, ImageDraw, ImageFont
+except ImportError:  # which `pillow` tells
+    Image = ImageChops = ImageDraw = ImageFont = None
 
 DEPTHS = (1, 2, 4, 8)  # bits of a pixel that is an index
 ROW_BYTES = 0x3FFF  # the two bits above them are flags

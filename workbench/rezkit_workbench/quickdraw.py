@@ -7,9 +7,8 @@ import collections
 import dataclasses
 import functools
 
-from PIL import Image, ImageChops
-
 from .errors import TooLarge
+from .pixels import Image, ImageChops
 from .regions import Polygon, Rect, Shape, in_both, rectangle
 
 BLACK, WHITE = (0, 0, 0), (255, 255, 255)

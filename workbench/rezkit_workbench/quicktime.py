@@ -10,9 +10,8 @@ import collections
 import io
 import re
 
-from PIL import Image
-
 from .errors import Damaged
+from .pixels import Image
 from .reading import Reader, check_pixels
 from .regions import Rect, read_rect, read_region
 
