@@ -34,8 +34,7 @@ WALKS = (
     ("docs/ARCHIVING.md",),
     ("docs/LOOKING.md",),
 )
-MODULES = (("workbench/rezkit-po", "polib"), ("workbench/rezkit-look", "PIL"), ("workbench/rezkit-icons", "PIL"),
-           ("workbench/rezkit-draw", "PIL"))
+MODULES = (("workbench/rezkit-po", "polib"), ("workbench/rezkit-look", "PIL"), ("workbench/rezkit-icons", "PIL"))
 PYTHON = "/usr/bin/python3"
 TOOLS = ("cpp", "git", "make", "msgmerge", "parallel", "sqlite3", "unar", "xxd")
 # Files that the examples of the man page begin with, by a command that makes them, and what an example prints.

@@ -40,6 +40,7 @@ h2 { margin: 2.5rem 0 .5rem; padding-top: .75rem; border-top: 1px solid var(--li
 h3 { margin: 1rem 0 .5rem; font-size: 1.05rem; }
 .file { display: flex; flex-wrap: wrap; gap: 0 3rem; }
 .file > h2, .file > p { flex: 0 0 100%; }
+.file > h2 { margin-top: 1.5rem; }
 .file > p { margin: 0 0 .5rem; }
 .file > section { max-width: 100%; }
 h3 span, .faint, figcaption { color: var(--faint); font-weight: normal; }
