@@ -24,9 +24,17 @@ TABLES = [0xC4, 0xDB, 0xDD]  # Huffman tables, quantization tables, the interval
 MARKER = re.compile(rb"\xFF+([^\xFF])", re.S)
 
 
-class Compressed(collections.namedtuple("Compressed", "kind source target mode mask has_matte data")):
+class Compressed(collections.namedtuple("Compressed", "kind source target mode mask has_matte place data")):
     """A compressed picture: its four letters, the rectangle of it that is drawn, where, the mode, the shape that it is clipped
-    to or None, whether there is a matte, and its bytes. `target` is None if it is turned or slanted."""
+    to or None, whether there is a matte, the place of its bytes, and these. `target` is None if it is turned or slanted."""
+
+
+def at_place(place, function, data, *more):
+    """What a function gives of bytes that stand at a place; where they are damaged is told from there."""
+    try:
+        return function(data, *more)
+    except Damaged as fault:
+        raise Damaged(place + fault.place, fault.said) from None
 
 
 def read_compressed(data, work, origin):
@@ -40,7 +48,8 @@ def read_compressed(data, work, origin):
     if matte_length:
         reader.take(max(0, reader.long() - 4))
         reader.take(matte_length)
-    mask = read_region(Reader(reader.take(mask_length)), work, origin) if mask_length else None
+    place = reader.place
+    mask = at_place(place, mask_of, reader.take(mask_length), work, origin) if mask_length else None
     place = reader.place
     length, kind = reader.long(), reader.take(4)
     if length < DESCRIPTION:
@@ -48,8 +57,13 @@ def read_compressed(data, work, origin):
     length_of_data = int.from_bytes(reader.take(length - 8)[36:40], "big")
     if length_of_data > reader.left():
         raise Damaged(reader.place, "a compressed picture has %d bytes, and %d are there" % (length_of_data, reader.left()))
-    return Compressed(kind, source, target_of(matrix, source, origin), mode, mask, matte_length > 0,
+    return Compressed(kind, source, target_of(matrix, source, origin), mode, mask, matte_length > 0, reader.place,
                       reader.take(length_of_data or reader.left()))
+
+
+def mask_of(data, work, origin):
+    """The region to which a picture is clipped."""
+    return read_region(Reader(data), work, origin)
 
 
 def target_of(matrix, source, origin):
