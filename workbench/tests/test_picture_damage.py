@@ -5,9 +5,8 @@ import time
 import pytest
 from picture_builder import (JPEG, bitmap, color, direct, extended, fore, op, picture, pixmap, polygon, quicktime, region, rows_of,
                              table, words)
-from rezkit_workbench import pictures, quickdraw, quicktime as decoder, regions
+from rezkit_workbench import pictures, quickdraw, quicktime as decoder
 from rezkit_workbench.errors import Damaged, TooLarge
-from rezkit_workbench.reading import Reader
 
 FOUR = (0, 0, 4, 4)
 FULL = words(*FOUR)
@@ -177,6 +176,7 @@ def test_sizes_of_a_jpeg_that_lie():
         assert refusal(JPEG[:frame + 5] + size + JPEG[frame + 9:]).endswith(": a JPEG has no size")
     assert refusal(JPEG[:frame] + JPEG[frame + 13:]).endswith(": a JPEG has no size")
     assert refusal(JPEG[:frame] + b"\xFF\xD9").endswith(": a JPEG has no picture")
+    assert refusal(JPEG[:2] + b"\xFF\xDB\0\1" + JPEG[2:]) == "214: a segment of a JPEG has 1 bytes"
     assert refusal(JPEG, mask=words(4)).endswith("124: a region has 4 bytes")
     assert refusal(JPEG, length=1000).endswith(": a compressed picture has 1000 bytes, and %d are there" % len(JPEG))
     assert refusal(JPEG[:frame + 4] + b"\x0C" + JPEG[frame + 5:]).startswith("210: a JPEG can't be decoded (")
@@ -188,11 +188,20 @@ def test_words_of_a_jpeg_that_lie():
             ended(picture(DOT, op("CompressedQuickTime", quicktime(JPEG[:place] + words(lie) + JPEG[place + 2:], WIDE)), frame=FOUR))
 
 
-def test_many_scans_of_many_pixels_are_more_work_than_is_done():
+def test_many_scans_are_more_work_than_is_done_and_many_pixels_in_scans_are_refused():
     frame, scan = JPEG.index(b"\xFF\xC0"), JPEG.index(b"\xFF\xDA")
-    large = JPEG[:frame + 5] + words(4096, 4096) + JPEG[frame + 9:scan] + JPEG[scan:-2] * 100
+
+    def large(width, height, marker=b"\xC0", scans=1, components=b"\1"):
+        return (JPEG[:frame + 1] + marker + JPEG[frame + 2:frame + 5] + words(height, width) + JPEG[frame + 9:scan]
+                + (JPEG[scan:scan + 4] + components + JPEG[scan + 5:-2]) * scans + JPEG[-2:])
+
+    for data in (large(4096, 4096, b"\xC2"), large(4096, 4096, scans=2), large(4096, 4096, components=b"\2")):
+        with pytest.raises(TooLarge, match="^a progressive JPEG has 16777216 pixels, more than the 8388608 that are decoded$"):
+            decoder.needed_segments(data, quickdraw.Work())
+    decoder.needed_segments(large(4096, 4096), quickdraw.Work())
+    decoder.needed_segments(large(4096, 2048, b"\xC2", 10), quickdraw.Work())
     with pytest.raises(TooLarge, match="more work than is done"):
-        decoder.jpeg_picture(large, quickdraw.Work())
+        decoder.needed_segments(large(4096, 2048, b"\xC2", 100), quickdraw.Work())
 
 
 # Work. A tenth of what is else done is done here, so that the tests take little time.
