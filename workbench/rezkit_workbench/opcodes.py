@@ -225,14 +225,11 @@ def compressed_picture(play):
     """Draws a JPEG that QuickTime has put in; what else it may be is counted."""
     place = play.reader.place + 4
     data = play.reader.take(play.reader.long())
-    try:
-        found = quicktime.read_compressed(data, play.work, play.state.origin)
-        if found.kind != b"jpeg" or found.target is None:
-            play.missed[0x8200] += 1
-            return
-        image = quicktime.jpeg_picture(found.data, play.work)
-    except Damaged as fault:
-        raise Damaged(place + fault.place, fault.said) from None
+    found = quicktime.at_place(place, quicktime.read_compressed, data, play.work, play.state.origin)
+    if found.kind != b"jpeg" or found.target is None:
+        play.missed[0x8200] += 1
+        return
+    image = quicktime.at_place(place + found.place, quicktime.jpeg_picture, found.data, play.work)
     if found.has_matte:
         play.remarks["the matte of a QuickTime picture isn't drawn"] += 1
     clip = both(play.state.clip, found.mask) if found.mask else play.state.clip

@@ -53,11 +53,12 @@ def read_rect(reader):
 class Shape:
     """What a drawing covers. `around` is a rectangle beyond which it covers nothing, `columns` a function of a row.
 
-    `is_rectangle` says that it covers all that lies in the rectangle.
+    `is_rectangle` says that it covers all that lies in the rectangle. `changes` are, of a region, the rows that may cover
+    other columns than the row above them.
     """
 
-    def __init__(self, around, columns, is_rectangle=False):
-        self.around, self.columns, self.is_rectangle = around, columns, is_rectangle
+    def __init__(self, around, columns, is_rectangle=False, changes=()):
+        self.around, self.columns, self.is_rectangle, self.changes = around, columns, is_rectangle, changes
 
     def at(self, row):
         """The columns of a row at which it begins and ends to cover."""
@@ -250,7 +251,8 @@ def read_region(reader, work, origin=(0, 0)):
         return rectangle(around)
     numbers = struct.unpack(">%dh" % (length // 2 - 5), reader.take(length - 10))
     rows, lists = scan_lines(numbers, place + 10, work, origin)
-    return both(rectangle(around), Shape(around, lambda row: columns_from(rows, lists, row)))
+    sides = [around.left, around.right]
+    return Shape(around, lambda row: in_both(sides, columns_from(rows, lists, row)), changes=rows)
 
 
 def scan_lines(numbers, place, work, origin):
@@ -282,30 +284,28 @@ def columns_from(rows, lists, row):
     return lists[found - 1] if found else []
 
 
-def outline(shape, width, height, work):
-    """The border of a shape, as wide and high as the pen, within it."""
-    around = shape.around.inset(width, height)
+def outline(region, width, height, work):
+    """The border of a region, as wide and high as the pen, within it."""
+    around = region.around.inset(width, height)
 
     def inner(row):
         """What stays covered however far the pen reaches."""
         found = EVERYWHERE
-        for other in reach(row, height):
-            columns = shape.at(other)
-            work.spend(10 * len(columns) + 20)
+        for other in reach(region.changes, row, height):
+            columns = region.at(other)
+            work.spend(300 + 40 * (len(columns) + len(found)))
             found = in_both(found, narrowed(columns, width))
             if not found:
                 break
         return found
 
-    return hollow(shape, Shape(around, inner))
+    return hollow(region, Shape(around, inner))
 
 
-def reach(row, height):
-    """The rows that a pen reaches from a row, the farthest first."""
-    for distance in range(height, 0, -1):
-        yield row - distance
-        yield row + distance
-    yield row
+def reach(changes, row, height):
+    """The rows that a pen reaches from a row, but those that cover the same as the one above them."""
+    first, last = bisect.bisect_right(changes, row - height), bisect.bisect_right(changes, row + height)
+    return [row - height, row + height] + list(changes[first:last])
 
 
 def narrowed(columns, width):
