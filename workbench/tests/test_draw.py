@@ -169,7 +169,7 @@ def test_each_form(tmp_path, make):
 def test_a_file_without_any(tmp_path):
     status, data, messages = drawn(tmp_path, EMPTY)
     assert (status, messages) == (0, "rezkit-draw: drawings: 0, texts that may not fit: 0\n")
-    assert Page(data).of("p")[1:] == ["The file has no dialogs, alerts and menus."] and drawings(data) == []
+    assert Page(data).of("p")[1:] == ["The file has no dialogs, alerts or menus."] and drawings(data) == []
 
 
 def test_several_files_and_refused_ones(tmp_path):
