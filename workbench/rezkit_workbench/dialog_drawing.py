@@ -29,7 +29,7 @@ class DialogDrawing:
 
     def __init__(self, window, items, label, find, embedded, default=1):
         self.window, self.items, self.find, self.embedded, self.default = window, items, find, embedded, default
-        self.over, self.notes, self.lines, self.lines_too_many = [], [], 0, 0
+        self.over, self.notes, self.menus, self.lines, self.lines_too_many = [], [], {}, 0, 0
         self.contents = self.bounds_of_contents()
         self.svg = self.drawn(label)
 
@@ -230,35 +230,45 @@ class DialogDrawing:
         return mark + dashed(place) + self.lines_drawing(place.left, place.top, lines)
 
     def pop_up(self, item, control):
-        """A pop-up menu: its title, and a box with the first item of its menu."""
+        """A pop-up menu: its title, and a box with the first item of its menu. The widest item should fit into the box."""
         place, title = item.rectangle, lines_of(control.title)
         title_width = min(max(0, control.maximum), place.width) if title.strip() else 0
-        first = first_item(self.find(b"MENU", control.minimum)) or "MENU %d" % control.minimum
         left, width = place.left + title_width, place.width - title_width
+        room = max(0, width - 2 * POP_UP_EDGE)
+        first, widest = self.menu_items(control.minimum)
         parts = []
         if title.strip() and width_of(title) > title_width:
             parts.append(self.mark(Rectangle(place.top, place.left, place.bottom, left), item, title,
                                    "about %d pixels, with room for %d" % (width_of(title), title_width)))
         base = place.top + (place.height - LINE) // 2 + ASCENT
-        parts += [svg.text(place.left, base, title), svg.box(left, place.top, width, place.height, "box"),
-                  svg.clipped(left, place.top, max(0, width - POP_UP_EDGE), place.height, svg.text(left + POP_UP_EDGE, base, first)),
+        parts += [svg.text(place.left, base, title), svg.box(left, place.top, width, place.height, "box")]
+        if width_of(widest) > room:
+            parts.append(self.mark(Rectangle(place.top, left, place.bottom, place.right), item, widest,
+                                   "about %d pixels in MENU %d, with room for %d" % (width_of(widest), control.minimum, room)))
+        parts += [svg.clipped(left, place.top, max(0, width - POP_UP_EDGE), place.height, svg.text(left + POP_UP_EDGE, base, first)),
                   svg.tag("path", d="M%d %dh8l-4 5z" % (left + width - POP_UP_EDGE, place.top + place.height // 2 - 2), class_="black")]
         return "".join(parts)
+
+    def menu_items(self, ident):
+        """The text of the first item of a MENU, or its id where it can't be read, and the text of its widest item."""
+        if ident not in self.menus:
+            texts = menu_texts(self.find(b"MENU", ident))
+            self.menus[ident] = texts[0] if texts else "MENU %d" % ident, max(texts, key=width_of, default="")
+        return self.menus[ident]
+
+
+def menu_texts(data):
+    """The texts of the items of a MENU, none where it can't be read."""
+    try:
+        return [] if data is None else [lines_of(item.text) for item in menus.read_menu(data, MOST_IN_MENU).items]
+    except Damaged:
+        return []
 
 
 def begin_of(letters):
     """A text between its marks, on one line; of a long one the beginning."""
     line = letters.replace("\n", " ")
     return "\u201c%s\u201d" % (line if len(line) <= MOST_TOLD else line[:MOST_TOLD] + "\u2026")
-
-
-def first_item(data):
-    """The text of the first item of a MENU, or None."""
-    try:
-        found = None if data is None else menus.read_menu(data, MOST_IN_MENU)
-    except Damaged:
-        return None
-    return lines_of(found.items[0].text) if found and found.items else None
 
 
 def dashed(place, letters=""):

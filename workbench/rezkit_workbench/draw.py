@@ -3,8 +3,8 @@
     rezkit-draw FILE.. -o PAGE.html [-f]
 
 The page has no script and no address of another page. A file that isn't read, or whose fork breaks a rule, is told and is
-named on the page; a resource that is damaged is drawn as far as it goes. Of a file 10,000 items are drawn at most, where a
-drawing itself counts as two, and four more lines of text than items as one; what isn't drawn is told.
+named on the page; a resource that is damaged is drawn as far as it goes. Of a file 10,000 items are drawn at
+most. A drawing counts as two items, and so do eight lines of text beyond one for each item. What isn't drawn is told.
 """
 import os
 
@@ -42,7 +42,7 @@ class FileDrawing:
             self.told.append("the page has enough drawings: %d more resources aren't drawn" % self.undrawn)
             self.parts.append(drawn_page.paragraph("The page has enough drawings of this file: %d more resources aren't drawn." % self.undrawn))
         if not self.parts:
-            self.parts.append(drawn_page.paragraph("The file has no dialogs, alerts and menus."))
+            self.parts.append(drawn_page.paragraph("The file has no dialogs, alerts or menus."))
 
     def bytes_of(self, one):
         """The bytes of a resource, which aren't copied."""

@@ -177,13 +177,22 @@ def test_controls_by_their_procs():
 
 
 def test_a_pop_up_menu_has_its_title_and_first_item():
-    found = {(b"CNTL", 1): cntl(1008, b"Size:", 0, 130, 40), (b"MENU", 130): menu(130, b"Sizes", b"Small", b"Large")}
+    """The box is 60 wide, and 15 at each side have no text."""
+    found = {(b"CNTL", 1): cntl(1008, b"Size:", 0, 130, 40), (b"MENU", 130): menu(130, b"Sizes", b"12", b"Big")}
     made = drawing(ditl(item(CONTROL, (60, 100, 80, 200), b"\0\1")), found=found)
-    assert only(made)[1] == [("text", 100, 74, 31, "Size:"), ("rect", "box", 140.5, 60.5, 59, 19), ("svg", None), ("text", 155, 74, 35, "Small"), ("path", "black")]
-    found = {(b"CNTL", 1): cntl(1009, b"Large size:", 0, 131, 40)}
+    assert only(made)[1] == [("text", 100, 74, 31, "Size:"), ("rect", "box", 140.5, 60.5, 59, 19), ("svg", None), ("text", 155, 74, 16, "12"), ("path", "black")]
+    assert made.over == []
+    found[b"MENU", 130] = menu(130, b"Sizes", b"Small", b"Large")  # 7 12 8 4 4 and 7 8 6 8 8
     made = drawing(ditl(item(CONTROL, (60, 100, 80, 200), b"\0\1")), found=found)
-    assert only(made)[1][0] == ("rect", "over", 100.5, 60.5, 39, 19) and "MENU 131" in made.svg
-    assert made.over == ["Item 1, control \u201cLarge size:\u201d: about 72 pixels, with room for 40."]  # 7 8 6 8 8, 4, 7 4 8 8 4
+    assert only(made)[1][1:3] == [("rect", "box", 140.5, 60.5, 59, 19), ("rect", "over", 140.5, 60.5, 59, 19)]
+    assert made.over == ["Item 1, control \u201cLarge\u201d: about 37 pixels in MENU 130, with room for 30."]
+
+
+def test_a_pop_up_menu_whose_title_may_not_fit_and_whose_menu_is_not_there():
+    for more in ({}, {(b"MENU", 131): menu(131, b"Sizes")[:9]}, {(b"MENU", 131): menu(131, b"Sizes")}):
+        made = drawing(ditl(item(CONTROL, (60, 100, 80, 200), b"\0\1")), found={(b"CNTL", 1): cntl(1009, b"Large size:", 0, 131, 40), **more})
+        assert only(made)[1][0] == ("rect", "over", 100.5, 60.5, 39, 19) and ">MENU 131</text>" in made.svg
+        assert made.over == ["Item 1, control \u201cLarge size:\u201d: about 72 pixels, with room for 40."]  # 7 8 6 8 8, 4, 7 4 8 8 4
 
 
 def test_controls_that_are_missing_damaged_or_hidden():

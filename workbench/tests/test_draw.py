@@ -169,7 +169,7 @@ def test_each_form(tmp_path, make):
 def test_a_file_without_any(tmp_path):
     status, data, messages = drawn(tmp_path, EMPTY)
     assert (status, messages) == (0, "rezkit-draw: drawings: 0, texts that may not fit: 0\n")
-    assert Page(data).of("p")[1:] == ["The file has no dialogs, alerts and menus."] and drawings(data) == []
+    assert Page(data).of("p")[1:] == ["The file has no dialogs, alerts or menus."] and drawings(data) == []
 
 
 def test_several_files_and_refused_ones(tmp_path):
@@ -311,17 +311,17 @@ def test_many_references_to_the_same_bytes(tmp_path):
     assert status == 0 and messages.endswith("rezkit-draw: drawings: 3334, texts that may not fit: 0\n")  # 10000 by 3
 
 
-def test_100_mutated_files_in_this_process(tmp_path, capsysbinary):
+def test_60_mutated_files_in_this_process(tmp_path, capsysbinary):
     ended = []
-    for data in mutants(12, 100):
+    for data in mutants(12, 60):
         ended.append(draw.body([write(tmp_path, "f", data), "-o", str(tmp_path / "page.html"), "-f"]))
-    assert ended.count(0) > 15 and ended.count(1) > 50 and names_in(tmp_path) == ["f", "page.html"]
+    assert ended.count(0) > 8 and ended.count(1) > 30 and names_in(tmp_path) == ["f", "page.html"]
 
 
-def test_100_whole_forks_with_mutated_resources(tmp_path, capsysbinary):
+def test_60_whole_forks_with_mutated_resources(tmp_path, capsysbinary):
     drawings_of = collections.Counter()
-    for data in forks(13, 100):
+    for data in forks(13, 60):
         assert draw.body([write(tmp_path, "f", data), "-o", str(tmp_path / "page.html"), "-f"]) == 0
         drawings_of.update(name.split()[0] for name, _ in drawings(read(str(tmp_path / "page.html"))))
     assert names_in(tmp_path) == ["f", "page.html"]
-    assert all(drawings_of[kind] > 50 for kind in ("DLOG", "ALRT", "MENU", "MBAR")), drawings_of
+    assert all(drawings_of[kind] > 40 for kind in ("DLOG", "ALRT", "MENU", "MBAR")), drawings_of
