@@ -30,7 +30,7 @@ import tempfile
 TOP = os.path.abspath(os.path.join(os.path.dirname(os.path.abspath(__file__)), ".."))
 HARNESS = os.path.join("crates", "rezkit_cases", "out", "rezkit_cases")
 PARTS = 8  # into so many checks the one of all cases is cut
-LONGEST = "tools/carried_cases.py"  # it is begun first
+LONGEST = ("tools/carried_cases.py", "workbench/tests/test_look_many.py")  # they are begun first
 PYTEST = ("/usr/bin/python3", "-m", "pytest", "-q", "-p", "no:cacheprovider")
 
 
@@ -52,7 +52,7 @@ def checks(program):
     found.append(("tools/harness.py", ["tools/harness.py"], HARNESS))
     for file in sorted(glob.glob("workbench/tests/test_*.py")):
         found.append((file, [*PYTEST, file], program))
-    return sorted(found, key=lambda check: check[0] != LONGEST)
+    return sorted(found, key=lambda check: check[0] not in LONGEST)
 
 
 def text_of(path):
