@@ -8,10 +8,10 @@ documents name what is there; docs/MESSAGES.md has each message; the help text d
 wrong-bodies/ and must-fail/ apply, and tools/wrong_bodies.py finds those that don't. With the program that ./rezkit runs:
 ./test finds programs that are wrong; ./rezkit tells why it runs no program; tools/install installs it; the commands that
 README.md, docs/TOUR.md, docs/MESSAGES.md, docs/DAMAGED.md, docs/TEMPLATES.md, docs/TYPES.md, docs/TRANSLATING.md,
-docs/PORTING.md and docs/ARCHIVING.md show print what stands there; SOURCE_DATE_EPOCH is the moment of a run; odd words,
-names and limits of the host are met; editors/ has each word of the language and shows sources and errors as it should. With
-the case runner that `rt ci` built, case files that are broken or differ are told. Without `rt` that check is skipped, as is
-any check whose program isn't there, and the line of the check says so.
+docs/PORTING.md, docs/ARCHIVING.md and docs/LOOKING.md show print what stands there; SOURCE_DATE_EPOCH is the moment of a
+run; odd words, names and limits of the host are met; editors/ has each word of the language and shows sources and errors as
+it should. With the case runner that `rt ci` built, case files that are broken or differ are told. Without `rt` that check
+is skipped, as is any check whose program isn't there, and the line of the check says so.
 
 The tests of the workbench are run by pytest, a file of them as one check, with the Python that sees Debian's packages. Where
 pytest or a module that the tests need is missing, the line says so, and the tests are skipped.
@@ -30,7 +30,7 @@ import tempfile
 TOP = os.path.abspath(os.path.join(os.path.dirname(os.path.abspath(__file__)), ".."))
 HARNESS = os.path.join("crates", "rezkit_cases", "out", "rezkit_cases")
 PARTS = 8  # into so many checks the one of all cases is cut
-LONGEST = "tools/carried_cases.py"  # it is begun first
+LONGEST = ("tools/carried_cases.py", "workbench/tests/test_look_many.py")  # they are begun first
 PYTEST = ("/usr/bin/python3", "-m", "pytest", "-q", "-p", "no:cacheprovider")
 
 
@@ -52,7 +52,7 @@ def checks(program):
     found.append(("tools/harness.py", ["tools/harness.py"], HARNESS))
     for file in sorted(glob.glob("workbench/tests/test_*.py")):
         found.append((file, [*PYTEST, file], program))
-    return sorted(found, key=lambda check: check[0] != LONGEST)
+    return sorted(found, key=lambda check: check[0] not in LONGEST)
 
 
 def text_of(path):

@@ -32,7 +32,7 @@ def run(words, folder, path=None):
 
 def wanted_files():
     """The files that have to be below PREFIX, but for the scripts."""
-    kinds = ("docs/*.md", "examples/*", "types/*.r", "workbench/rezkit_workbench/*.py", *WORKBENCH)
+    kinds = ("docs/*.md", "docs/*.png", "examples/*", "types/*.r", "workbench/rezkit_workbench/*.py", *WORKBENCH)
     shared = ["README.md"] + [os.path.relpath(path, TOP) for kind in kinds for path in glob.glob(os.path.join(glob.escape(TOP), kind))]
     return sorted(["bin/rezkit", *MADE, *("share/rezkit/" + path for path in shared), *links_of_workbench()])
 

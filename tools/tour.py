@@ -32,8 +32,10 @@ WALKS = (
     ("docs/TRANSLATING.md",),
     ("docs/PORTING.md",),
     ("docs/ARCHIVING.md",),
+    ("docs/LOOKING.md",),
 )
-MODULES, PYTHON = (("workbench/rezkit-po", "polib"),), "/usr/bin/python3"
+MODULES = (("workbench/rezkit-po", "polib"), ("workbench/rezkit-look", "PIL"), ("workbench/rezkit-icons", "PIL"))
+PYTHON = "/usr/bin/python3"
 TOOLS = ("cpp", "git", "hformat", "hmount", "make", "msgmerge", "parallel", "sqlite3", "unar", "xxd")
 # Files that the examples of the man page begin with, by a command that makes them, and what an example prints.
 EXAMPLE_FILES = """cp examples/App.r App.r && cp examples/patch.r Changes.r && mkdir Includes

@@ -7,6 +7,38 @@
     writing    files and folders that are written without overwriting any
     command    the frame of a program: options, messages, statuses
     reading    bytes that are read from left to right, and what a decoder of resources gives
+    palettes   the standard color tables, and those of resources
+    pixels     pictures of bit maps and pixel maps, and PNG
+    icons      icons, cursors and patterns as PNG
+
+What resources look and sound like; a module of decoders has KINDS, the decoder of each type:
+
+    sounds     sounds as WAV
+    styled     texts and their styles as HTML
+    letters    letters of texts as a page can have them
+    album      the page of an album, and the names of its files
+
+Of pictures (PICT):
+
+    pictures   a picture that is played, and its frame
+    opcodes    what each opcode reads, sets and draws
+    quickdraw  patterns, modes, and the pixels that are drawn on
+    regions    the pixels that a shape covers
+    packing    bitmaps and pixmaps, packed or not
+    quicktime  JPEG in a picture
+    lettering  letters of a picture in another font
+
+Of rezkit-draw:
+
+    dialogs         what DLOG, ALRT, DITL and CNTL hold
+    menus           what MENU and MBAR hold, and the order of menus on a page
+    dialog_drawing  dialogs and alerts as SVG, and their texts that may not fit
+    menu_drawing    menus and menu bars as SVG
+    frames          the borders and title bars of windows
+    chicago         how wide a text is in the system font, and where its lines break
+    svg             elements of SVG
+    embed           icons and pictures as addresses that stand in a page
+    drawn_page      what stands around the drawings
 
 Of Rez and DeRez:
 

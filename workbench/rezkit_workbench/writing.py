@@ -141,10 +141,15 @@ class Folder:
 
     def write(self, name, data):
         """Writes a file of the folder."""
+        self.write_pieces(name, (data,))
+
+    def write_pieces(self, name, pieces):
+        """Writes a file of the folder, whose bytes come piece by piece."""
         try:
             with open(os.path.join(self.beside, name), "xb") as file:
                 self.names.append(name)
-                file.write(data)
+                for piece in pieces:
+                    file.write(piece)
         except OSError as fault:
             raise cant("be written", os.path.join(self.name, name), fault) from None
 
