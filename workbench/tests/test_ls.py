@@ -59,12 +59,13 @@ def _moved(tmp_path, name):
 
 
 def test_a_manifest_of_the_examples(tmp_path):
-    """The sources of examples/ are texts; what they compile to has the resources that stand in them."""
+    """The sources of examples/ are texts, and one is a picture; what they compile to has the resources that stand in them."""
     os.symlink(os.path.join(TOP, "examples"), str(tmp_path / "examples"))
     rezkit("rez", "examples/App.r", "-i", TYPES, "-o", "App.rsrc", folder=str(tmp_path))
     rezkit("rez", "examples/ask.r", "-i", TYPES, "-o", "ask.bin", "-form", "macbin", "-t", "rsrc", "-c", "RSED", folder=str(tmp_path))
     found, status, _ = rows("examples", "App.rsrc", "ask.bin", folder=str(tmp_path))
-    assert {each["what"] for each in found[:-2]} == {"text"}
+    whats = {each["path"]: each["what"] for each in found[:-2]}
+    assert whats.pop("examples/icon.png") == "PNG" and set(whats.values()) == {"text"}
     assert [each["path"] for each in found[:-2]] == ["examples/" + name for name in names_in(tmp_path / "examples")]
     assert [(one["type"], one["id"]) for one in found[-2]["resources"]] == [
         ("vers", 1), ("MENU", 128), ("ALRT", 128), ("DITL", 128), ("STR#", 128), ("ICN#", 128)]

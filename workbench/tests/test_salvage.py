@@ -6,7 +6,7 @@ import pytest
 from casefile import image
 from fork import fork_of
 from forms import double, hqx, macbin, single
-from helpers import FORK, MEMORY, SECONDS, TYPES, WHOLE, mutants, names_in, read, rezkit, run, write
+from helpers import MEMORY, SECONDS, TYPES, WHOLE, mutants, names_in, read, rezkit, run, write
 from rezkit_workbench import facts, guess, program, salvage
 
 ICON = bytes(range(128)) + bytes([255]) * 128
