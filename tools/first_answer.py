@@ -64,7 +64,7 @@ class Copy:
     def __init__(self, room, program):
         self.room, self.top, self.count, self.wrong = room, os.path.join(room, "a clone's copy"), 0, 0
         os.makedirs(os.path.join(self.top, "tools"))
-        for name in ("rezkit", "crates.txt", "tools/program", "tools/ship"):
+        for name in ("rezkit", "crates.txt", "HANDLES", "tools/program", "tools/ship"):
             shutil.copy2(os.path.join(TOP, name), os.path.join(self.top, name))
         for name in ("examples", "types"):
             shutil.copytree(os.path.join(TOP, name), os.path.join(self.top, name))
@@ -279,12 +279,18 @@ def proving(copy):
     built = copy.path("crates/rezkit/out/rezkit")
     said = (SOURCE[:-len(NO_RT)] + "rezkit: proving and building the program; this is done once, and takes about 50 minutes on "
             "four cores\n")
-    check = "#!/bin/sh\ncase $1 in\nall) seq -f '== rz_%g' 55; exec sleep 100 ;;\nesac\n"
-    fails = copy.tools("fails", rt=check + "echo 'rz_lex: not proved'\nexit 1\n")
-    proves = copy.tools("proves", rt=check + "cp ../../prebuilt/rezkit out/rezkit\n")
+    os.makedirs(copy.path("crates/rz_lex/must-fail"), exist_ok=True)
+    check = "#!/bin/sh\nset -e\n[ $# = 1 ]\n[ $1 = ci ]\necho 'rt: rz_core proved'\n"
+    fails = copy.tools("fails", rt=check + "echo 'rt: rz_lex NOT PROVED'\nexit 1\n")
+    # What is proved is a repository of the program's crates alone, without edits that must fail.
+    proves = copy.tools("proves", rt=check + "[ $(wc -l <crates.txt) = $(ls crates | wc -l) ]\n[ ! -e crates/rz_lex/must-fail ]\n"
+                        "[ ! -e crates/rz_test_text ]\ngrep -q another crates/rz_lex/src/lexer.rt\n[ -s HANDLES ]\n"
+                        "mkdir -p crates/rezkit/out\ncp \"%s\" crates/rezkit/out/rezkit\n" % copy.path("prebuilt/rezkit"))
     others = os.pathsep + os.environ.get("PATH", os.defpath)
     copy.refuses("proofs that fail", said, path=fails + others, front=True)
     copy.tell("proofs that fail: no program", False, os.path.exists(built))
+    copy.tell("proofs that fail: what was said of them", b"rt: rz_core proved\nrt: rz_lex NOT PROVED\n",
+              read(copy.path("crates/rezkit/out/proving.txt")))
     copy.run("proofs that end well", ["--version"], 0, "rezkit 0.1.0\n", said, path=proves + others, front=True)
     copy.run("the program that was proved", ["--version"], 0, "rezkit 0.1.0\n", "")
     os.remove(built)

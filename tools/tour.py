@@ -36,7 +36,7 @@ WALKS = (
 )
 MODULES = (("workbench/rezkit-po", "polib"), ("workbench/rezkit-look", "PIL"), ("workbench/rezkit-icons", "PIL"))
 PYTHON = "/usr/bin/python3"
-TOOLS = ("cpp", "git", "make", "msgmerge", "parallel", "sqlite3", "unar", "xxd")
+TOOLS = ("cpp", "git", "hformat", "hmount", "make", "msgmerge", "parallel", "sqlite3", "unar", "xxd")
 # Files that the examples of the man page begin with, by a command that makes them, and what an example prints.
 EXAMPLE_FILES = """cp examples/App.r App.r && cp examples/patch.r Changes.r && mkdir Includes
 rezkit rez App.r -i types -form hqx -o Old.hqx && echo '#define kTitle "Old"' > Includes/Title.r
