@@ -19,6 +19,7 @@ from .quickdraw import ALL_BLACK, COPY, GRAY_TEXT, HIGHLIGHT, OR, PLAIN, XOR, Ra
 from .reading import Reader, Shown, check_pixels
 from .regions import read_rect, read_region, rectangle
 
+MOST_NOTES = 20
 EXTENDED = 0xFFFE  # the version of the header of extended version 2
 
 
@@ -36,7 +37,7 @@ class Player:
     def play(self):
         """Plays the opcodes up to the end of the picture."""
         while True:
-            self.work.spend(150)
+            self.work.spend(300)
             self.place = self.reader.place
             number = self.reader.byte() if self.version == 1 else self.reader.word()
             if number == END_OF_PICTURE:
@@ -99,10 +100,11 @@ class Player:
         self.drawn += 1
 
     def notes(self):
-        """Sentences about what isn't shown."""
-        told = ["opcode $%04X isn't drawn: %s" % (number, times(count)) for number, count in sorted(self.missed.items())]
-        told += ["text is drawn in another font"] if self.has_text else []
-        return told + ["%s: %s" % (said, times(count)) for said, count in sorted(self.remarks.items())]
+        """Sentences about what isn't shown; MOST_NOTES of them, and how many more there are."""
+        told = ["text is drawn in another font"] if self.has_text else []
+        told += ["opcode $%04X isn't drawn: %s" % (number, times(count)) for number, count in sorted(self.missed.items())]
+        told += ["%s: %s" % (said, times(count)) for said, count in sorted(self.remarks.items())]
+        return told[:MOST_NOTES] + ["notes that are left out: %d" % (len(told) - MOST_NOTES)] * (len(told) > MOST_NOTES)
 
 
 def times(count):

@@ -56,14 +56,24 @@ class Pattern:
 
     def pixels(self, box):
         """The piece of it that lies at a rectangle."""
-        first, times = 3 * (box.left % self.width), box.width // self.width + 2
-        lines = [(self.rows[row % len(self.rows)] * times)[first:first + 3 * box.width] for row in range(box.top, box.bottom)]
+        first, length = 3 * (box.left % self.width), 3 * box.width
+        lines = [repeated(self.rows[row % len(self.rows)], first, length) for row in range(box.top, box.bottom)]
         return Image.frombytes("RGB", (box.width, box.height), b"".join(lines))
+
+
+def repeated(row, first, length):
+    """So many bytes of a row from a place in it on, as it comes again and again."""
+    begin = row[first:first + length]
+    times, rest = divmod(length - len(begin), len(row))
+    return begin + row * times + row[:rest]
+
+
+ROWS_OF_8 = [b"".join(bytes(BLACK if byte >> bit & 1 else WHITE) for bit in range(7, -1, -1)) for byte in range(256)]
 
 
 def old_pattern(data):
     """The pattern of 8 by 8 pixels in 8 bytes, in which a bit of 1 is black."""
-    return Pattern(8, [b"".join(bytes(BLACK if byte >> bit & 1 else WHITE) for bit in range(7, -1, -1)) for byte in data])
+    return Pattern(8, [ROWS_OF_8[byte] for byte in data])
 
 
 def plain_pattern(color):
@@ -90,10 +100,15 @@ def known_mode(number):
     return number if number in ARITHMETIC else None
 
 
-@functools.lru_cache(maxsize=256)
 def ramp(first, last):
     """A table for Pillow that maps black to a color, white to another, and what lies between in proportion."""
-    return [(low * (255 - value) + high * value + 127) // 255 for low, high in zip(first, last) for value in range(256)]
+    return [value for low, high in zip(first, last) for value in between(low, high)]
+
+
+@functools.lru_cache(maxsize=4096)
+def between(low, high):
+    """256 values in equal steps from one to another."""
+    return [(low * (255 - value) + high * value + 127) // 255 for value in range(256)]
 
 
 def colored(source, colors):

@@ -202,10 +202,11 @@ class Polygon(collections.namedtuple("Polygon", "around points")):
     """The rectangle around a polygon, and its corners (across, down)."""
 
 
-def read_polygon(reader, origin=(0, 0)):
+def read_polygon(reader, work, origin=(0, 0)):
     """A polygon as it stands in a picture: its length, the rectangle around it, its corners."""
     place = reader.place
     length = reader.word()
+    work.spend(1000 + 10 * length)
     if length < 10 or length % 4 != 2:
         raise Damaged(place, "a polygon has %d bytes" % length)
     around = read_rect(reader).moved(-origin[0], -origin[1])
@@ -242,6 +243,7 @@ def read_region(reader, work, origin=(0, 0)):
     It has its length, the rectangle around it, and, unless it is that rectangle, scan lines: a row, the columns at which it
     begins or ends to cover from this row on, and a mark. Refused are rows and columns that don't rise.
     """
+    work.spend(1000)
     place = reader.place
     length = reader.word()
     if length < 10 or length % 2:

@@ -112,6 +112,12 @@ def test_opcodes_that_are_reserved_are_passed_and_counted(number, data):
         assert rows_of(shown) == DOTTED and shown.notes == ["opcode $%04X isn't drawn: 1 time" % number]
 
 
+def test_more_than_20_notes_are_left_out():
+    shown = decoded(DOT, *[op(number) for number in range(0xB0, 0xB0 + 22)])
+    assert rows_of(shown) == DOTTED and len(shown.notes) == 21
+    assert shown.notes[19:] == ["opcode $00C3 isn't drawn: 1 time", "notes that are left out: 2"]
+
+
 def test_each_opcode_of_the_table_is_known():
     known = set(pictures.OPCODES) | {NUMBERS["OpEndPic"], NUMBERS["HiliteMode"], NUMBERS["UncompressedQuickTime"]}
     assert set(NUMBERS.values()) - known == set()
@@ -188,6 +194,12 @@ def test_pixel_patterns(name, verb):
     assert drawn(*ground, op(name, words(1), bytes(8), PIXELS), op(verb, FULL)) == ["rgrg", "b.b."] * 2
     assert drawn(*ground, op(name, words(2), bytes(8), color("c")), op(verb, FULL)) == ["cccc"] * 4
     assert drawn(*ground, op(name, words(0), b"\xC0" * 8), op(verb, FULL)) == ["mmyy"] * 4
+
+
+def test_a_pattern_that_is_wider_than_what_is_drawn():
+    wide = pixmap(6, (0, 0, 1, 6), 8) + table("r", "g", "b", ".", "X") + b"\0\1\2\3\4\1"
+    assert drawn(op("PnPixPat", words(1), bytes(8), wide), op("paintRect", words(0, 4, 1, 8)), op("paintRect", words(1, 1, 2, 3)),
+                 op("paintRect", words(2, 0, 3, 20)), frame=(0, 0, 3, 20)) == ["....Xgrg............", ".gb.................", "rgb.Xgrgb.Xgrgb.Xgrg"]
 
 
 def test_a_packed_pixel_pattern_and_an_unknown_one():
