@@ -12,6 +12,7 @@ from .regions import both, hollow, read_rect, rectangle
 HEADER, END_OF_PICTURE = 0x0C00, 0x00FF
 LARGEST_PATTERN = 1 << 20  # pixels
 LARGE = 6000  # steps of work that an opcode of several parts takes, beside those for its pixels
+LETTER = 200  # the work that a letter is
 
 
 # Opcodes that set something.
@@ -245,8 +246,8 @@ def compressed_picture(play):
 
 def text_at(play, place):
     """Draws the text that comes next, its first letter at a place."""
-    play.work.spend(LARGE)
     state, data = play.state, play.reader.take(play.reader.byte())
+    play.work.spend(LARGE + LETTER * len(data))
     state.text_place = place
     over = play.quicktime
     if over and over.left <= place[0] < over.right and over.top <= place[1] < over.bottom:

@@ -7,6 +7,7 @@ column 3 and below the row 2. A pixel belongs to an oval, an arc or a polygon if
 Source: Inside Macintosh: Imaging With QuickDraw, chapter 2 'Basic QuickDraw' (points, rectangles, regions) and chapter 3
 'QuickDraw Drawing' (the pen, lines, ovals, arcs, polygons, and how a region is kept).
 """
+import array
 import bisect
 import collections
 import math
@@ -220,13 +221,13 @@ def polygon(corners, visible, work):
         return Shape(Rect(0, 0, 0, 0), lambda row: [])
     around = Rect(min(down for _, down in corners), min(across for across, _ in corners),
                   max(down for _, down in corners), max(across for across, _ in corners))
-    crossed = {}
+    crossed = collections.defaultdict(lambda: array.array("i"))
     for first, last in zip(corners, corners[1:] + corners[:1]):
         (left, top), (right, bottom) = sorted((first, last), key=lambda point: point[1])
         rows = range(max(top, visible.top), min(bottom, visible.bottom))
-        work.spend(40 * (len(rows) + 4))
+        work.spend(100 * (len(rows) + 4))
         for row in rows:
-            crossed.setdefault(row, []).append(crossing(left, right, bottom - top, row - top))
+            crossed[row].append(crossing(left, right, bottom - top, row - top))
     return Shape(around, lambda row: sorted(crossed.get(row, ())))
 
 
