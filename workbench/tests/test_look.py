@@ -199,6 +199,18 @@ def test_a_long_text_has_a_page_of_its_own(tmp_path):
     assert read(str(tmp_path / "album" / "1-TEXT-1.html")).count(b"word ") == 20000
 
 
+def test_pictures_are_enlarged_and_long_lists_scroll(tmp_path):
+    """Small pictures up to 4 times, 96 pixels high and, but for lists, 480 wide."""
+    write(tmp_path, "fork", fork_of([
+        (b"PAT ", 1, b"", 0, bytes(8)), (b"ICON", 1, b"", 0, bytes(128)), (b"SICN", 1, b"", 0, bytes(32)), (b"SICN", 2, b"", 0, bytes(32 * 200)),
+        (b"PICT", 1, b"", 0, picture(100, 10)), (b"PICT", 2, b"", 0, picture(160, 10)), (b"PICT", 3, b"", 0, picture(481, 10)),
+        (b"PICT", 4, b"", 0, picture(10, 49))]))
+    _, _, page = looked(tmp_path, "fork")
+    assert [(each["width"], each["height"]) for each in page.all("img")] == [
+        ("32", "32"), ("96", "96"), ("64", "64"), ("12800", "64"), ("400", "40"), ("480", "30"), ("481", "10"), ("10", "49")]
+    assert [each["aria-label"] for each in page.all("div") if each.get("class") == "scroll"] == ["'SICN' 2"]
+
+
 def test_names_of_files_differ_without_regard_to_case():
     assert sorted(look.DECODERS) == sorted(TYPES + look.PARTS)
     words = [album.type_word(kind) for kind in TYPES]
