@@ -1,6 +1,7 @@
 """rezkit-look: the files of an album, its page, what is told of what isn't shown, and its statuses."""
 import os
 import pty
+import signal
 import struct
 import subprocess
 import sys
@@ -47,7 +48,7 @@ RESOURCES = [
     (b"CODE", 0, b"", 0, b"\1"), (b"CODE", 1, b"", 0, b"\1"), (b"STR ", 128, b"", 0, b"\5Hello")]
 FORK = fork_of(RESOURCES)
 NAMES = ["1-ICNx23--16455.png", "1-ICNx23-128.png", "1-PICT-200.png", "1-TEXT-1.html", "1-sndx20-1.wav", "index.html"]
-LEFT = [["'CODE'", "2", "no decoder"], ["'ICN#'", "1", "damaged"], ["'PICT'", "1", "too many pixels"], ["'STR '", "1", "no decoder"],
+LEFT = [["'CODE'", "2", "no decoder"], ["'ICN#'", "1", "damaged"], ["'PICT'", "1", "too large"], ["'STR '", "1", "no decoder"],
         ["'snd '", "1", "has no samples: its commands are beeps, notes or wave tables"],
         ["'styl'", "1", "has no TEXT of the same id"], ["'styl'", "1", "is shown in the TEXT of the same id"]]
 
@@ -267,6 +268,20 @@ def test_without_pillow_nothing_is_made(tmp_path):
     status, output, messages = run(sys.executable, "-S", os.path.join(WORKBENCH, "rezkit-look"), "fork", "-o", "album", folder=str(tmp_path))
     assert (status, output) == (1, b"") and names_in(tmp_path) == ["fork"]
     assert messages == "rezkit-look: Python's module PIL is missing (Debian's package python3-pil)\n"
+
+
+def test_a_break_leaves_nothing(tmp_path):
+    """The program waits for a pipe when it is broken off."""
+    os.mkfifo(str(tmp_path / "pipe"))
+    write(tmp_path, "fork", FORK)
+    running = subprocess.Popen([os.path.join(WORKBENCH, "rezkit-look"), "fork", "pipe", "-o", "album"], cwd=str(tmp_path), stderr=subprocess.PIPE)
+    pipe = os.open(str(tmp_path / "pipe"), os.O_WRONLY)  # waits until the program opens it
+    made = [name for name in names_in(tmp_path) if name.startswith(".rezkit-")]
+    running.send_signal(signal.SIGINT)
+    assert running.wait(60) == 130 and running.stderr.read() == b"" and len(made) == 1
+    os.close(pipe)
+    running.stderr.close()
+    assert names_in(tmp_path) == ["fork", "pipe"]
 
 
 # Time and memory.
