@@ -11,7 +11,7 @@ from .regions import both, hollow, read_rect, rectangle
 
 HEADER, END_OF_PICTURE = 0x0C00, 0x00FF
 LARGEST_PATTERN = 1 << 20  # pixels
-LARGE = 6000  # steps of work that an opcode of several parts takes, beside those for its pixels
+LARGE, LETTER = 6000, 80  # steps of work that an opcode of several parts takes, beside those for its pixels, and a letter
 
 
 # Opcodes that set something.
@@ -252,6 +252,7 @@ def text_at(play, place):
     if over and over.left <= place[0] < over.right and over.top <= place[1] < over.bottom:
         play.remarks["text on a QuickTime picture isn't drawn"] += 1
         return
+    play.work.spend(LETTER * len(data))
     image = lettering.letters(data, state.text_face)
     if not image:
         return

@@ -17,6 +17,7 @@ from .errors import Damaged
 FAR = 1 << 20  # a column that lies right of each other; -FAR lies left of each
 EVERYWHERE = [-FAR, FAR]
 END_OF_LINE = 0x7FFF
+ROW = 200  # steps of work that a row of a simple shape takes, where a pixel that is drawn takes one
 TINY = 1e-9  # of a pixel: what the sine of an angle may be wrong by
 
 
@@ -53,12 +54,12 @@ def read_rect(reader):
 class Shape:
     """What a drawing covers. `around` is a rectangle beyond which it covers nothing, `columns` a function of a row.
 
-    `is_rectangle` says that it covers all that lies in the rectangle. `changes` are, of a region, the rows that may cover
-    other columns than the row above them.
+    `steps` is the work that one row takes. `is_rectangle` says that it covers all that lies in the rectangle. `changes` are,
+    of a region, the rows that may cover other columns than the row above them.
     """
 
-    def __init__(self, around, columns, is_rectangle=False, changes=()):
-        self.around, self.columns, self.is_rectangle, self.changes = around, columns, is_rectangle, changes
+    def __init__(self, around, columns, steps=ROW, is_rectangle=False, changes=()):
+        self.around, self.columns, self.steps, self.is_rectangle, self.changes = around, columns, steps, is_rectangle, changes
 
     def at(self, row):
         """The columns of a row at which it begins and ends to cover."""
@@ -90,19 +91,20 @@ def both(first, second):
     """The shape that covers what both cover."""
     if first.is_rectangle and second.is_rectangle:
         return rectangle(first.around.common(second.around))
-    return Shape(first.around.common(second.around), lambda row: in_both(first.at(row), second.at(row)))
+    return Shape(first.around.common(second.around), lambda row: in_both(first.at(row), second.at(row)),
+                 first.steps + second.steps)
 
 
 def hollow(outer, inner):
     """The shape that covers what `outer` covers and `inner` doesn't."""
-    return Shape(outer.around, lambda row: in_both(outer.at(row), outside(inner.at(row))))
+    return Shape(outer.around, lambda row: in_both(outer.at(row), outside(inner.at(row))), outer.steps + inner.steps)
 
 
 # Rectangles and ovals.
 
 def rectangle(rect):
     columns = [rect.left, rect.right] if not rect.is_empty() else []
-    return Shape(rect, lambda row: columns, True)
+    return Shape(rect, lambda row: columns, is_rectangle=True)
 
 
 def oval(rect):
@@ -147,7 +149,7 @@ def arc(rect, start, extent):
             return in_both(begin(row), outside(end(row)))
         return outside(in_both(outside(begin(row)), end(row)))
 
-    return both(oval(rect), Shape(rect, columns))
+    return both(oval(rect), Shape(rect, columns, 3 * ROW))
 
 
 def clockwise_of(rect, angle):
