@@ -174,12 +174,12 @@ def frame_of_arc(play):
 
 
 def within_polygon(play):
-    return regions.polygon(play.state.polygon.points, play.raster.frame, play.work)
+    return regions.polygon(play.state.polygon, play.raster.frame, play.work)
 
 
 def frame_of_polygon(play):
     """Its lines one after the other, each drawn alone; the last corner isn't tied to the first."""
-    points = play.state.polygon.points
+    points = play.state.polygon
     return (regions.line(first, last, *play.state.pen_size) for first, last in zip(points, points[1:]))
 
 

@@ -10,7 +10,7 @@ import functools
 from PIL import Image, ImageChops
 
 from .errors import TooLarge
-from .regions import ROW, Polygon, Rect, Shape, in_both, rectangle
+from .regions import ROW, Rect, Shape, in_both, rectangle
 
 BLACK, WHITE = (0, 0, 0), (255, 255, 255)
 OLD_COLORS = {
@@ -21,11 +21,12 @@ NOT, DITHER, TRANSPARENT = 4, 64, 36
 GRAY_TEXT, HIGHLIGHT = 49, 50
 STRIP, STRIP_PIXELS = 64, 16384  # rows that are drawn at a time at least, and pixels of narrow ones
 MOST_WORK = 200000000  # about two seconds, in steps: a pixel that is copied takes one
-SHAPE, BOX, MIXED, TINTED = 4000, 2000, 5, 2  # steps for a shape and for a strip of it, more for a pixel in a mode and in a color
+SHAPE, BOX = 4000, 2000  # steps that a shape takes, and each strip of it
+MIXED, TINTED = 5, 2  # more steps of a pixel in a mode other than to copy, and in other colors than black and white
 
 
 class Work:
-    """How much is still drawn, so that a picture that lies about its sizes takes no long time."""
+    """How much is still drawn, so that a picture that lies about its sizes doesn't take long."""
 
     def __init__(self, most=MOST_WORK):
         self.left = most
@@ -196,7 +197,7 @@ class State:
     oval: tuple = (0, 0)
     rect: Rect = Rect(0, 0, 0, 0)
     angles: tuple = (0, 0)
-    polygon: Polygon = Polygon(Rect(0, 0, 0, 0), [])
+    polygon: tuple = ()
     region: Shape = rectangle(Rect(0, 0, 0, 0))
     text_place: tuple = (0, 0)
     text_face: int = 0

@@ -200,20 +200,16 @@ def line_columns(left, right, down, row):
 
 # Polygons.
 
-class Polygon(collections.namedtuple("Polygon", "around points")):
-    """The rectangle around a polygon, and its corners (across, down)."""
-
-
 def read_polygon(reader, work, origin=(0, 0)):
-    """A polygon as it stands in a picture: its length, the rectangle around it, its corners."""
+    """The corners (across, down) of a polygon as it stands in a picture: its length, the rectangle around it, its corners."""
     place = reader.place
     length = reader.word()
     work.spend(1000 + 10 * length)
     if length < 10 or length % 4 != 2:
         raise Damaged(place, "a polygon has %d bytes" % length)
-    around = read_rect(reader).moved(-origin[0], -origin[1])
+    read_rect(reader)
     numbers = struct.unpack(">%dh" % (length // 2 - 5), reader.take(length - 10))
-    return Polygon(around, [(across - origin[0], down - origin[1]) for down, across in zip(numbers[::2], numbers[1::2])])
+    return [(across - origin[0], down - origin[1]) for down, across in zip(numbers[::2], numbers[1::2])]
 
 
 def polygon(corners, visible, work):
@@ -226,7 +222,7 @@ def polygon(corners, visible, work):
     for first, last in zip(corners, corners[1:] + corners[:1]):
         (left, top), (right, bottom) = sorted((first, last), key=lambda point: point[1])
         rows = range(max(top, visible.top), min(bottom, visible.bottom))
-        work.spend(40 * (len(rows) + 4))
+        work.spend(100 * (len(rows) + 2))
         for row in rows:
             crossed.setdefault(row, []).append(crossing(left, right, bottom - top, row - top))
     return Shape(around, lambda row: sorted(crossed.get(row, ())))
@@ -269,10 +265,10 @@ def scan_lines(numbers, place, work, origin):
         row, changes = numbers[at] - origin[1], numbers[at + 1:end]
         if (rows and row <= rows[-1]) or not are_pairs(changes):
             raise Damaged(place + 2 * at, "the scan lines of a region don't rise")
-        covered ^= set(changes)
+        covered ^= {column - origin[0] for column in changes}
         work.spend(40 * (len(covered) + len(changes) + 10))
         rows.append(row)
-        lists.append([column - origin[0] for column in sorted(covered)])
+        lists.append(sorted(covered))
         at = end + 1
     return rows, lists
 
