@@ -286,8 +286,6 @@ def columns_from(rows, lists, row):
 
 def outline(region, width, height, work):
     """The border of a region, as wide and high as the pen, within it."""
-    around = region.around.inset(width, height)
-
     def inner(row):
         """What stays covered however far the pen reaches."""
         found = EVERYWHERE
@@ -299,7 +297,7 @@ def outline(region, width, height, work):
                 break
         return found
 
-    return hollow(region, Shape(around, inner))
+    return hollow(region, Shape(region.around, inner))
 
 
 def reach(changes, row, height):
