@@ -11,8 +11,7 @@ from .regions import both, hollow, read_rect, rectangle
 
 HEADER, END_OF_PICTURE = 0x0C00, 0x00FF
 LARGEST_PATTERN = 1 << 20  # pixels
-LARGE = 6000  # steps of work that an opcode of several parts takes, beside those for its pixels
-LETTER = 200  # the work that a letter is
+LARGE, LETTER = 6000, 80  # steps of work that an opcode of several parts takes, beside those for its pixels, and a letter
 
 
 # Opcodes that set something.
@@ -175,12 +174,12 @@ def frame_of_arc(play):
 
 
 def within_polygon(play):
-    return regions.polygon(play.state.polygon.points, play.raster.frame, play.work)
+    return regions.polygon(play.state.polygon, play.raster.frame, play.work)
 
 
 def frame_of_polygon(play):
     """Its lines one after the other, each drawn alone; the last corner isn't tied to the first."""
-    points = play.state.polygon.points
+    points = play.state.polygon
     return (regions.line(first, last, *play.state.pen_size) for first, last in zip(points, points[1:]))
 
 
@@ -246,13 +245,14 @@ def compressed_picture(play):
 
 def text_at(play, place):
     """Draws the text that comes next, its first letter at a place."""
+    play.work.spend(LARGE)
     state, data = play.state, play.reader.take(play.reader.byte())
-    play.work.spend(LARGE + LETTER * len(data))
     state.text_place = place
     over = play.quicktime
     if over and over.left <= place[0] < over.right and over.top <= place[1] < over.bottom:
         play.remarks["text on a QuickTime picture isn't drawn"] += 1
         return
+    play.work.spend(LETTER * len(data))
     image = lettering.letters(data, state.text_face)
     if not image:
         return

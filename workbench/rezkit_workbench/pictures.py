@@ -1,11 +1,11 @@
 """Pictures of QuickDraw: PICT of version 1, version 2, and extended version 2.
 
 A picture is played, opcode after opcode, on white pixels, one for each unit of its coordinates. The rectangle that gives
-them is the frame at the begin of the picture (picFrame); for extended version 2, which states a resolution, it is the
-source rectangle of its header, in whose coordinates the opcodes are, and the frame only says how large it is in points.
+them is the frame that stands first (picFrame). Extended version 2 states a resolution: there the source rectangle of the
+header gives them, in whose coordinates the opcodes are, and the frame only says how large the picture is in points.
 
-What isn't drawn is counted for the page: opcodes that only QuickTime knows but JPEG, opcodes that are reserved, and text in
-its own font. Opcodes that only set how text is spaced, and comments, change nothing.
+Counted for the page are opcodes that aren't drawn: those that are reserved, and pictures of QuickTime other than JPEG. Text
+is drawn in another font. Comments, and opcodes that only say how text is spaced, change nothing.
 
 Source: Inside Macintosh: Imaging With QuickDraw, chapter 7 'Pictures' and appendix A 'Picture Opcodes'.
 """

@@ -98,9 +98,9 @@ RESERVED += [(number, b"") for number in (0xB0, 0xCF)]
 RESERVED += [(number, words(0, 5) + b"abcde") for number in (0xD0, 0xFE)]
 RESERVED += [(base + number, named(data)) for base, data in SHAPE_DATA.items() for number in (5, 6, 7)]
 RESERVED += [(base + number, bytes(4) if base == 0x60 else b"") for base in SHAPE_DATA for number in (13, 14, 15)]
-ONLY_2 = [(0x0100, bytes(2)), (0x01FF, bytes(2)), (0x0200, bytes(4)), (0x0BFF, bytes(22)), (0x0C01, bytes(24)), (0x7F00, bytes(254)),
-          (0x7FFF, bytes(254)), (0x8000, b""), (0x80FF, b""), (0x8100, words(0, 3) + b"abc"), (0x8201, words(0, 2) + b"ab"),
-          (0x8202, words(0, 0)), (0xFFFF, words(0, 1) + b"a")]
+ONLY_2 = [(number, named(length)) for number, length in ((0x0100, 2), (0x01FF, 2), (0x0200, 4), (0x0BFF, 22), (0x0C01, 24), (0x7F00, 254),
+                                                         (0x7FFF, 254), (0x8000, 0), (0x80FF, 0))]
+ONLY_2 += [(0x8100, words(0, 3) + b"abc"), (0x8201, words(0, 2) + b"ab"), (0x8202, words(0, 0)), (0xFFFF, words(0, 1) + b"a")]
 
 
 @pytest.mark.parametrize("number, data", RESERVED + ONLY_2)
