@@ -32,8 +32,9 @@ def run(words, folder, path=None):
 
 def wanted_files():
     """The files that have to be below PREFIX, but for the scripts."""
-    kinds = ("docs/*.md", "docs/*.png", "examples/*", "types/*.r", "workbench/rezkit_workbench/*.py", *WORKBENCH)
-    shared = ["README.md"] + [os.path.relpath(path, TOP) for kind in kinds for path in glob.glob(os.path.join(glob.escape(TOP), kind))]
+    kinds = ("docs/*.md", "docs/*.png", "editors/**", "examples/*", "types/*.r", "workbench/rezkit_workbench/*.py", *WORKBENCH)
+    paths = [path for kind in kinds for path in glob.glob(os.path.join(glob.escape(TOP), kind), recursive=True)]
+    shared = ["README.md"] + [os.path.relpath(path, TOP) for path in paths if os.path.isfile(path)]
     return sorted(["bin/rezkit", *MADE, *("share/rezkit/" + path for path in shared), *links_of_workbench()])
 
 

@@ -7,16 +7,16 @@
     writing    files and folders that are written without overwriting any
     command    the frame of a program: options, messages, statuses
     reading    bytes that are read from left to right, and what a decoder of resources gives
-    palettes   the standard color tables, and those of resources
-    pixels     pictures of bit maps and pixel maps, and PNG
+
+Of rezkit-look, rezkit-icons and rezkit-draw; a module of decoders has KINDS, the decoder of each type:
+
+    album      the page of an album, and the names of its files
     icons      icons, cursors and patterns as PNG
-
-What resources look and sound like; a module of decoders has KINDS, the decoder of each type:
-
     sounds     sounds as WAV
     styled     texts and their styles as HTML
     letters    letters of texts as a page can have them
-    album      the page of an album, and the names of its files
+    palettes   the standard color tables, and those of resources
+    pixels     pictures of bit maps and pixel maps, PNG, and Pillow
 
 Of pictures (PICT):
 

@@ -18,6 +18,7 @@ PAGE = "index.html"
 INLINE_MOST = 1 << 16  # bytes of a text that stands in the page; a longer one has a link alone
 WIDE, HIGH, TIMES_MOST = 480, 96, 4  # pictures are enlarged up to so many pixels, and by so much
 OF_ANY_SIZE = (b"PICT", b"cicn", b"ppat")  # types of pictures of which the page says the size
+LISTS, SCROLLED = (b"SICN", b"PAT#", b"ppt#"), 300  # pictures side by side; a list that is wider scrolls
 PIECE = 1 << 20
 WORDS = {
     b"ICON": "icons", b"ICN#": "icons with masks", b"icl4": "icons in 16 colors", b"icl8": "icons in 256 colors",
@@ -60,6 +61,7 @@ audio { display: block; width: 20rem; max-width: 100%; }
 .wrong { color: var(--wrong); }
 ul.wrong { margin: .5rem 0; padding-left: 1.25rem; font-size: .85rem; line-height: 1.4; }
 .scroll { overflow-x: auto; }
+.scroll img { max-width: none; }
 table { border-collapse: collapse; }
 th, td { padding: .25rem 1.25rem .25rem 0; border-bottom: 1px solid var(--line); text-align: left; vertical-align: top; }
 td.number { text-align: right; }
@@ -91,6 +93,7 @@ FRONT = """<header>
 </nav>
 <main>
 """
+SCROLLING = '<div class="scroll" role="region" tabindex="0" aria-label="%s">%s</div>'
 FIGURE = """<figure%s>
 %s
 <figcaption>%s%s</figcaption>
@@ -126,18 +129,20 @@ def told(one):
 
 # A figure.
 
-def times(width, height):
+def times(kind, width, height):
     """How many times as large as it is a picture is shown."""
-    return max(1, min(TIMES_MOST, WIDE // width, HIGH // height))
+    across = TIMES_MOST if kind in LISTS else WIDE // width
+    return max(1, min(TIMES_MOST, across, HIGH // height))
 
 
 def picture(name, one, shown):
     """The element of a picture. A small one is enlarged, and what may let the ground through stands on checks."""
-    larger = times(*shown.size)
+    larger = times(one.kind, *shown.size)
     width, height = (larger * pixels for pixels in shown.size)
     classes = ["small"] * (larger > 1) + ["checked"] * (one.kind != b"PICT")
-    return '<img%s src="%s" alt="%s" width="%d" height="%d" loading="lazy">' % (
+    element = '<img%s src="%s" alt="%s" width="%d" height="%d" loading="lazy">' % (
         ' class="%s"' % " ".join(classes) if classes else "", name, escaped(told(one)), width, height)
+    return SCROLLING % (escaped(told(one)), element) if one.kind in LISTS and width > SCROLLED else element
 
 
 def sound(name, one, _):

@@ -24,7 +24,7 @@ the number of its file, its type, its id. In a type x23 is the byte 23 that is n
 exit status: 0 done, 1 a file isn't read, 2 wrong arguments"""
 DECODERS = {**icons.KINDS, **pictures.KINDS, **sounds.KINDS, **styled.KINDS}
 PARTS = (b"styl",)  # types that are shown with another, and have no section of their own
-NO_DECODER, DAMAGED, TOO_LARGE, NO_MEMORY = "no decoder", "damaged", "too many pixels", "out of memory"
+NO_DECODER, DAMAGED, TOO_LARGE, NO_MEMORY = "no decoder", "damaged", "too large", "out of memory"
 SHARED = "shares bytes with too many others"
 SHARED_MOST = 4  # how many times as long as its fork all resources of a file may be together
 BETWEEN = 0.2  # seconds between two lines of progress
@@ -67,6 +67,7 @@ class Resources:
         """What gives the bytes of a resource of this id and another type, or None."""
         def bytes_of(kind):
             other = self.by_key.get((kind, ident))
+            self.left -= other.length if other else 0
             return other.bytes_in(self.fork) if other else None
         return bytes_of
 

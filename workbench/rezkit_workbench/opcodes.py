@@ -11,6 +11,7 @@ from .regions import both, hollow, read_rect, rectangle
 
 HEADER, END_OF_PICTURE = 0x0C00, 0x00FF
 LARGEST_PATTERN = 1 << 20  # pixels
+LARGE, LETTER = 6000, 80  # steps of work that an opcode of several parts takes, beside those for its pixels, and a letter
 
 
 # Opcodes that set something.
@@ -59,6 +60,7 @@ def read_old_color(play):
 
 def read_pixel_pattern(play):
     """A pattern with a sort: 0 has its 8 bytes alone, 1 has a pixmap after them, 2 has one color after them."""
+    play.work.spend(LARGE)
     sort, pattern = play.reader.word(), read_old_pattern(play)
     if sort == 0:
         return pattern
@@ -131,7 +133,7 @@ def read_angles(play):
 
 
 def read_shape_polygon(play):
-    play.state.polygon = regions.read_polygon(play.reader, play.state.origin)
+    play.state.polygon = regions.read_polygon(play.reader, play.work, play.state.origin)
 
 
 def read_shape_region(play):
@@ -172,12 +174,12 @@ def frame_of_arc(play):
 
 
 def within_polygon(play):
-    return regions.polygon(play.state.polygon.points, play.raster.frame, play.work)
+    return regions.polygon(play.state.polygon, play.raster.frame, play.work)
 
 
 def frame_of_polygon(play):
     """Its lines one after the other, each drawn alone; the last corner isn't tied to the first."""
-    points = play.state.polygon.points
+    points = play.state.polygon
     return (regions.line(first, last, *play.state.pen_size) for first, last in zip(points, points[1:]))
 
 
@@ -209,6 +211,7 @@ def bits(is_packed, has_region, is_direct=False):
     """The action that draws a bitmap or a pixmap."""
     def action(play):
         reader = play.reader
+        play.work.spend(LARGE)
         pixels = packing.read_direct_pixels(reader) if is_direct else packing.read_pixels(reader)
         source, target, mode = read_rect(reader), play.rect(), play.mode(reader.word())
         clip = both(play.state.clip, play.region()) if has_region else play.state.clip
@@ -224,6 +227,7 @@ def bits(is_packed, has_region, is_direct=False):
 def compressed_picture(play):
     """Draws a JPEG that QuickTime has put in; what else it may be is counted."""
     place = play.reader.place + 4
+    play.work.spend(LARGE)
     data = play.reader.take(play.reader.long())
     found = quicktime.at_place(place, quicktime.read_compressed, data, play.work, play.state.origin)
     if found.kind != b"jpeg" or found.target is None:
@@ -241,12 +245,14 @@ def compressed_picture(play):
 
 def text_at(play, place):
     """Draws the text that comes next, its first letter at a place."""
+    play.work.spend(LARGE)
     state, data = play.state, play.reader.take(play.reader.byte())
     state.text_place = place
     over = play.quicktime
     if over and over.left <= place[0] < over.right and over.top <= place[1] < over.bottom:
         play.remarks["text on a QuickTime picture isn't drawn"] += 1
         return
+    play.work.spend(LETTER * len(data))
     image = lettering.letters(data, state.text_face)
     if not image:
         return

@@ -1,11 +1,11 @@
 """Pictures of QuickDraw: PICT of version 1, version 2, and extended version 2.
 
 A picture is played, opcode after opcode, on white pixels, one for each unit of its coordinates. The rectangle that gives
-them is the frame at the begin of the picture (picFrame); for extended version 2, which states a resolution, it is the
-source rectangle of its header, in whose coordinates the opcodes are, and the frame only says how large it is in points.
+them is the frame that stands first (picFrame). Extended version 2 states a resolution: there the source rectangle of the
+header gives them, in whose coordinates the opcodes are, and the frame only says how large the picture is in points.
 
-What isn't drawn is counted for the page: opcodes that only QuickTime knows but JPEG, opcodes that are reserved, and text in
-its own font. Opcodes that only set how text is spaced, and comments, change nothing.
+Counted for the page are opcodes that aren't drawn: those that are reserved, and pictures of QuickTime other than JPEG. Text
+is drawn in another font. Comments, and opcodes that only say how text is spaced, change nothing.
 
 Source: Inside Macintosh: Imaging With QuickDraw, chapter 7 'Pictures' and appendix A 'Picture Opcodes'.
 """
@@ -19,6 +19,7 @@ from .quickdraw import ALL_BLACK, COPY, GRAY_TEXT, HIGHLIGHT, OR, PLAIN, XOR, Ra
 from .reading import Reader, Shown, check_pixels
 from .regions import read_rect, read_region, rectangle
 
+MOST_NOTES = 20
 EXTENDED = 0xFFFE  # the version of the header of extended version 2
 
 
@@ -36,7 +37,7 @@ class Player:
     def play(self):
         """Plays the opcodes up to the end of the picture."""
         while True:
-            self.work.spend(150)
+            self.work.spend(300)
             self.place = self.reader.place
             number = self.reader.byte() if self.version == 1 else self.reader.word()
             if number == END_OF_PICTURE:
@@ -99,10 +100,11 @@ class Player:
         self.drawn += 1
 
     def notes(self):
-        """Sentences about what isn't shown."""
-        told = ["opcode $%04X isn't drawn: %s" % (number, times(count)) for number, count in sorted(self.missed.items())]
-        told += ["text is drawn in another font"] if self.has_text else []
-        return told + ["%s: %s" % (said, times(count)) for said, count in sorted(self.remarks.items())]
+        """Sentences about what isn't shown; MOST_NOTES of them, and how many more there are."""
+        told = ["text is drawn in another font"] if self.has_text else []
+        told += ["opcode $%04X isn't drawn: %s" % (number, times(count)) for number, count in sorted(self.missed.items())]
+        told += ["%s: %s" % (said, times(count)) for said, count in sorted(self.remarks.items())]
+        return told[:MOST_NOTES] + ["notes that are left out: %d" % (len(told) - MOST_NOTES)] * (len(told) > MOST_NOTES)
 
 
 def times(count):

@@ -9,7 +9,7 @@ import functools
 
 from .errors import TooLarge
 from .pixels import Image, ImageChops
-from .regions import Polygon, Rect, Shape, in_both, rectangle
+from .regions import ROW, Rect, Shape, in_both, rectangle
 
 BLACK, WHITE = (0, 0, 0), (255, 255, 255)
 OLD_COLORS = {
@@ -18,13 +18,14 @@ OLD_COLORS = {
 COPY, OR, XOR, BIC = range(4)
 NOT, DITHER, TRANSPARENT = 4, 64, 36
 GRAY_TEXT, HIGHLIGHT = 49, 50
-STEPS_OF_XOR = 5  # how many more steps of work a pixel is that is inverted
-STRIP = 64  # rows that are drawn at a time
-MOST_WORK = 200000000  # about two seconds, in steps of which one pixel takes one
+STRIP, STRIP_PIXELS = 64, 16384  # rows that are drawn at a time at least, and pixels of narrow ones
+MOST_WORK = 200000000  # about two seconds, in steps: a pixel that is copied takes one
+SHAPE, BOX = 4000, 2000  # steps that a shape takes, and each strip of it
+MIXED, TINTED = 5, 2  # more steps of a pixel in a mode other than to copy, and in other colors than black and white
 
 
 class Work:
-    """How much is still drawn, so that a picture that lies about its sizes takes no long time."""
+    """How much is still drawn, so that a picture that lies about its sizes doesn't take long."""
 
     def __init__(self, most=MOST_WORK):
         self.left = most
@@ -56,14 +57,25 @@ class Pattern:
 
     def pixels(self, box):
         """The piece of it that lies at a rectangle."""
-        first, times = 3 * (box.left % self.width), box.width // self.width + 2
-        lines = [(self.rows[row % len(self.rows)] * times)[first:first + 3 * box.width] for row in range(box.top, box.bottom)]
-        return Image.frombytes("RGB", (box.width, box.height), b"".join(lines))
+        first, length, count = 3 * (box.left % self.width), 3 * box.width, len(self.rows)
+        lines = [repeated(self.rows[row % count], first, length) for row in range(box.top, box.top + min(count, box.height))]
+        times, rest = divmod(box.height, count)
+        return Image.frombytes("RGB", (box.width, box.height), b"".join(lines) * times + b"".join(lines[:rest]))
+
+
+def repeated(row, first, length):
+    """So many bytes of a row from a place in it on, as it comes again and again."""
+    begin = row[first:first + length]
+    times, rest = divmod(length - len(begin), len(row))
+    return begin + row * times + row[:rest]
+
+
+ROWS_OF_8 = [b"".join(bytes(BLACK if byte >> bit & 1 else WHITE) for bit in range(7, -1, -1)) for byte in range(256)]
 
 
 def old_pattern(data):
     """The pattern of 8 by 8 pixels in 8 bytes, in which a bit of 1 is black."""
-    return Pattern(8, [b"".join(bytes(BLACK if byte >> bit & 1 else WHITE) for bit in range(7, -1, -1)) for byte in data])
+    return Pattern(8, [ROWS_OF_8[byte] for byte in data])
 
 
 def plain_pattern(color):
@@ -90,10 +102,15 @@ def known_mode(number):
     return number if number in ARITHMETIC else None
 
 
-@functools.lru_cache(maxsize=256)
 def ramp(first, last):
     """A table for Pillow that maps black to a color, white to another, and what lies between in proportion."""
-    return [(low * (255 - value) + high * value + 127) // 255 for low, high in zip(first, last) for value in range(256)]
+    return [value for low, high in zip(first, last) for value in between(low, high)]
+
+
+@functools.lru_cache(maxsize=4096)
+def between(low, high):
+    """256 values in equal steps from one to another."""
+    return [(low * (255 - value) + high * value + 127) // 255 for value in range(256)]
 
 
 def colored(source, colors):
@@ -179,7 +196,7 @@ class State:
     oval: tuple = (0, 0)
     rect: Rect = Rect(0, 0, 0, 0)
     angles: tuple = (0, 0)
-    polygon: Polygon = Polygon(Rect(0, 0, 0, 0), [])
+    polygon: tuple = ()
     region: Shape = rectangle(Rect(0, 0, 0, 0))
     text_place: tuple = (0, 0)
     text_face: int = 0
@@ -221,7 +238,7 @@ class Raster:
 
     def draw(self, shape, clip, mode, colors, pixels):
         """Draws pixels where a shape and the clip both cover; `pixels` is a function that gives those of a rectangle."""
-        steps = STEPS_OF_XOR if mode == XOR or mode == XOR | NOT else 0
+        steps = 1 + MIXED * (mode not in (COPY, COPY | NOT)) + TINTED * (colors[:2] != PLAIN[:2])
         for box, mask in self.boxes(shape, clip):
             self.work.spend(steps * box.width * box.height)
             left, top = box.left - self.frame.left, box.top - self.frame.top
@@ -231,20 +248,22 @@ class Raster:
     def boxes(self, shape, clip):
         """The rectangles of the frame that hold what both cover, each with a mask of its pixels, or None for all of them."""
         visible = shape.around.common(clip.around).common(self.frame)
-        self.work.spend(6000)
+        self.work.spend(SHAPE)
         if visible.is_empty():
             return
-        for top in range(visible.top, visible.bottom, STRIP):
-            strip = visible._replace(top=top, bottom=min(top + STRIP, visible.bottom))
-            self.work.spend(strip.height * strip.width)
+        rows_at_a_time = max(STRIP, STRIP_PIXELS // visible.width)
+        for top in range(visible.top, visible.bottom, rows_at_a_time):
+            strip = visible._replace(top=top, bottom=min(top + rows_at_a_time, visible.bottom))
+            self.work.spend(BOX + ROW // 4 * strip.height)
             if shape.is_rectangle and clip.is_rectangle:
                 yield strip, None
                 continue
             rows = [covered(shape, clip, strip, row) for row in range(strip.top, strip.bottom)]
-            self.work.spend(300 * len(rows) + 40 * sum(map(len, rows)))
+            self.work.spend((shape.steps + clip.steps) * len(rows) + 40 * sum(map(len, rows)))
             columns = [column for row in rows if row for column in (row[0], row[-1])]
             if columns:
                 box = strip._replace(left=min(columns), right=max(columns))
+                self.work.spend(box.width * box.height)
                 yield box, mask_of(rows, box)
 
 

@@ -22,6 +22,7 @@ SEQUENTIAL = (0xC0, 0xC1)
 FRAMES = [0xC0 + number for number in range(16) if number not in (4, 8, 12)]
 TABLES = [0xC4, 0xDB, 0xDD]  # Huffman tables, quantization tables, the interval of restarts
 MOST_PROGRESSIVE = 1 << 23
+JPEG = 60000  # steps of work that a JPEG takes, beside those for its pixels
 MARKER = re.compile(rb"\xFF+([^\xFF])", re.S)
 
 
@@ -122,7 +123,7 @@ def check_scans(frame, data, place, work):
     is_sequential = frame.marker in SEQUENTIAL and scans == 1 and data[place + 2:place + 3] == frame.components
     if frame.pixels > MOST_PROGRESSIVE and not is_sequential:
         raise TooLarge("a progressive JPEG has %d pixels, more than the %d that are decoded" % (frame.pixels, MOST_PROGRESSIVE))
-    work.spend(frame.pixels * (3 + scans) // 2)
+    work.spend(JPEG + frame.pixels * (3 + scans) // 2)
 
 
 def next_marker(reader):

@@ -7,6 +7,7 @@ column 3 and below the row 2. A pixel belongs to an oval, an arc or a polygon if
 Source: Inside Macintosh: Imaging With QuickDraw, chapter 2 'Basic QuickDraw' (points, rectangles, regions) and chapter 3
 'QuickDraw Drawing' (the pen, lines, ovals, arcs, polygons, and how a region is kept).
 """
+import array
 import bisect
 import collections
 import math
@@ -17,6 +18,7 @@ from .errors import Damaged
 FAR = 1 << 20  # a column that lies right of each other; -FAR lies left of each
 EVERYWHERE = [-FAR, FAR]
 END_OF_LINE = 0x7FFF
+ROW = 200  # steps of work that a row of a simple shape takes, where a pixel that is drawn takes one
 TINY = 1e-9  # of a pixel: what the sine of an angle may be wrong by
 
 
@@ -53,12 +55,12 @@ def read_rect(reader):
 class Shape:
     """What a drawing covers. `around` is a rectangle beyond which it covers nothing, `columns` a function of a row.
 
-    `is_rectangle` says that it covers all that lies in the rectangle. `changes` are, of a region, the rows that may cover
-    other columns than the row above them.
+    `steps` is the work that one row takes. `is_rectangle` says that it covers all that lies in the rectangle. `changes` are,
+    of a region, the rows that may cover other columns than the row above them.
     """
 
-    def __init__(self, around, columns, is_rectangle=False, changes=()):
-        self.around, self.columns, self.is_rectangle, self.changes = around, columns, is_rectangle, changes
+    def __init__(self, around, columns, steps=ROW, is_rectangle=False, changes=()):
+        self.around, self.columns, self.steps, self.is_rectangle, self.changes = around, columns, steps, is_rectangle, changes
 
     def at(self, row):
         """The columns of a row at which it begins and ends to cover."""
@@ -90,19 +92,20 @@ def both(first, second):
     """The shape that covers what both cover."""
     if first.is_rectangle and second.is_rectangle:
         return rectangle(first.around.common(second.around))
-    return Shape(first.around.common(second.around), lambda row: in_both(first.at(row), second.at(row)))
+    return Shape(first.around.common(second.around), lambda row: in_both(first.at(row), second.at(row)),
+                 first.steps + second.steps)
 
 
 def hollow(outer, inner):
     """The shape that covers what `outer` covers and `inner` doesn't."""
-    return Shape(outer.around, lambda row: in_both(outer.at(row), outside(inner.at(row))))
+    return Shape(outer.around, lambda row: in_both(outer.at(row), outside(inner.at(row))), outer.steps + inner.steps)
 
 
 # Rectangles and ovals.
 
 def rectangle(rect):
     columns = [rect.left, rect.right] if not rect.is_empty() else []
-    return Shape(rect, lambda row: columns, True)
+    return Shape(rect, lambda row: columns, is_rectangle=True)
 
 
 def oval(rect):
@@ -147,7 +150,7 @@ def arc(rect, start, extent):
             return in_both(begin(row), outside(end(row)))
         return outside(in_both(outside(begin(row)), end(row)))
 
-    return both(oval(rect), Shape(rect, columns))
+    return both(oval(rect), Shape(rect, columns, 3 * ROW))
 
 
 def clockwise_of(rect, angle):
@@ -198,19 +201,16 @@ def line_columns(left, right, down, row):
 
 # Polygons.
 
-class Polygon(collections.namedtuple("Polygon", "around points")):
-    """The rectangle around a polygon, and its corners (across, down)."""
-
-
-def read_polygon(reader, origin=(0, 0)):
-    """A polygon as it stands in a picture: its length, the rectangle around it, its corners."""
+def read_polygon(reader, work, origin=(0, 0)):
+    """The corners (across, down) of a polygon as it stands in a picture: its length, the rectangle around it, its corners."""
     place = reader.place
     length = reader.word()
+    work.spend(1000 + 10 * length)
     if length < 10 or length % 4 != 2:
         raise Damaged(place, "a polygon has %d bytes" % length)
-    around = read_rect(reader).moved(-origin[0], -origin[1])
+    read_rect(reader)
     numbers = struct.unpack(">%dh" % (length // 2 - 5), reader.take(length - 10))
-    return Polygon(around, [(across - origin[0], down - origin[1]) for down, across in zip(numbers[::2], numbers[1::2])])
+    return [(across - origin[0], down - origin[1]) for down, across in zip(numbers[::2], numbers[1::2])]
 
 
 def polygon(corners, visible, work):
@@ -219,13 +219,13 @@ def polygon(corners, visible, work):
         return Shape(Rect(0, 0, 0, 0), lambda row: [])
     around = Rect(min(down for _, down in corners), min(across for across, _ in corners),
                   max(down for _, down in corners), max(across for across, _ in corners))
-    crossed = {}
+    crossed = collections.defaultdict(lambda: array.array("i"))
     for first, last in zip(corners, corners[1:] + corners[:1]):
         (left, top), (right, bottom) = sorted((first, last), key=lambda point: point[1])
         rows = range(max(top, visible.top), min(bottom, visible.bottom))
-        work.spend(40 * (len(rows) + 4))
+        work.spend(100 * (len(rows) + 2))
         for row in rows:
-            crossed.setdefault(row, []).append(crossing(left, right, bottom - top, row - top))
+            crossed[row].append(crossing(left, right, bottom - top, row - top))
     return Shape(around, lambda row: sorted(crossed.get(row, ())))
 
 
@@ -242,6 +242,7 @@ def read_region(reader, work, origin=(0, 0)):
     It has its length, the rectangle around it, and, unless it is that rectangle, scan lines: a row, the columns at which it
     begins or ends to cover from this row on, and a mark. Refused are rows and columns that don't rise.
     """
+    work.spend(1000)
     place = reader.place
     length = reader.word()
     if length < 10 or length % 2:
@@ -265,10 +266,10 @@ def scan_lines(numbers, place, work, origin):
         row, changes = numbers[at] - origin[1], numbers[at + 1:end]
         if (rows and row <= rows[-1]) or not are_pairs(changes):
             raise Damaged(place + 2 * at, "the scan lines of a region don't rise")
-        covered ^= set(changes)
+        covered ^= {column - origin[0] for column in changes}
         work.spend(40 * (len(covered) + len(changes) + 10))
         rows.append(row)
-        lists.append([column - origin[0] for column in sorted(covered)])
+        lists.append(sorted(covered))
         at = end + 1
     return rows, lists
 
@@ -286,8 +287,6 @@ def columns_from(rows, lists, row):
 
 def outline(region, width, height, work):
     """The border of a region, as wide and high as the pen, within it."""
-    around = region.around.inset(width, height)
-
     def inner(row):
         """What stays covered however far the pen reaches."""
         found = EVERYWHERE
@@ -299,7 +298,7 @@ def outline(region, width, height, work):
                 break
         return found
 
-    return hollow(region, Shape(around, inner))
+    return hollow(region, Shape(region.around, inner))
 
 
 def reach(changes, row, height):

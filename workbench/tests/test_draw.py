@@ -15,7 +15,6 @@ from dialog_makers import alrt, cntl, ditl, dlog, forks, item, mbar, menu
 from fork import fork_of
 from forms import double, hqx, macbin, single
 from helpers import MEMORY, SECONDS, WHOLE, mutants, names_in, read, rezkit, run, write
-from PIL import Image
 from rezkit_workbench import command, draw
 
 BUTTON, STATIC, ICON, PICTURE = 4, 8, 32, 64
@@ -124,7 +123,7 @@ def pixels(address):
     """The rows of a picture's pixels: `#` is black, `.` is white or nothing."""
     front = "data:image/png;base64,"
     assert address.startswith(front)
-    picture = Image.open(io.BytesIO(base64.b64decode(address[len(front):]))).convert("RGBA")
+    picture = pytest.importorskip("PIL.Image").open(io.BytesIO(base64.b64decode(address[len(front):]))).convert("RGBA")
     return ["".join("#" if picture.getpixel((x, y)) == (0, 0, 0, 255) else "." for x in range(picture.width)) for y in range(picture.height)]
 
 

@@ -1,6 +1,7 @@
 """rezkit-look: the files of an album, its page, what is told of what isn't shown, and its statuses."""
 import os
 import pty
+import signal
 import struct
 import subprocess
 import sys
@@ -47,7 +48,7 @@ RESOURCES = [
     (b"CODE", 0, b"", 0, b"\1"), (b"CODE", 1, b"", 0, b"\1"), (b"STR ", 128, b"", 0, b"\5Hello")]
 FORK = fork_of(RESOURCES)
 NAMES = ["1-ICNx23--16455.png", "1-ICNx23-128.png", "1-PICT-200.png", "1-TEXT-1.html", "1-sndx20-1.wav", "index.html"]
-LEFT = [["'CODE'", "2", "no decoder"], ["'ICN#'", "1", "damaged"], ["'PICT'", "1", "too many pixels"], ["'STR '", "1", "no decoder"],
+LEFT = [["'CODE'", "2", "no decoder"], ["'ICN#'", "1", "damaged"], ["'PICT'", "1", "too large"], ["'STR '", "1", "no decoder"],
         ["'snd '", "1", "has no samples: its commands are beeps, notes or wave tables"],
         ["'styl'", "1", "has no TEXT of the same id"], ["'styl'", "1", "is shown in the TEXT of the same id"]]
 
@@ -199,6 +200,18 @@ def test_a_long_text_has_a_page_of_its_own(tmp_path):
     assert read(str(tmp_path / "album" / "1-TEXT-1.html")).count(b"word ") == 20000
 
 
+def test_pictures_are_enlarged_and_long_lists_scroll(tmp_path):
+    """Small pictures up to 4 times, 96 pixels high and, but for lists, 480 wide."""
+    write(tmp_path, "fork", fork_of([
+        (b"PAT ", 1, b"", 0, bytes(8)), (b"ICON", 1, b"", 0, bytes(128)), (b"SICN", 1, b"", 0, bytes(32)), (b"SICN", 2, b"", 0, bytes(32 * 200)),
+        (b"PICT", 1, b"", 0, picture(100, 10)), (b"PICT", 2, b"", 0, picture(160, 10)), (b"PICT", 3, b"", 0, picture(481, 10)),
+        (b"PICT", 4, b"", 0, picture(10, 49))]))
+    _, _, page = looked(tmp_path, "fork")
+    assert [(each["width"], each["height"]) for each in page.all("img")] == [
+        ("32", "32"), ("96", "96"), ("64", "64"), ("12800", "64"), ("400", "40"), ("480", "30"), ("481", "10"), ("10", "49")]
+    assert [each["aria-label"] for each in page.all("div") if each.get("class") == "scroll"] == ["'SICN' 2"]
+
+
 def test_names_of_files_differ_without_regard_to_case():
     assert sorted(look.DECODERS) == sorted(TYPES + look.PARTS)
     words = [album.type_word(kind) for kind in TYPES]
@@ -255,6 +268,20 @@ def test_without_pillow_nothing_is_made(tmp_path):
     status, output, messages = run(sys.executable, "-S", os.path.join(WORKBENCH, "rezkit-look"), "fork", "-o", "album", folder=str(tmp_path))
     assert (status, output) == (1, b"") and names_in(tmp_path) == ["fork"]
     assert messages == "rezkit-look: Python's module PIL is missing (Debian's package python3-pil)\n"
+
+
+def test_a_break_leaves_nothing(tmp_path):
+    """The program waits for a pipe when it is broken off."""
+    os.mkfifo(str(tmp_path / "pipe"))
+    write(tmp_path, "fork", FORK)
+    running = subprocess.Popen([os.path.join(WORKBENCH, "rezkit-look"), "fork", "pipe", "-o", "album"], cwd=str(tmp_path), stderr=subprocess.PIPE)
+    pipe = os.open(str(tmp_path / "pipe"), os.O_WRONLY)  # waits until the program opens it
+    made = [name for name in names_in(tmp_path) if name.startswith(".rezkit-")]
+    running.send_signal(signal.SIGINT)
+    assert running.wait(60) == 130 and running.stderr.read() == b"" and len(made) == 1
+    os.close(pipe)
+    running.stderr.close()
+    assert names_in(tmp_path) == ["fork", "pipe"]
 
 
 # Time and memory.

@@ -194,6 +194,7 @@ def test_a_piece_of_the_pixels_is_drawn_and_nothing_beyond_them():
     assert drawn(copied("BitsRect", bitmap(2, far), SLANT, FULL, words(*far))) == SLANTED
     assert drawn(ground, copied("BitsRect", bitmap(2, FOUR), bytes(8), FULL, words(2, 2, 6, 6))) == ["..XX", "..XX", "XXXX", "XXXX"]
     assert drawn(ground, copied("BitsRect", bitmap(2, FOUR), bytes(8), FULL, words(-1, -2, 3, 2))) == ["XXXX", "XX..", "XX..", "XX.."]
+    assert drawn(ground, copied("BitsRect", bitmap(2, FOUR), bytes(8), FULL, words(0, 0, 6, 6))) == ["...X"] * 3 + ["XXXX"]  # 4 of 6
     for source in ((4, 4, 8, 8), (0, 0, 0, 0), (3, 3, 1, 1)):
         assert drawn(ground, copied("BitsRect", bitmap(2, FOUR), bytes(8), FULL, words(*source))) == ["XXXX"] * 4
     for target in ((0, 0, 0, 4), (3, 3, 1, 1), (4, 0, 8, 4), (-9, -9, 0, 0)):
@@ -229,6 +230,12 @@ def test_a_jpeg_is_drawn_where_its_matrix_says():
     assert drawn(op("CompressedQuickTime", quicktime(JPEG, WIDE, scale=(0.5, 0.5), at=(2, 1))), frame=(0, 0, 4, 12)) == [
         "............"] + ["..XXXX......"] * 3
     assert drawn(op("CompressedQuickTime", quicktime(JPEG, (0, 6, 2, 10), at=(-6, 1))), frame=FOUR) == ["....", "XX..", "XX..", "...."]
+
+
+def test_the_origin_moves_a_jpeg_and_its_mask():
+    moved = op("Origin", words(-2, -1))
+    assert drawn(moved, op("CompressedQuickTime", quicktime(JPEG, WIDE)), frame=(0, 0, 4, 12)) == ["............"] + ["..XXXXXXXX.."] * 3
+    assert drawn(moved, op("CompressedQuickTime", quicktime(JPEG, WIDE, mask=region((1, 1, 2, 3)))), frame=FOUR) == ["....", "....", "...X", "...."]
 
 
 def test_a_jpeg_has_a_mode_a_mask_and_a_length_of_its_own():

@@ -145,6 +145,7 @@ def test_corners_of_rounded_rectangles():
     assert drawn(op("OvSize", words(4, 4)), op("paintRRect", full)) == [".XXXXXX."] + ["XXXXXXXX"] * 6 + [".XXXXXX."]
     assert drawn(op("OvSize", words(4, 4)), op("frameRRect", full)) == [".XXXXXX."] + ["X......X"] * 6 + [".XXXXXX."]
     assert drawn(op("OvSize", words(4, 8)), op("paintRRect", full)) == [".XXXXXX."] + ["XXXXXXXX"] * 6 + [".XXXXXX."]
+    assert drawn(op("OvSize", words(8, 4)), op("frameRRect", full)) == [".XXXXXX."] + ["X......X"] * 6 + [".XXXXXX."]
     for size in (words(100, 100), words(32767, 32767)):
         assert drawn(op("OvSize", size), op("paintRRect", full)) == SHAPES["Oval"][2]
     for size in (words(-4, -4), words(0, 32767), words(32767, 0)):
@@ -162,6 +163,7 @@ def test_arcs_go_clockwise_from_the_top():
     assert drawn(arc(270, 90)) == drawn(arc(0, -90)) == drawn(arc(-90, 90)) == drawn(arc(630, 90)) == filled(
         ["..XX....", ".XXX....", "XXXX....", "XXXX...."])
     assert drawn(arc(0, 180)) == ["....XX..", "....XXX.", "....XXXX", "....XXXX", "....XXXX", "....XXXX", "....XXX.", "....XX.."]
+    assert drawn(arc(0, 135)) == ["....XX..", "....XXX.", "....XXXX", "....XXXX", ".....XXX", "......XX", "........", "........"]
     assert drawn(arc(0, 270)) == ["....XX..", "....XXX.", "....XXXX", "....XXXX", "XXXXXXXX", "XXXXXXXX", ".XXXXXX.", "..XXXX.."]
     assert drawn(arc(17, 0)) == FULL
 

@@ -98,9 +98,9 @@ RESERVED += [(number, b"") for number in (0xB0, 0xCF)]
 RESERVED += [(number, words(0, 5) + b"abcde") for number in (0xD0, 0xFE)]
 RESERVED += [(base + number, named(data)) for base, data in SHAPE_DATA.items() for number in (5, 6, 7)]
 RESERVED += [(base + number, bytes(4) if base == 0x60 else b"") for base in SHAPE_DATA for number in (13, 14, 15)]
-ONLY_2 = [(0x0100, bytes(2)), (0x01FF, bytes(2)), (0x0200, bytes(4)), (0x0BFF, bytes(22)), (0x0C01, bytes(24)), (0x7F00, bytes(254)),
-          (0x7FFF, bytes(254)), (0x8000, b""), (0x80FF, b""), (0x8100, words(0, 3) + b"abc"), (0x8201, words(0, 2) + b"ab"),
-          (0x8202, words(0, 0)), (0xFFFF, words(0, 1) + b"a")]
+ONLY_2 = [(number, named(length)) for number, length in ((0x0100, 2), (0x01FF, 2), (0x0200, 4), (0x0BFF, 22), (0x0C01, 24), (0x7F00, 254),
+                                                         (0x7FFF, 254), (0x8000, 0), (0x80FF, 0))]
+ONLY_2 += [(0x8100, words(0, 3) + b"abc"), (0x8201, words(0, 2) + b"ab"), (0x8202, words(0, 0)), (0xFFFF, words(0, 1) + b"a")]
 
 
 @pytest.mark.parametrize("number, data", RESERVED + ONLY_2)
@@ -110,6 +110,12 @@ def test_opcodes_that_are_reserved_are_passed_and_counted(number, data):
     if number < 256:
         shown = decoded(op(number, data), DOT, version=1)
         assert rows_of(shown) == DOTTED and shown.notes == ["opcode $%04X isn't drawn: 1 time" % number]
+
+
+def test_more_than_20_notes_are_left_out():
+    shown = decoded(DOT, *[op(number) for number in range(0xB0, 0xB0 + 22)])
+    assert rows_of(shown) == DOTTED and len(shown.notes) == 21
+    assert shown.notes[19:] == ["opcode $00C3 isn't drawn: 1 time", "notes that are left out: 2"]
 
 
 def test_each_opcode_of_the_table_is_known():
@@ -188,6 +194,12 @@ def test_pixel_patterns(name, verb):
     assert drawn(*ground, op(name, words(1), bytes(8), PIXELS), op(verb, FULL)) == ["rgrg", "b.b."] * 2
     assert drawn(*ground, op(name, words(2), bytes(8), color("c")), op(verb, FULL)) == ["cccc"] * 4
     assert drawn(*ground, op(name, words(0), b"\xC0" * 8), op(verb, FULL)) == ["mmyy"] * 4
+
+
+def test_a_pattern_that_is_wider_than_what_is_drawn():
+    wide = pixmap(6, (0, 0, 1, 6), 8) + table("r", "g", "b", ".", "X") + b"\0\1\2\3\4\1"
+    assert drawn(op("PnPixPat", words(1), bytes(8), wide), op("paintRect", words(0, 4, 1, 8)), op("paintRect", words(1, 1, 2, 3)),
+                 op("paintRect", words(2, 0, 3, 20)), frame=(0, 0, 3, 20)) == ["....Xgrg............", ".gb.................", "rgb.Xgrgb.Xgrgb.Xgrg"]
 
 
 def test_a_packed_pixel_pattern_and_an_unknown_one():

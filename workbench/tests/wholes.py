@@ -190,10 +190,10 @@ def sound(chance):
         body = struct.pack(">LLLLLBB", 0, count, rate, 0, 0, 0, 60) + noise(chance, count)
     else:
         channels, bits = chance.choice((1, 2)), chance.choice((8, 16))
-        kind = chance.choice((b"twos", b"sowt", b"raw ", b"NONE"))
+        kind = chance.choice((b"twos", b"sowt", b"raw ", b"NONE", b"ima4"))
         body = struct.pack(">LLLLLBBL", 0, channels, rate, 0, 0, head, 60, count) + bytes(10) + (
             bytes(12) + struct.pack(">H", bits) + bytes(14) if head == 0xFF
-            else bytes(4) + kind + bytes(12) + struct.pack(">HHHH", chance.choice((0, 0xFFFE, 0xFFFF)), 0, 0, bits)) + noise(chance, count * channels * bits // 8)
+            else bytes(4) + kind + bytes(12) + struct.pack(">HHHH", chance.choice((0, 0xFFFE, 0xFFFF, 3)), 0, 0, bits)) + noise(chance, count * channels * bits // 8)
     return front + b"\0\1\x80\x51\0\0" + struct.pack(">L", place) + body
 
 
@@ -280,6 +280,7 @@ KINDS = tuple(SIZES) + tuple(MADE)
 PLACES = {b"cicn": (4, 6, 8, 10, 12, 32, 54, 60, 62, 68, 74, 76), b"crsr": (0, 2, 4, 6, 8, 88, 90, 100, 106, 108, 128, 138), b"PAT#": (0,),
           b"ppat": (0, 2, 4, 6, 8, 32, 34, 36, 38, 40, 60, 70, 72), b"ppt#": (0, 2, 4, 6, 8), b"PICT": (2, 4, 6, 8, 50, 60, 62, 64, 66, 68, 70),
           b"snd ": (0, 2, 4, 8, 10, 14, 16, 24, 26, 28, 30, 42, 44), b"CURS": (64, 66)}
+BOUNDS = {b"PICT": 2, b"cicn": 6, b"crsr": 102, b"ppat": 34}  # where the rectangle around a picture stands
 
 
 def damaged(kind, data, chance):
@@ -289,8 +290,8 @@ def damaged(kind, data, chance):
         places = PLACES.get(kind, ())
         at = chance.choice(places) if places and chance.random() < 0.5 else chance.randrange(0, max(2, min(len(out), 140)), 2)
         out[at:at + 2] = struct.pack(">H", chance.choice(ODD))
-    if kind == b"PICT" and chance.random() < 0.2:
-        out[2:10] = HUGE
+    if kind in BOUNDS and chance.random() < 0.15:
+        out[BOUNDS[kind]:BOUNDS[kind] + 8] = HUGE
     if chance.random() < 0.25:
         out = out[:chance.randrange(len(out) + 1)]
     elif chance.random() < 0.2:
