@@ -117,9 +117,9 @@ def quicktime(data, source, kind=b"jpeg", scale=(1, 1), at=(0, 0), turned=0, mod
     return struct.pack(">I", len(body)) + body
 
 
-def rows_of(shown, more=()):
-    """The pixels of a decoded picture as rows of letters; `more` are letters of other colors."""
-    letters = dict(LETTERS, **{}) if not more else {**LETTERS, **{value: letter for letter, value in dict(more).items()}}
+def rows_of(shown, more=None):
+    """The pixels of a decoded picture as rows of letters; `more` maps colors to letters of their own."""
+    letters = {**LETTERS, **(more or {})}
     image = Image.open(io.BytesIO(shown.data))
     assert image.format == "PNG" and image.mode == "RGB" and image.size == shown.size
     data = image.tobytes()
