@@ -5,7 +5,9 @@ Pixels stand in the tests as rows of letters: a point is white, X black, and COL
 import io
 import struct
 
-from PIL import Image
+import pytest
+
+Image = pytest.importorskip("PIL.Image")
 
 NUMBERS = {
     "NOP": 0x00, "Clip": 0x01, "BkPat": 0x02, "TxFont": 0x03, "TxFace": 0x04, "TxMode": 0x05, "SpExtra": 0x06, "PnSize": 0x07,
