@@ -137,7 +137,8 @@ def oval_inset(row, width, height):
 def arc(rect, start, extent):
     """The piece of an oval from an angle on, over an extent.
 
-    Angles are degrees, clockwise from the top; 45 leads through the right upper corner of the rectangle, square or not.
+    Angles are degrees, clockwise from the top; 45 leads through the right upper corner of the rectangle, square or not. A
+    middle on the first ray belongs to it, one on the last doesn't.
     """
     if extent < 0:
         start, extent = start + extent, -extent

@@ -5,7 +5,9 @@ Pixels stand in the tests as rows of letters: a point is white, X black, and COL
 import io
 import struct
 
-from PIL import Image
+import pytest
+
+Image = pytest.importorskip("PIL.Image")
 
 NUMBERS = {
     "NOP": 0x00, "Clip": 0x01, "BkPat": 0x02, "TxFont": 0x03, "TxFace": 0x04, "TxMode": 0x05, "SpExtra": 0x06, "PnSize": 0x07,
@@ -117,9 +119,9 @@ def quicktime(data, source, kind=b"jpeg", scale=(1, 1), at=(0, 0), turned=0, mod
     return struct.pack(">I", len(body)) + body
 
 
-def rows_of(shown, more=()):
-    """The pixels of a decoded picture as rows of letters; `more` are letters of other colors."""
-    letters = dict(LETTERS, **{}) if not more else {**LETTERS, **{value: letter for letter, value in dict(more).items()}}
+def rows_of(shown, more=None):
+    """The pixels of a decoded picture as rows of letters; `more` maps colors to letters of their own."""
+    letters = {**LETTERS, **(more or {})}
     image = Image.open(io.BytesIO(shown.data))
     assert image.format == "PNG" and image.mode == "RGB" and image.size == shown.size
     data = image.tobytes()

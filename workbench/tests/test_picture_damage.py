@@ -141,7 +141,8 @@ def test_regions_and_polygons_that_lie():
         assert broken(op("paintPoly", words(length, *FOUR))) == "52: a polygon has %d bytes" % length
     assert broken(op("paintPoly", words(0x7FFE, *FOUR))).endswith("62: 32756 bytes are wanted and 2 are there")
     falls = "62: the scan lines of a region don't rise"
-    assert broken(op("Clip", region(FOUR, (0, 2, 1)))) == broken(op("Clip", region(FOUR, (0, 1, 1)))) == broken(op("Clip", region(FOUR, (0, 1)))) == falls
+    for line in ((0, 2, 1), (0, 1, 1), (0, 1)):
+        assert broken(op("Clip", region(FOUR, line))) == falls
     for row in (0, -1):
         assert broken(op("Clip", region(FOUR, (0, 1, 2), (row, 1, 2)))) == "70: the scan lines of a region don't rise"
     assert broken(op("Clip", words(18, *FOUR), words(0, 1, 2, 3))) == "70: a region has no end"

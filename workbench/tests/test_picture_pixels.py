@@ -11,7 +11,7 @@ SLANT = b"\x80\0\x40\0\x20\0\x10\0"  # four rows of two bytes, a black pixel in 
 SLANTED = ["X...", ".X..", "..X.", "...X"]
 
 
-def drawn(*ops, frame=FOUR, more=(), **rest):
+def drawn(*ops, frame=FOUR, more=None, **rest):
     shown = pictures.decode(picture(*ops, frame=frame, **rest), None)
     assert shown.notes == []
     return rows_of(shown, more)
@@ -127,7 +127,8 @@ def words_of(letters):
 
 @pytest.mark.parametrize("packing_way", (0, 3))
 def test_pixels_of_16_bits_packed_by_words(packing_way):
-    rows = [b"\3" + words_of("Xrgb"), b"\xFD" + words_of("c"), b"\0" + words_of("r") + b"\xFE" + words_of("."), b"\xFF" + words_of("b") + b"\1" + words_of("Xg")]
+    rows = [b"\3" + words_of("Xrgb"), b"\xFD" + words_of("c"), b"\0" + words_of("r") + b"\xFE" + words_of("."),
+            b"\xFF" + words_of("b") + b"\1" + words_of("Xg")]
     assert drawn(copied("DirectBitsRect", direct(8, FOUR, 16, packing_way), packed(*rows))) == ["Xrgb", "cccc", "r...", "bbXg"]
 
 
@@ -143,7 +144,7 @@ def test_five_bits_become_eight_by_their_upper_bits_again():
     data = words(0b0_00001_10000_11110, 0b1_10101_01010_00011)  # 8, 132, 247; 173, 82, 24
     bounds = (0, 0, 1, 2)
     assert drawn(copied("DirectBitsRect", direct(4, bounds, 16), data, words(*bounds), words(*bounds)), frame=bounds,
-                 more={"1": (8, 132, 247), "2": (173, 82, 24)}.items()) == ["12"]
+                 more={(8, 132, 247): "1", (173, 82, 24): "2"}) == ["12"]
 
 
 PLANES = {"X": (0, 0, 0), ".": (255, 255, 255), "r": (255, 0, 0), "g": (0, 255, 0), "b": (0, 0, 255)}
@@ -173,7 +174,8 @@ def test_pixels_of_32_bits_that_are_not_packed_or_lack_their_first_byte():
     assert drawn(copied("DirectBitsRect", direct(16, FOUR, 32, 1), whole)) == rows
     assert drawn(copied("DirectBitsRect", direct(16, FOUR, 32, 2), short)) == rows
     bounds = (0, 0, 2, 1)
-    assert drawn(copied("DirectBitsRect", direct(4, bounds, 32), whole[4:8] + whole[12:16], words(*bounds), words(*bounds)), frame=bounds) == ["r", "b"]
+    two = whole[4:8] + whole[12:16]
+    assert drawn(copied("DirectBitsRect", direct(4, bounds, 32), two, words(*bounds), words(*bounds)), frame=bounds) == ["r", "b"]
 
 
 # Where pixels go.
@@ -235,7 +237,8 @@ def test_a_jpeg_is_drawn_where_its_matrix_says():
 def test_the_origin_moves_a_jpeg_and_its_mask():
     moved = op("Origin", words(-2, -1))
     assert drawn(moved, op("CompressedQuickTime", quicktime(JPEG, WIDE)), frame=(0, 0, 4, 12)) == ["............"] + ["..XXXXXXXX.."] * 3
-    assert drawn(moved, op("CompressedQuickTime", quicktime(JPEG, WIDE, mask=region((1, 1, 2, 3)))), frame=FOUR) == ["....", "....", "...X", "...."]
+    clipped = op("CompressedQuickTime", quicktime(JPEG, WIDE, mask=region((1, 1, 2, 3))))
+    assert drawn(moved, clipped, frame=FOUR) == ["....", "....", "...X", "...."]
 
 
 def test_a_jpeg_has_a_mode_a_mask_and_a_length_of_its_own():

@@ -99,11 +99,14 @@ def line(across, down, to_across, to_down):
 def test_lines_of_each_slope(version):
     assert drawn(line(1, 2, 6, 2), version=version) == filled(["", "", ".XXXXXX."])
     assert drawn(line(2, 6, 2, 1), version=version) == filled(["", "..X", "..X", "..X", "..X", "..X", "..X"])
-    assert drawn(line(0, 0, 7, 7), version=version) == ["X.......", ".X......", "..X.....", "...X....", "....X...", ".....X..", "......X.", ".......X"]
-    assert drawn(line(7, 0, 0, 7), version=version) == [".......X", "......X.", ".....X..", "....X...", "...X....", "..X.....", ".X......", "X......."]
+    assert drawn(line(0, 0, 7, 7), version=version) == [
+        "X.......", ".X......", "..X.....", "...X....", "....X...", ".....X..", "......X.", ".......X"]
+    assert drawn(line(7, 0, 0, 7), version=version) == [
+        ".......X", "......X.", ".....X..", "....X...", "...X....", "..X.....", ".X......", "X......."]
     assert drawn(line(0, 0, 7, 3), version=version) == filled(["XX......", "..XX....", "....XX..", "......XX"])
     assert drawn(line(7, 3, 0, 0), version=version) == filled(["XX......", "..XX....", "....XX..", "......XX"])
-    assert drawn(line(0, 0, 3, 7), version=version) == ["X.......", "X.......", ".X......", ".X......", "..X.....", "..X.....", "...X....", "...X...."]
+    assert drawn(line(0, 0, 3, 7), version=version) == [
+        "X.......", "X.......", ".X......", ".X......", "..X.....", "..X.....", "...X....", "...X...."]
     assert drawn(line(3, 3, 3, 3), version=version) == filled(["", "", "", "...X"])
 
 
@@ -179,7 +182,8 @@ def test_the_angle_45_leads_to_the_corner_of_any_rectangle():
 
 def test_polygons_are_filled_where_an_odd_number_of_edges_lies_left():
     triangle = polygon((0, 0), (8, 0), (0, 8))
-    assert drawn(op("paintPoly", triangle)) == ["XXXXXXX.", "XXXXXX..", "XXXXX...", "XXXX....", "XXX.....", "XX......", "X.......", "........"]
+    assert drawn(op("paintPoly", triangle)) == [
+        "XXXXXXX.", "XXXXXX..", "XXXXX...", "XXXX....", "XXX.....", "XX......", "X.......", "........"]
     assert drawn(op("framePoly", triangle)) == [
         "XXXXXXXX", ".......X", "......X.", ".....X..", "....X...", "...X....", "..X.....", ".X......"]  # not tied
     ring = polygon((0, 0), (8, 0), (8, 8), (0, 8), (0, 0), (2, 2), (6, 2), (6, 6), (2, 6), (2, 2), (0, 0))

@@ -16,7 +16,7 @@ def decoded(*ops, frame=FOUR, **more):
     return pictures.decode(picture(*ops, frame=frame, **more), None)
 
 
-def drawn(*ops, more=(), **rest):
+def drawn(*ops, more=None, **rest):
     shown = decoded(*ops, **rest)
     assert shown.notes == []
     return rows_of(shown, more)
@@ -145,7 +145,8 @@ def test_the_origin_moves_what_comes_after():
     assert drawn(moved, op("paintRect", words(3, 2, 4, 3))) == DOTTED
     assert drawn(moved, op("Origin", words(-1, -2)), DOT) == DOTTED
     assert drawn(moved, op("Line", words(3, 2, 3, 3))) == ["....", ".XX.", "....", "...."]
-    assert drawn(moved, op("paintRgn", region((3, 2, 4, 3)))) == drawn(moved, op("paintPoly", polygon((2, 3), (3, 3), (3, 4), (2, 4)))) == DOTTED
+    assert drawn(moved, op("paintRgn", region((3, 2, 4, 3)))) == DOTTED
+    assert drawn(moved, op("paintPoly", polygon((2, 3), (3, 3), (3, 4), (2, 4)))) == DOTTED
     assert drawn(moved, op("Clip", region((2, 1, 4, 3))), op("paintRect", words(0, 0, 9, 9))) == ["XX..", "XX..", "....", "...."]
     assert drawn(moved, op("BitsRect", bitmap(2, (0, 0, 1, 1)), words(0, 0, 1, 1), words(3, 2, 4, 3), words(0), b"\x80\0")) == DOTTED
     assert drawn(op("eraseRect", words(1, 1, 2, 2)), moved, op("paintSameRect")) == DOTTED
@@ -163,7 +164,7 @@ OLD = {30: (255, 255, 255), 33: (0, 0, 0), 69: (252, 243, 5), 137: (242, 8, 132)
 
 @pytest.mark.parametrize("number", OLD)
 def test_the_eight_colors_of_old(number):
-    more = {"1": OLD[number]}.items()
+    more = {OLD[number]: "1"}
     assert drawn(op("FgColor", words(0, number)), op("paintRect", FULL), more=more, version=1) == ["1111"] * 4
     assert drawn(op("BkColor", words(0, number)), op("eraseRect", FULL), more=more) == ["1111"] * 4
 
@@ -214,7 +215,8 @@ def test_a_packed_pixel_pattern_and_an_unknown_one():
 
 # Modes: black and white of the source on a blue ground, with red and green as the two colors.
 
-BOOLEAN = (("copy", "rg"), ("or", "rb"), ("xor", "yb"), ("bic", "gb"), ("not copy", "gr"), ("not or", "br"), ("not xor", "by"), ("not bic", "bg"))
+BOOLEAN = (("copy", "rg"), ("or", "rb"), ("xor", "yb"), ("bic", "gb"),
+           ("not copy", "gr"), ("not or", "br"), ("not xor", "by"), ("not bic", "bg"))
 HALF = op("PnPat", b"\xAA" * 8)
 
 
@@ -247,9 +249,9 @@ SUMS = ((32, (255, 0, 128), (100, 100, 50)),   # all of the source's red, none o
 def test_arithmetic_modes(mode, operand, result):
     ops = (op("RGBFgCol", rgb(200, 100, 50)), op("paintRect", FULL), op("RGBFgCol", rgb(100, 200, 50)), op("OpColor", rgb(*operand)),
            op("PnMode", words(mode)), op("paintRect", FULL))
-    assert drawn(*ops, more={"1": result}.items()) == ["1111"] * 4
+    assert drawn(*ops, more={result: "1"}) == ["1111"] * 4
     colored = ops[:3] + (op("PnPixPat", words(2), bytes(8), rgb(100, 200, 50)),) + ops[3:]
-    assert drawn(*colored, more={"1": result}.items()) == ["1111"] * 4
+    assert drawn(*colored, more={result: "1"}) == ["1111"] * 4
 
 
 def test_the_transparent_mode_leaves_the_ground_where_the_source_is_white():
@@ -257,7 +259,8 @@ def test_the_transparent_mode_leaves_the_ground_where_the_source_is_white():
     assert drawn(*ground, op("PnMode", words(36)), op("paintRect", FULL)) == ["rbrb"] * 4
 
 
-@pytest.mark.parametrize("mode, row, said", ((50, "yb", "inverting"), (49, "rb", "or"), (16, "rg", "copying"), (0x8000, "rg", "copying"), (0xFFFF, "rg", "copying")))
+@pytest.mark.parametrize("mode, row, said", (
+    (50, "yb", "inverting"), (49, "rb", "or"), (16, "rg", "copying"), (0x8000, "rg", "copying"), (0xFFFF, "rg", "copying")))
 def test_a_mode_that_is_not_known_is_told(mode, row, said):
     shown = decoded(fore("b"), op("paintRect", FULL), fore("r"), back("g"), HALF, op("PnMode", words(mode)), op("paintRect", FULL))
     assert rows_of(shown) == [row * 2] * 4 and shown.notes == ["the mode %d is shown as %s: 1 time" % (mode, said)]
@@ -299,7 +302,8 @@ def test_text_after_other_text_lies_at_a_distance_from_its_begin(version):
     assert text(first, op("DHText", b"\7\1A"), version=version) == page((1, 0, LETTER_A), (8, 0, LETTER_A))
     assert text(first, op("DVText", b"\2\1A"), version=version) == page((1, 0, LETTER_A), (1, 2, LETTER_A))
     assert text(first, op("DHDVText", b"\7\2\1A"), version=version) == page((1, 0, LETTER_A), (8, 2, LETTER_A))
-    assert text(op("LongText", words(6, 1), b"\1 "), op("DHText", b"\3\1 "), op("DHDVText", b"\4\2\1A"), version=version) == page((8, 2, LETTER_A))
+    blank = op("LongText", words(6, 1), b"\1 "), op("DHText", b"\3\1 ")
+    assert text(*blank, op("DHDVText", b"\4\2\1A"), version=version) == page((8, 2, LETTER_A))
     assert text(op("Origin", words(1, 1)), op("LongText", words(8, 3), b"\1A"), version=version) == page((2, 1, LETTER_A))
 
 
