@@ -277,7 +277,7 @@ def proving(copy):
     """With `rt` the program of changed sources is proved and built; here by an `rt` that only seems to do so."""
     write(copy.path("crates/rz_lex/src/lexer.rt"), "another\n")
     built = copy.path("crates/rezkit/out/rezkit")
-    said = (SOURCE[:-len(NO_RT)] + "rezkit: proving and building the program; this is done once, and takes about 50 minutes on "
+    said = (SOURCE[:-len(NO_RT)] + "rezkit: proving and building the program; this is done once, and takes about an hour on "
             "four cores\n")
     os.makedirs(copy.path("crates/rz_lex/must-fail"), exist_ok=True)
     check = "#!/bin/sh\nset -e\n[ $# = 1 ]\n[ $1 = ci ]\necho 'rt: rz_core proved'\n"
