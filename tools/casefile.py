@@ -93,12 +93,18 @@ def image(resources, attributes=0, reserved=b""):
     return fork[:16] + reserved.ljust(240, b"\0") + fork[256:at] + number(attributes, 2) + fork[at + 2:]
 
 
+RUNS = [re.compile(re.escape(bytes([byte])) + b"+") for byte in range(256)]  # of one byte each, which Python matches fast
+
+
 def parts(data, least):
     """The bytes cut into runs of at least so many equal ones and what stands between: pairs of bytes and of whether it is a run."""
-    out, at = [], 0
-    for run in re.finditer(rb"(.)\1{%d,}" % (least - 1), data, re.S):
+    begin, out, at = re.compile(rb"(.)\1{%d}" % (least - 1), re.S), [], 0
+    found = begin.search(data)
+    while found:
+        run = RUNS[found[0][0]].match(data, found.start())
         out += [(data[at:run.start()], False)] * (run.start() > at) + [(run.group(), True)]
         at = run.end()
+        found = begin.search(data, at)
     return out + [(data[at:], False)] * (at < len(data))
 
 

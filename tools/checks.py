@@ -30,8 +30,8 @@ import tempfile
 TOP = os.path.abspath(os.path.join(os.path.dirname(os.path.abspath(__file__)), ".."))
 HARNESS = os.path.join("crates", "rezkit_cases", "out", "rezkit_cases")
 PARTS = 8  # into so many checks the one of all cases is cut
-LONGEST = ("tools/carried_cases.py", "workbench/tests/test_look_many.py", "workbench/tests/test_many.py",
-           "workbench/tests/test_ls.py", "workbench/tests/test_po.py")  # they are begun first
+LONGEST = ("workbench/tests/test_look_many.py", "workbench/tests/test_many.py", "workbench/tests/test_ls.py",
+           "tools/shown.py (part 8 of 8)", "workbench/tests/test_po.py")  # they are begun first
 PYTEST = ("/usr/bin/python3", "-m", "pytest", "-q", "-p", "no:cacheprovider")
 
 

@@ -15,7 +15,7 @@ DRAWN = ("read_dialog", "read_alert", "read_items", "read_control", "read_menu",
 NEVER_SHOWN = "styl"  # it is shown in its TEXT
 
 
-@pytest.mark.parametrize("which, forks, names", (("look", 2000, SHOWN), ("draw", 700, DRAWN)))
+@pytest.mark.parametrize("which, forks, names", (("look", 1300, SHOWN), ("draw", 700, DRAWN)))
 def test_forks_whose_resources_are_damaged(which, forks, names):
     status, output, messages = run(sys.executable, os.path.join(WORKBENCH, "tests", "many_albums.py"), which, str(forks), seconds=1800)
     first, *lines = output.decode().splitlines()
