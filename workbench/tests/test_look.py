@@ -17,6 +17,7 @@ from pages import Page
 Image = pytest.importorskip("PIL.Image")
 
 from rezkit_workbench import album, facts, look, writing  # noqa: E402
+from rezkit_workbench.palettes import STANDARD  # noqa: E402
 from rezkit_workbench.reading import Shown  # noqa: E402
 
 # An icon with a black frame of one pixel, in a mask that leaves out its lowest row.
@@ -106,6 +107,20 @@ def test_what_the_files_of_an_album_have(tmp_path):
     text = read(str(tmp_path / "album" / "1-TEXT-1.html")).decode("utf-8")
     found = Page(text.replace("<body>", "<body><main>").replace("</body>", "</main></body>"))
     assert found.faults == [] and "Caf\u00e9 <b> & more" in "".join(found.texts) and "'TEXT' 1 \"Read me\"" in found.texts
+
+
+@pytest.mark.parametrize("side, kind", ((32, "icl8"), (16, "ics8")))
+def test_the_pixels_of_a_picture_come_back_by_a_source_a_fork_and_an_album(tmp_path, side, kind):
+    pixels = [STANDARD[8][(7 * number + 3) % 256] + (0 if number % 5 == 4 else 255,) for number in range(side * side)]
+    with Image.new("RGBA", (side, side)) as picture:
+        picture.putdata(pixels)
+        picture.save(str(tmp_path / "icon.png"))
+    assert run("rezkit-icons", "icon.png", "128", "-o", "icons.r", folder=str(tmp_path))[0] == 0
+    rezkit("rez", "icons.r", "-o", "icons", folder=str(tmp_path))
+    looked(tmp_path, "icons")
+    with Image.open(str(tmp_path / "album" / ("1-%s-128.png" % kind))) as icon:
+        back = list(icon.convert("RGBA").getdata())
+    assert [pixel if pixel[3] else CLEAR for pixel in back] == [pixel if pixel[3] else CLEAR for pixel in pixels]
 
 
 def test_the_contents_lead_to_each_file_and_type(tmp_path):
