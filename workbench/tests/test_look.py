@@ -286,10 +286,11 @@ def test_without_pillow_nothing_is_made(tmp_path):
 
 
 def test_a_break_leaves_nothing(tmp_path):
-    """The program waits for a pipe when it is broken off."""
+    """The program waits for a pipe when it is broken off. Where the tests run in the background, it would else pass over SIGINT."""
     os.mkfifo(str(tmp_path / "pipe"))
     write(tmp_path, "fork", FORK)
-    running = subprocess.Popen([os.path.join(WORKBENCH, "rezkit-look"), "fork", "pipe", "-o", "album"], cwd=str(tmp_path), stderr=subprocess.PIPE)
+    running = subprocess.Popen([os.path.join(WORKBENCH, "rezkit-look"), "fork", "pipe", "-o", "album"], cwd=str(tmp_path),
+                               stderr=subprocess.PIPE, preexec_fn=lambda: signal.signal(signal.SIGINT, signal.default_int_handler))
     pipe = os.open(str(tmp_path / "pipe"), os.O_WRONLY)  # waits until the program opens it
     made = [name for name in names_in(tmp_path) if name.startswith(".rezkit-")]
     running.send_signal(signal.SIGINT)
