@@ -27,16 +27,22 @@ pub fn show_fork(alloc: Global, call: &str, came: &mut Text) {
 
 /// The fork of one resource.
 fn fork_of_one(alloc: Global) -> Option<Bytes> {
-    let mut list = Resources::new(alloc);
+    let name = Bytes::of(alloc, b"ab").ok()?;
     let resource = Resource {
         kind: OsType { code: 0x5465_7374 },
         id: -1,
-        name: Bytes::of(alloc, b"ab").ok()?,
+        name,
         attr: Attr::of(0x81),
         bytes: Bytes::new(alloc),
     };
-    list.push(resource).ok()?;
-    write_fork(alloc, &list, 0x0080, b"rez").ok()
+    let mut list = Resources::new(alloc);
+    if list.push(resource).is_err() {
+        drop(list);
+        return None;
+    }
+    let fork = write_fork(alloc, &list, 0x0080, b"rez").ok();
+    drop(list);
+    fork
 }
 
 /// Whether names, attributes and reserved bytes are as they are to be written.
@@ -86,12 +92,19 @@ fn is_one(one: &ResView<'_>) -> bool {
 /// Whether the copy holds that resource alone.
 fn is_copied(alloc: Global, view: &ForkView<'_>) -> bool {
     match view.copy_all(alloc) {
-        Ok(list) => match list.as_slice() {
-            [one] => one.id == -1
-                && one.attr.byte() == 0x81
-                && one.name.as_slice() == b"ab".as_slice(),
-            _ => false,
-        },
+        Ok(list) => {
+            let is_right = is_one_alone(list.as_slice());
+            drop(list);
+            is_right
+        }
         Err(_) => false,
+    }
+}
+
+/// Whether these are that resource alone.
+fn is_one_alone(list: &[Resource]) -> bool {
+    match list {
+        [one] => one.id == -1 && one.attr.byte() == 0x81 && one.name.as_slice() == b"ab".as_slice(),
+        _ => false,
     }
 }
