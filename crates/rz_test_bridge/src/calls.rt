@@ -47,16 +47,8 @@ pub fn show_call(rt: &(impl Abort + AllocGlobal), call: Call, text: &str, came: 
         Call::Found => show_found(rt, text, came),
         Call::DataFile => show_data_file(rt, text, came),
         Call::LastName => came.put(last_name(text).as_bytes()),
-        Call::Written(form) => {
-            let file = file_of(rt, text);
-            show_written(rt.alloc(), form, &file, came);
-            drop(file);
-        }
-        Call::Again(form) => {
-            let file = file_of(rt, text);
-            show_again(rt.alloc(), form, &file, came);
-            drop(file);
-        }
+        Call::Written(form) => show_written(rt.alloc(), form, &file_of(rt, text), came),
+        Call::Again(form) => show_again(rt.alloc(), form, &file_of(rt, text), came),
         Call::Read(form) => show_read(rt, form, text, true, came),
         Call::Told(form) => show_read(rt, form, text, false, came),
     }
@@ -138,9 +130,7 @@ fn show_again(alloc: Global, form: Form, file: &MacFile, came: &mut Text) {
             came.put(b" ");
             came.number(bytes.len());
             came.put(b" ");
-            let read = read(alloc, form, bytes.as_slice(), file.data_fork.as_slice());
-            drop(bytes);
-            match read {
+            match read(alloc, form, bytes.as_slice(), file.data_fork.as_slice()) {
                 Ok(file) => {
                     show_file(alloc, form, &file, came);
                     drop(file);
@@ -170,10 +160,7 @@ fn bytes_in(rt: &(impl Abort + AllocGlobal), form: Form, text: &str) -> Bytes {
         Form::BinHex => in_letters(rt, text),
         Form::MacBinary | Form::AppleDouble | Form::AppleSingle => {
             let (file, edits) = text.split_once(' ').unwrap_or((text, ""));
-            let file = file_of(rt, file);
-            let written = write_form(rt.alloc(), form, &file);
-            drop(file);
-            match written {
+            match write_form(rt.alloc(), form, &file_of(rt, file)) {
                 Ok(bytes) => edited(rt, bytes, edits),
                 Err(_) => panic!(rt; "a file that can't be written"),
             }
@@ -203,9 +190,7 @@ fn show_read(
     came: &mut Text,
 ) {
     let bytes = bytes_in(rt, form, text);
-    let read = read(rt.alloc(), form, bytes.as_slice(), b"data");
-    drop(bytes);
-    match read {
+    match read(rt.alloc(), form, bytes.as_slice(), b"data") {
         Ok(file) => {
             if is_shown {
                 show_file(rt.alloc(), form, &file, came);

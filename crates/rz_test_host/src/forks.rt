@@ -27,22 +27,16 @@ pub fn show_fork(alloc: Global, call: &str, came: &mut Text) {
 
 /// The fork of one resource.
 fn fork_of_one(alloc: Global) -> Option<Bytes> {
-    let name = Bytes::of(alloc, b"ab").ok()?;
+    let mut list = Resources::new(alloc);
     let resource = Resource {
         kind: OsType { code: 0x5465_7374 },
         id: -1,
-        name,
+        name: Bytes::of(alloc, b"ab").ok()?,
         attr: Attr::of(0x81),
         bytes: Bytes::new(alloc),
     };
-    let mut list = Resources::new(alloc);
-    if list.push(resource).is_err() {
-        drop(list);
-        return None;
-    }
-    let fork = write_fork(alloc, &list, 0x0080, b"rez").ok();
-    drop(list);
-    fork
+    list.push(resource).ok()?;
+    write_fork(alloc, &list, 0x0080, b"rez").ok()
 }
 
 /// Whether names, attributes and reserved bytes are as they are to be written.
@@ -92,19 +86,12 @@ fn is_one(one: &ResView<'_>) -> bool {
 /// Whether the copy holds that resource alone.
 fn is_copied(alloc: Global, view: &ForkView<'_>) -> bool {
     match view.copy_all(alloc) {
-        Ok(list) => {
-            let is_right = is_one_alone(list.as_slice());
-            drop(list);
-            is_right
-        }
+        Ok(list) => match list.as_slice() {
+            [one] => one.id == -1
+                && one.attr.byte() == 0x81
+                && one.name.as_slice() == b"ab".as_slice(),
+            _ => false,
+        },
         Err(_) => false,
-    }
-}
-
-/// Whether these are that resource alone.
-fn is_one_alone(list: &[Resource]) -> bool {
-    match list {
-        [one] => one.id == -1 && one.attr.byte() == 0x81 && one.name.as_slice() == b"ab".as_slice(),
-        _ => false,
     }
 }

@@ -72,7 +72,6 @@ fn show_stream(rt: HostRuntime, piece: &str, came: &mut Text) {
     show_put(&mut sink, piece, came);
     came.put(b" ");
     came.number(sink.faults());
-    drop(sink);
 }
 
 /// Shows what a piece gives.
@@ -107,9 +106,7 @@ fn show_text(alloc: Global, pieces: &str, came: &mut Text) {
     came.put(b" ");
     came.number(sink.faults());
     came.put(b" ");
-    let bytes = sink.into_bytes();
-    show_bytes(bytes.as_slice(), came);
-    drop(bytes);
+    show_bytes(sink.into_bytes().as_slice(), came);
 }
 
 /// A number of a call.
@@ -179,10 +176,7 @@ pub fn show_folder<F: Folder>(alloc: Global, folder: &mut F, call: &str, came: &
     match in_two(call) {
         ("write", rest) => show_write(folder, rest, came),
         ("read", name) => match folder.read(alloc, name) {
-            Read::Bytes(bytes) => {
-                show_bytes(bytes.as_slice(), came);
-                drop(bytes);
-            }
+            Read::Bytes(bytes) => show_bytes(bytes.as_slice(), came),
             Read::Missing => came.put(b"Missing"),
             Read::Failed => came.put(b"Failed"),
             Read::NoMemory => came.put(b"NoMemory"),
@@ -240,7 +234,6 @@ fn show_failing(runtime: HostRuntime, call: &str, came: &mut Text) {
     show_folder(runtime.alloc(), &mut folder, call, came);
     came.put(b" ");
     show_folder(runtime.alloc(), &mut folder, "faults", came);
-    drop(folder);
 }
 
 /// The error of a name.

@@ -101,7 +101,6 @@ fn show_calls<W: Write + Drop>(
     }
     came.put(b": ");
     came.number(sink.faults());
-    drop(sink);
 }
 
 /// Shows how many bytes the file has, and the first of them, and removes it.

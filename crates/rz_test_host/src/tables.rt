@@ -2,7 +2,7 @@
 
 use crate::steps::{World, show_call};
 use crate::{memory, replaced, streams};
-use rz_test_tables::{Case, CaseFault, Text, add_if_wrong, cases_of, expanded};
+use rz_test_tables::{CaseFault, Text, add_if_wrong, cases_of, expanded};
 
 /// All tables.
 fn tables() -> [&'static str; 14] {
@@ -27,30 +27,13 @@ fn tables() -> [&'static str; 14] {
 /// Makes the calls of a table in turn, and adds those that come out otherwise, each with what came.
 fn add_wrong(rt: HostRuntime, table: &str, wrong: &mut String) -> Result<(), CaseFault> {
     let mut world = World::new(rt);
-    let added = add_cases(&mut world, table, wrong);
-    drop(world);
-    added
-}
-
-/// Makes the calls of a table in turn on this world, and adds those that come out otherwise.
-fn add_cases(world: &mut World, table: &str, wrong: &mut String) -> Result<(), CaseFault> {
-    let cases = cases_of(world.rt.alloc(), table, "#")?;
-    for case in &cases {
-        add_case(world, case, wrong)?;
+    for case in &cases_of(rt.alloc(), table, "#")? {
+        let text = expanded(rt.alloc(), case.text)?;
+        let mut came = Text::new(rt.alloc());
+        show_call(&mut world, &text, &mut came);
+        add_if_wrong(case.line, case.wanted.as_bytes(), came.as_slice(), wrong)?;
     }
     Ok(())
-}
-
-/// Makes the call of a case on this world, and adds it with what came, if that is otherwise.
-fn add_case(world: &mut World, case: &Case<'_>, wrong: &mut String) -> Result<(), CaseFault> {
-    let alloc = world.rt.alloc();
-    let text = expanded(alloc, case.text)?;
-    let mut came = Text::new(alloc);
-    show_call(world, &text, &mut came);
-    drop(text);
-    let added = add_if_wrong(case.line, case.wanted.as_bytes(), came.as_slice(), wrong);
-    drop(came);
-    added
 }
 
 /// All calls that come out otherwise.

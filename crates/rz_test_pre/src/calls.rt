@@ -87,10 +87,7 @@ fn line_of_word(token: &Token) -> Option<u32> {
 /// Shows the names that are macros at the end of a program, or `refused`.
 fn show_macros(rt: &(impl Abort + AllocGlobal), text: &str, came: &mut Text) {
     match Asked::of_case(rt, "", text).answer() {
-        Ok(program) => {
-            show_names(rt, &program.macros, came);
-            drop(program);
-        }
+        Ok(program) => show_names(rt, &program.macros, came),
         Err(_) => came.put(b"refused"),
     }
 }
@@ -104,7 +101,6 @@ fn show_file(rt: &(impl Abort + AllocGlobal), text: &str, came: &mut Text) {
         Some(bytes) => show_roman(rt, bytes, came),
         None => came.fail(),
     }
-    drop(asked);
 }
 
 /// Shows what a file means whose first line brings the macros, whose second is an `#if` with this condition, and that has
@@ -121,7 +117,6 @@ fn show_decision(rt: &(impl Abort + AllocGlobal), tool: Tool, condition: &str, c
     asked.insert(rt, "macros", MACROS.as_bytes());
     let mut meaning = Text::new(rt.alloc());
     show_meaning(rt, &mut asked, &mut meaning);
-    drop(asked);
     let decision = meaning
         .as_slice()
         .strip_suffix(b" in main macros".as_slice());

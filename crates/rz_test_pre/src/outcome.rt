@@ -19,18 +19,15 @@ pub fn show_answer(
             Program {
                 files,
                 tokens,
-                macros,
+                macros: _,
             },
         ) => {
-            drop(macros);
             show_tokens(rt.alloc(), tokens, came);
             show_files(&files, came);
-            drop(files);
         }
         Err(Halt::Refused(failure)) => {
             show_fault(rt, &failure.fault, came);
             show_files(&failure.files, came);
-            drop(failure);
         }
         Err(Halt::ReadFault) => came.put(b"read fault"),
         Err(Halt::NoMemory) => came.put(b"no memory"),

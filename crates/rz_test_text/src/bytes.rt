@@ -60,8 +60,6 @@ fn add_byte(rt: &(impl Abort + AllocGlobal), byte: u8, wrong: &mut String) {
     show_quoted(rt.alloc(), byte, &mut wanted, &mut came);
     show_escaped(rt.alloc(), byte, &mut wanted, &mut came);
     add_if_wrong("a byte", wanted.as_slice(), came.as_slice(), wrong).expect(rt, "memory");
-    drop(wanted);
-    drop(came);
 }
 
 /// Adds each byte that comes out otherwise.

@@ -34,7 +34,6 @@ pub fn show_shown(rt: &(impl Abort + AllocGlobal), text: &str, came: &mut Text) 
     shown.push(b' ').expect(rt, "memory");
     write_shown(byte, b'\'', &mut shown).expect(rt, "memory");
     came.put(shown.as_slice());
-    drop(shown);
 }
 
 /// Shows bytes between quote marks.
@@ -47,7 +46,6 @@ pub fn show_between(rt: &(impl Abort + AllocGlobal), text: &str, came: &mut Text
     came.quoted(bytes.as_slice(), b'"');
     came.put(b" ");
     came.quoted(bytes.as_slice(), b'\'');
-    drop(bytes);
 }
 
 /// Shows how many words and files there are after those of a text were added, and all their bytes.
@@ -63,7 +61,6 @@ pub fn show_lists(rt: &(impl Abort + AllocGlobal), text: &str, came: &mut Text) 
     for word in &words {
         came.put(word.bytes.as_slice());
     }
-    drop(words);
 }
 
 /// How many files there are after the names of a text were added.
@@ -72,9 +69,7 @@ fn files_of(rt: &(impl Abort + AllocGlobal), text: &str) -> u64 {
     for name in text.split(' ') {
         names.push(name).expect(rt, "memory");
     }
-    let count = names.len();
-    drop(names);
-    count
+    names.len()
 }
 
 /// The names of a text as words.

@@ -121,19 +121,15 @@ pub fn show_message(rt: &(impl Abort + AllocGlobal), text: &str, came: &mut Text
     let (number, rest) = text.split_once(' ').unwrap_or((text, "- nothing"));
     let (mark, kept) = in_two(rt, rest);
     let number = number.parse::<u16>().expect(rt, "a number");
-    let mark = mark_of(rt, mark);
+    let (mark, kept) = (mark_of(rt, mark), kept_of(rt, kept));
     let files = two_files(rt);
     if !is_in_table(number) || mark.is_some_and(|mark| mark.file >= files.len()) {
         panic!(rt; "no case");
     }
-    let kept = kept_of(rt, kept);
     let fault = Fault { number, mark, kept };
     let mut message = Bytes::new(rt.alloc());
     write_fault(&fault, &files, &mut message).expect(rt, "memory");
-    drop(fault);
-    drop(files);
     came.put(message.as_slice());
-    drop(message);
 }
 
 /// The files that marks name.

@@ -15,14 +15,8 @@ pub fn show_outcome(alloc: Global, text: &[u8], came: &mut Text) {
         return;
     }
     match lex(alloc, text, 0) {
-        Ok(tokens) => {
-            show_tokens(&tokens, came);
-            drop(tokens);
-        }
-        Err(Stop::Refused(fault)) => {
-            show_fault(&fault, came);
-            drop(fault);
-        }
+        Ok(tokens) => show_tokens(&tokens, came),
+        Err(Stop::Refused(fault)) => show_fault(&fault, came),
         Err(Stop::NoMemory) => came.fail(),
     }
 }

@@ -34,8 +34,6 @@ fn add_pair(rt: &(impl Abort + AllocGlobal), signs: &[Case<'_>], pair: &str, wro
     show_signs(signs, pair.as_bytes(), &mut wanted);
     show_outcome(rt.alloc(), pair.as_bytes(), &mut came);
     add_if_wrong(pair, wanted.as_slice(), came.as_slice(), wrong).expect(rt, "memory");
-    drop(wanted);
-    drop(came);
 }
 
 /// Adds each pair of signs that comes out otherwise.

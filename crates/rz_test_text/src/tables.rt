@@ -68,7 +68,6 @@ fn add_case(rt: &(impl Abort + AllocGlobal), call: Call, case: &Case<'_>, wrong:
     let mut came = Text::new(rt.alloc());
     show_call(rt, call, text.as_str(), &mut came);
     add_if_wrong(case.line, wanted.as_bytes(), came.as_slice(), wrong).expect(rt, "memory");
-    drop(came);
 }
 
 /// Adds the cases of a table that come out otherwise. A line that begins with `#` says what is tried.

@@ -39,33 +39,19 @@ pub fn show_lines(alloc: Global, text: &[u8], came: &mut Text) {
         }
     }
     show_next(alloc, &mut lexer, came);
-    drop(lexer);
 }
 
 /// Asks for the next line, shows what comes, and says whether it is a line.
 fn show_next(alloc: Global, lexer: &mut Lexer, came: &mut Text) -> bool {
-    let is_line = match lexer.next(alloc) {
-        Ok(Some(line)) => {
-            show_taken(alloc, &line, came);
-            drop(line);
-            true
-        }
-        Ok(None) => {
-            came.put(b"end");
-            false
-        }
-        Err(Stop::Refused(fault)) => {
-            show_fault(&fault, came);
-            drop(fault);
-            false
-        }
-        Err(Stop::NoMemory) => {
-            came.fail();
-            false
-        }
-    };
+    let answer = lexer.next(alloc);
+    match &answer {
+        Ok(Some(line)) => show_taken(alloc, line, came),
+        Ok(None) => came.put(b"end"),
+        Err(Stop::Refused(fault)) => show_fault(fault, came),
+        Err(Stop::NoMemory) => came.fail(),
+    }
     came.put(b" ");
-    is_line
+    matches!(answer, Ok(Some(_)))
 }
 
 /// Shows a line and its tokens.
@@ -90,7 +76,6 @@ fn show_cut(alloc: Global, line: &RawLine, came: &mut Text) {
                 }
             }
             show_tokens(&tokens, came);
-            drop(tokens);
         }
         Err(_) => came.fail(),
     }

@@ -70,28 +70,16 @@ fn show_call(rt: &(impl Abort + AllocGlobal), call: Call, text: &str, came: &mut
 
 /// Shows how many entries words say.
 fn show_entries(rt: &(impl Abort + AllocGlobal), words: &str, came: &mut Text) {
-    let bytes = bytes_of(rt, words);
-    let counted = entries(rt.alloc(), bytes.as_slice());
-    drop(bytes);
-    match counted {
-        Ok(entries) => {
-            came.number(entries.len());
-            drop(entries);
-        }
+    match entries(rt.alloc(), bytes_of(rt, words).as_slice()) {
+        Ok(entries) => came.number(entries.len()),
         Err(stop) => show_fault(stop, came),
     }
 }
 
 /// Shows the fields of the template of the entries that words say.
 fn show_template(rt: &(impl Abort + AllocGlobal), words: &str, came: &mut Text) {
-    let bytes = bytes_of(rt, words);
-    let made = template_of(rt.alloc(), bytes.as_slice());
-    drop(bytes);
-    match made {
-        Ok(template) => {
-            show_fields(rt.alloc(), template.body().as_slice(), came);
-            drop(template);
-        }
+    match template_of(rt.alloc(), bytes_of(rt, words).as_slice()) {
+        Ok(template) => show_fields(rt.alloc(), template.body().as_slice(), came),
         Err(stop) => show_fault(stop, came),
     }
 }
@@ -116,16 +104,8 @@ fn show_read(rt: &(impl Abort + AllocGlobal), text: &str, came: &mut Text) {
     let tmpl = bytes_of(rt, words);
     let mut bytes = Bytes::new(rt.alloc());
     append_digits(rt, digits, &mut bytes);
-    let facts = facts_of(rt);
-    let read = tmpl_read(rt.alloc(), tmpl.as_slice(), bytes.as_slice(), &facts);
-    drop(facts);
-    drop(bytes);
-    drop(tmpl);
-    match read {
-        Ok(Reading::Tree(row)) => {
-            show_row(rt.alloc(), row.as_slice(), came);
-            drop(row);
-        }
+    match tmpl_read(rt.alloc(), tmpl.as_slice(), bytes.as_slice(), &facts_of(rt)) {
+        Ok(Reading::Tree(row)) => show_row(rt.alloc(), row.as_slice(), came),
         Ok(Reading::NoTree) => came.put(b"none"),
         Err(stop) => show_fault(stop, came),
     }
