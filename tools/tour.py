@@ -151,7 +151,9 @@ def walk_examples(program):
 def main():
     arguments = [argument for argument in sys.argv[1:] if argument != "--write"]
     program = os.path.abspath(arguments[0] if arguments else program_to_run())
-    sums = [walk(documents, program, "--write" in sys.argv[1:]) for documents in WALKS] + [walk_examples(program)]
+    with tempfile.TemporaryDirectory(prefix="rezkit-home-") as home:
+        os.environ["HOME"] = home  # some tools keep files there
+        sums = [walk(documents, program, "--write" in sys.argv[1:]) for documents in WALKS] + [walk_examples(program)]
     count, wrong, skipped = (sum(column) for column in zip(*sums))
     print("%d commands, %d print something else, %d skipped%s" % (count, wrong, skipped, missing_tools()))
     sys.exit(1 if wrong else 0)
