@@ -179,8 +179,31 @@ fn written_as(alloc: Global, words: &BridgeWords<'_>, file: MacFile) -> Result<W
     ensures nameable { (files : ℕ) → OnFault result (IsNameable files) }
 {
     let file = named(alloc, words.to, words.output, file)?;
-    let bytes = write_as(alloc, words.to, &file)?;
-    Ok(listed(alloc, words, file, bytes)?)
+    match words.to {
+        Form::Raw => Ok(raw_alone(alloc, words, file)?),
+        form => {
+            let bytes = write_as(alloc, form, &file)?;
+            Ok(listed(alloc, words, file, bytes)?)
+        }
+    }
+}
+
+/// The write of a raw file, which is the resource fork itself.
+fn raw_alone(
+    alloc: Global,
+    words: &BridgeWords<'_>,
+    file: MacFile,
+) -> Result<Writes, NoMemory>
+    requires short { length file.res_fork < 2 ^ 32 }
+    requires raw { words.now.to ≡ Form.Raw }
+    ensures writes { IfOk result (λ writes. AreWrites (bridge words.now) file file.res_fork (map write_of writes)) }
+    ensures writable { IfOk result (λ writes. AreWritable (map write_of writes)) }
+{
+    let bytes = res_fork_of(file);
+    let name = words.output.to_string(alloc)?;
+    let mut writes = Writes::new(alloc);
+    writes.push(Write { name, bytes })?;
+    Ok(writes)
 }
 
 /// The writes of a file and of the bytes of its form: of AppleDouble the data file comes first, where the data fork isn't
@@ -214,6 +237,21 @@ fn listed(
     writes.push(data_file)?;
     writes.push(header)?;
     Ok(writes)
+}
+
+/// The resource fork of a file of which nothing else is needed.
+fn res_fork_of(file: MacFile) -> Bytes
+    ensures { result ≡ file.res_fork }
+{
+    let MacFile {
+        name,
+        data_fork,
+        res_fork,
+        ..
+    } = file;
+    drop(name);
+    drop(data_fork);
+    res_fork
 }
 
 /// The data fork of a file of which nothing else is needed.
