@@ -4,15 +4,15 @@
 ghost use Rattle.std.specs.Prelude.{◌≡◌, [], ◌∷◌, ◌++◌, option_map};
 ghost use Rattle.rz_lex.specs.declared.sign.Sign.TheVariants.{CloseBrace, Semicolon};
 ghost use Rattle.rz_show_lines.specs.Cut.{cut};
-ghost use Rattle.rz_show.specs.Head.{head_front};
+ghost use Rattle.rz_show.specs.Head.{head_end};
+ghost use Rattle.rz_show_lines.specs.Head.{head_front};
 ghost use Rattle.rz_show.specs.Lines.{comma_if, end_if, named, opening};
 ghost use Rattle.rz_show_lines.specs.Print.{margin, piece_written, single_written};
 ghost use Rattle.rz_show_lines.specs.Single.{single_of};
 ghost use Rattle.rz_show_lines.specs.Written.{a_sign, as_line, line_text};
 
-use crate::head::{head_end, head_front};
 use rz_core::Facts;
-use rz_show_lines::{Line, PIECE, Single};
+use rz_show_lines::{Line, PIECE, Single, attributes, head_front};
 
 /// A line after its margin.
 fn at(depth: u8, line: &mut Line)
@@ -120,6 +120,15 @@ fn head_name(name: &[u8], attr: u8, line: &mut Line)
     } else {
         line.push(b',');
     }
+}
+
+/// Writes the attributes, and after a parenthesis the brace that the items stand in.
+#[tactic(auto, using(crate::proofs::Forms::forms), unfolding(crate::specs::Head::head_end))]
+fn head_end(attr: u8, line: &mut Line)
+    ensures { line.new ≡ cut (line.old ++ line_text (head_end attr)) }
+{
+    attributes(attr, line);
+    line.append(b") {");
 }
 
 /// Writes the end of a head, where it stands there.

@@ -1,17 +1,17 @@
-//! The line that begins a statement: type, id and attributes; changes with `specs/Head`.
-#![tactic(auto, using(rz_show_lines::proofs::Writes::writes))]
+//! The parts of a header: its word, type and id, and its attributes; changes with `specs/Head`.
+#![tactic(auto, using(crate::proofs::Writes::writes))]
 
 ghost use Rattle.std.specs.Prelude.{◌≡◌, ◌==◌, ◌++◌, ◌/◌, ◌%◌};
 ghost use Rattle.rz_show_lines.specs.Cut.{cut};
-ghost use Rattle.rz_show.specs.Head.{attr_written, head_end, head_front, word_written};
+ghost use Rattle.rz_show_lines.specs.Head.{attr_written, head_front, word_written};
 ghost use Rattle.rz_show_lines.specs.Written.{line_text};
 ghost use Rattle.rz_words.specs.declared.attribute.Attribute.TheVariants.{Changed, Locked, Preload, Protected, Purgeable, SystemHeap};
 
-use rz_show_lines::Line;
+use crate::Line;
 use rz_words::{Attribute, bit_of, setting_word};
 
-/// Writes the word of a statement, a type as a literal, and after a parenthesis an id in decimal.
-#[tactic(auto, using(rz_show_lines::proofs::Writes::writes), unfolding(crate::specs::Head::head_front))]
+/// Writes a word, a type as a literal, and after a parenthesis an id in decimal. (MPW Rez.)
+#[tactic(auto, using(crate::proofs::Writes::writes), unfolding(crate::specs::Head::head_front))]
 pub fn head_front(word: &[u8], code: u32, id: i16, line: &mut Line)
     ensures { line.new ≡ cut (line.old ++ line_text (head_front word.now code id)) }
 {
@@ -22,17 +22,9 @@ pub fn head_front(word: &[u8], code: u32, id: i16, line: &mut Line)
     line.decimal(i64::from(id));
 }
 
-/// Writes the attributes, and after a parenthesis the brace that the items stand in.
-#[tactic(auto, using(rz_show_lines::proofs::Writes::writes), unfolding(crate::specs::Head::head_end))]
-pub fn head_end(attr: u8, line: &mut Line)
-    ensures { line.new ≡ cut (line.old ++ line_text (head_end attr)) }
-{
-    attributes(attr, line);
-    line.append(b") {");
-}
-
 /// Writes the attributes, where there are any: by words, or as a number where the bit 80 or 01 is set, which have no word.
-fn attributes(attr: u8, line: &mut Line)
+/// (MPW Rez.)
+pub fn attributes(attr: u8, line: &mut Line)
     ensures { line.new ≡ cut (line.old ++ line_text (attr_written attr)) }
 {
     if attr == 0 {
