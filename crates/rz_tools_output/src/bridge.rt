@@ -189,11 +189,7 @@ fn written_as(alloc: Global, words: &BridgeWords<'_>, file: MacFile) -> Result<W
 }
 
 /// The write of a raw file, which is the resource fork itself.
-fn raw_alone(
-    alloc: Global,
-    words: &BridgeWords<'_>,
-    file: MacFile,
-) -> Result<Writes, NoMemory>
+fn raw_alone(alloc: Global, words: &BridgeWords<'_>, file: MacFile) -> Result<Writes, NoMemory>
     requires short { length file.res_fork < 2 ^ 32 }
     requires raw { words.now.to ≡ Form.Raw }
     ensures writes { IfOk result (λ writes. AreWrites (bridge words.now) file file.res_fork (map write_of writes)) }
