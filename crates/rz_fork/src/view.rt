@@ -11,7 +11,9 @@ ghost use Rattle.rz_fork.specs.View.{lent, GivesFirst};
 use crate::admit::{admit, entry_of, reference_of};
 use crate::fault::ForkFault;
 use crate::layout::{Header, Outline, Reference, TypeEntry};
+use crate::map_attributes::MapAttributes;
 use crate::read::{attributes_of, data_of, name_of, reserved_of};
+use bitflags::Flags;
 use rz_core::{Attr, Bytes, NoMemory, OsType, Resource, Resources};
 use std::alloc::Global;
 use std::marker::Model;
@@ -112,16 +114,15 @@ impl<'a> ForkView<'a> {
         self.count
     }
 
-    /// The attributes of the map. The bits 0x80 (read only), 0x40 (compact) and 0x20 (changed) have a
-    /// meaning; all 16 are kept.
+    /// The attributes of the map.
     #[tactic(auto, unfolding(crate::specs::Contents::contents))]
-    pub fn attributes(&self) -> u16
+    pub fn attributes(&self) -> MapAttributes
         ensures { result ≡ self.now.attributes }
     {
         if self.bytes.is_empty() {
-            return 0;
+            return MapAttributes::empty();
         }
-        attributes_of(self.bytes, self.outline.header)
+        MapAttributes::from_bits_retain(attributes_of(self.bytes, self.outline.header))
     }
 
     /// The 240 bytes after the header, or as many of them as stand before the data area, the map and the
