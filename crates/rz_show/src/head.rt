@@ -7,6 +7,8 @@ ghost use Rattle.rz_show.specs.Head.{attr_written, head_end, head_front, word_wr
 ghost use Rattle.rz_show_lines.specs.Written.{line_text};
 ghost use Rattle.rz_words.specs.declared.attribute.Attribute.TheVariants.{Changed, Locked, Preload, Protected, Purgeable, SystemHeap};
 
+use bitflags::Flags;
+use rz_core::Attr;
 use rz_show_lines::Line;
 use rz_words::{Attribute, bit_of, setting_word};
 
@@ -24,7 +26,7 @@ pub fn head_front(word: &[u8], code: u32, id: i16, line: &mut Line)
 
 /// Writes the attributes, and after a parenthesis the brace that the items stand in.
 #[tactic(auto, using(rz_show_lines::proofs::Writes::writes), unfolding(crate::specs::Head::head_end))]
-pub fn head_end(attr: u8, line: &mut Line)
+pub fn head_end(attr: Attr, line: &mut Line)
     ensures { line.new ≡ cut (line.old ++ line_text (head_end attr)) }
 {
     attributes(attr, line);
@@ -32,21 +34,22 @@ pub fn head_end(attr: u8, line: &mut Line)
 }
 
 /// Writes the attributes, where there are any: by words, or as a number where the bit 80 or 01 is set, which have no word.
-fn attributes(attr: u8, line: &mut Line)
+#[tactic(auto, using(rz_show_lines::proofs::Writes::writes, rz_core::proofs::OneBit::has_unnamed))]
+fn attributes(attr: Attr, line: &mut Line)
     ensures { line.new ≡ cut (line.old ++ line_text (attr_written attr)) }
 {
-    if attr == 0 {
+    if attr.is_empty() {
         line.append(b"");
-    } else if attr >= 0x80 || attr % 2 == 1 {
+    } else if !Attr::NAMED.contains(attr) {
         line.append(b", $");
-        line.hex_byte(attr);
+        line.hex_byte(attr.byte());
     } else {
         words(attr, line);
     }
 }
 
 /// Writes the words of the attributes that are set.
-fn words(attr: u8, line: &mut Line)
+fn words(attr: Attr, line: &mut Line)
     ensures { line.new ≡ cut (line.old ++ line_text (word_written attr SystemHeap ++ word_written attr Purgeable ++ word_written attr Locked ++ word_written attr Protected ++ word_written attr Preload ++ word_written attr Changed)) }
 {
     word(attr, Attribute::SystemHeap, line);
@@ -58,10 +61,11 @@ fn words(attr: u8, line: &mut Line)
 }
 
 /// Writes the word of an attribute, where its bit is set.
-fn word(attr: u8, attribute: Attribute, line: &mut Line)
+#[tactic(auto, using(rz_show_lines::proofs::Writes::writes, rz_words::proofs::Bits::is_set))]
+fn word(attr: Attr, attribute: Attribute, line: &mut Line)
     ensures { line.new ≡ cut (line.old ++ line_text (word_written attr attribute)) }
 {
-    if attr / bit_of(attribute) % 2 == 1 {
+    if attr.contains(bit_of(attribute)) {
         line.append(b", ");
         line.append(setting_word(attribute));
     } else {
