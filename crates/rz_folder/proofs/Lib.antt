@@ -2,4 +2,5 @@ pub mod Search
 pub mod Store
 pub mod Reading
 pub mod FolderPart
-pub mod Fronts
+pub mod Streams
+pub mod Held

@@ -81,7 +81,7 @@ impl<W: Write + Drop> RealSink<W> {
 }
 
 impl<W: Write + Drop> Sink for RealSink<W> {
-    ghost written = { λ _. None };
+    ghost stream = { λ _. None };
 
     ghost faults = { λ faults. faults };
 

@@ -1,6 +1,7 @@
 //! A folder and a stream in memory that count their calls; the folder also keeps the names of the files that are written.
 
 ghost use Rattle.std.specs.Prelude.{Some};
+ghost use Rattle.rz_folder.specs.Sink.{all_out};
 
 use rz_folder::{Folder, MemFolder, MemSink, Put, Read, Sink, Written};
 use std::alloc::Global;
@@ -83,7 +84,7 @@ impl WatchedSink {
 }
 
 impl Sink for WatchedSink {
-    ghost written = { λ watched. Some watched.sink.written };
+    ghost stream = { λ watched. Some (all_out watched.sink.written) };
 
     ghost faults = { λ watched. watched.sink.faults };
 

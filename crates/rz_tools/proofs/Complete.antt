@@ -2,9 +2,10 @@
 use Rattle.std.proofs.Common.{◌≡◌, ◌⊎◌, inl, inr, ℕ, List, [], ◌++◌, Some, None, refl, sym, ap, subst, ◌∙◌}
 use Rattle.std.specs.Prelude.{IfSome}
 use Rattle.std.specs.declared.option.Option.{Option}
-use Rattle.std.proofs.lemmas.List.{append-nil}
 use Rattle.rz_core.specs.declared.moment.Moment.{Moment}
 use Rattle.rz_folder.specs.Folder.{Files}
+use Rattle.rz_folder.specs.Sink.{IsOut, Stream, Told}
+use Rattle.rz_tools_answer.proofs.Said.{out_so_far}
 use Rattle.rz_tools_answer.specs.Answer.{files_after, Answer, Write}
 use Rattle.rz_tools_answer.specs.Carried.{CarriesOut, EndsWith, IsAnswered, IsUnhindered, IsUntouched}
 use Rattle.rz_tools_answer.specs.WellFormed.{FitsOutcome, IsWellFormed}
@@ -23,10 +24,8 @@ none_written : (files left : Option Files) (writes : List Write) → writes ≡ 
 none_written None left writes none same = tt
 none_written (Some files) left writes none same = same ∙ ap (λ (ws : List Write). Some (files_after ws files)) (sym none)
 
-none_put : (out left : Option (List ℕ)) (text : List ℕ) → text ≡ [] → left ≡ out → IfSome out (λ out. left ≡ Some (out ++ text))
-none_put None left text none same = tt
-none_put (Some out) left text none same =
-    same ∙ ap (λ (bytes : List ℕ). Some bytes) (sym (append-nil out)) ∙ ap (λ (bytes : List ℕ). Some (out ++ bytes)) (sym none)
+none_put : (out left : Option Stream) (text : List ℕ) → text ≡ [] → left ≡ out → Told (IsOut text) out left
+none_put out left text none same = subst (Told (IsOut text) out) (sym same) (out_so_far text none out)
 
 -- The answer that was carried out.
 

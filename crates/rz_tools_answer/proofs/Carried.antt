@@ -6,7 +6,7 @@ use Rattle.std.specs.FinMap as finite
 use Rattle.std.proofs.lemmas.List.{drop_more, map-append, take_more, take-append-drop}
 use Rattle.rz_folder.specs.Counts.{Rose}
 use Rattle.rz_folder.specs.Folder.{Files, Writes}
-use Rattle.rz_folder.specs.Sink.{Puts}
+use Rattle.rz_folder.specs.Sink.{GotFront, IsOut, Told}
 use Rattle.rz_folder.specs.declared.folder.Written.TheVariants as ends
 use Rattle.rz_folder.specs.declared.sink.Put.TheVariants as puts
 use Rattle.rz_tools_answer.specs.Answer.{files_after, Answer, Write}
@@ -24,20 +24,12 @@ module _ (answer : Answer) (before after : World) where
   untouched : answer.writes ≡ [] → answer.out ≡ [] → (answer.writes ≡ [] → after.files ≡ before.files) → (answer.out ≡ [] → after.out ≡ before.out) → IsUntouched before after
   untouched no_writes no_text files out = record { files = files no_writes; out = out no_text }
 
-  all_put : (out left : Option (List ℕ)) → Puts answer.out out left puts.Done → IfSome out (λ out. left ≡ Some (out ++ answer.out))
-  all_put None left told = tt
-  all_put (Some out) left told = told
-
-  front_put : (out left : Option (List ℕ)) → Puts answer.out out left puts.Failed → IfSome out (λ out. (count : ℕ) × (left ≡ Some (out ++ take count answer.out)))
-  front_put None left told = tt
-  front_put (Some out) left told = told
-
   pub all_done : (outcome : Outcome) → answer.outcome ≡ outcome → FitsOutcome outcome answer
       → WritesEach answer.writes before.files after.files ends.Done → (answer.writes ≡ [] → after.files ≡ before.files)
-      → Puts answer.out before.out after.out puts.Done → (answer.out ≡ [] → after.out ≡ before.out)
+      → Told (IsOut answer.out) before.out after.out → (answer.out ≡ [] → after.out ≡ before.out)
       → Says answer.err before.err after.err before.err_faults after.err_faults → CarriesOut answer before after outcome
   all_done Done is fits told files text out says = record {
-    ends = (is, record { files = told; out = all_put before.out after.out text });
+    ends = (is, record { files = told; out = text });
     says = says;
   }
   all_done (Usage fault) is fits told files text out says = record {
@@ -87,7 +79,7 @@ module _ (answer : Answer) (before after : World) where
   }
 
   pub put_failed : FitsOutcome answer.outcome answer → WritesEach answer.writes before.files after.files ends.Done
-      → (piece : List ℕ) → piece ≡ answer.out → Puts piece before.out after.out puts.Failed → (piece ≡ [] → (puts.Failed ≡ puts.Done) × (after.out ≡ before.out))
+      → (piece : List ℕ) → piece ≡ answer.out → Told (GotFront piece) before.out after.out → (piece ≡ [] → (puts.Failed ≡ puts.Done) × (after.out ≡ before.out))
       → Rose before.out_faults after.out_faults
       → (text : List ℕ) → text ≡ answer.err → Says (text ++ write_fault_line) before.err after.err before.err_faults after.err_faults
       → CarriesOut answer before after WriteFault
@@ -95,18 +87,18 @@ module _ (answer : Answer) (before after : World) where
     ends = (
       shows_done answer.outcome refl fits (λ no_text. let e = (none (same ∙ no_text)).0 in cc),
       inr rose,
-      at_text told (front_put before.out after.out (subst (λ (x : List ℕ). Puts x before.out after.out puts.Failed) same put)),
+      at_text told (subst (λ (x : List ℕ). Told (GotFront x) before.out after.out) same put),
     );
     says = says_so text write_fault_line is says;
   }
 
   pub carried_done : FitsOutcome answer.outcome answer → WritesEach answer.writes before.files after.files ends.Done
       → (answer.writes ≡ [] → (ends.Done ≡ ends.Done) × (after.files ≡ before.files))
-      → (piece : List ℕ) → piece ≡ answer.out → Puts piece before.out after.out puts.Done → (piece ≡ [] → (puts.Done ≡ puts.Done) × (after.out ≡ before.out))
+      → (piece : List ℕ) → piece ≡ answer.out → Told (IsOut piece) before.out after.out → (piece ≡ [] → (puts.Done ≡ puts.Done) × (after.out ≡ before.out))
       → (text : List ℕ) → text ≡ answer.err → Says text before.err after.err before.err_faults after.err_faults
       → CarriesOut answer before after answer.outcome
   carried_done fits told files piece same put out text is says =
-      all_done answer.outcome refl fits told (λ none. (files none).1) (subst (λ (x : List ℕ). Puts x before.out after.out puts.Done) same put)
+      all_done answer.outcome refl fits told (λ none. (files none).1) (subst (λ (x : List ℕ). Told (IsOut x) before.out after.out) same put)
       (λ none. (out (same ∙ none)).1) (subst (λ (x : List ℕ). Says x before.err after.err before.err_faults after.err_faults) is says)
 
 -- Files that are written one after the other.

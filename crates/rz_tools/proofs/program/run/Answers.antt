@@ -7,6 +7,7 @@ use Rattle.rz_tools_answer.specs.declared.outcome.Outcome.{Outcome}
 use Rattle.rz_tools_answer.specs.declared.outcome.Outcome.TheVariants.{Done, ReadFault, WriteFault, NoMemory}
 use Rattle.rz_tools.specs.Again.{HoldsFile}
 use Rattle.rz_tools.specs.Program.{Answers}
+use Rattle.rz_tools.specs.Reply.{IsText}
 use Rattle.rz_tools.proofs.Complete.{complete, hindered, whole}
 use Rattle.rz_tools.proofs.OthersStay.{leaves_others}
 use Rattle.rz_tools.proofs.PutBack.{lists_back}
@@ -64,9 +65,9 @@ pub returns-in-Ok-clause-every_usage : goal.returns-in-Ok-clause-every_usage
 returns-in-Ok-clause-every_usage g c position is =
     let made = c.carry_out.ensures.carried in
     or_else (c.in-Ok.ensures.every_usage position is) (λ e. cc)
-    (λ so. stays_usage (map string_bytes c.args.words.now) c.args.moment _ _ c.carry_out.result c.one_answer.ensures made.0 made.2 (record { position = position })
+    (λ so. stays_usage (map string_bytes c.args.words.now) c.args.moment _ _ c.carry_out.result c.one_answer.ensures made.0 made.2 (IsText c.in-Ok.reply) (record { position = position })
     (outcome_so c.in-Ok.reply made.0 made.1 ∙ so)
-    (subst (λ (o : Outcome). (c.carry_out.result ≡ o) ⊎ (c.carry_out.result ≡ WriteFault) ⊎ (c.carry_out.result ≡ NoMemory)) (sym (outcome_so c.in-Ok.reply made.0 made.1)) c.carry_out.ensures.ended))
+    (subst (λ (o : Outcome). (c.carry_out.result ≡ o) ⊎ (c.carry_out.result ≡ WriteFault) ⊎ ((c.carry_out.result ≡ NoMemory) × IsText c.in-Ok.reply)) (sym (outcome_so c.in-Ok.reply made.0 made.1)) c.carry_out.ensures.ended))
 
 pub returns-in-Ok-clause-again : goal.returns-in-Ok-clause-again
 returns-in-Ok-clause-again g c is asked as_asked =
