@@ -1,7 +1,7 @@
 -- A sink in memory that holds back what is put.
 use Rattle.std.proofs.Common.{◌≡◌, ℕ, zero, suc, List, [], ◌∷◌, ◌++◌, length, take, drop, Some, refl, sym, ap, subst, ◌∙◌, append-nil, take-append-drop, arith}
 use Rattle.std.proofs.lemmas.List.{drop_all, take_all}
-use Rattle.rz_folder.specs.Sink.{all_out, Flushes, Got, GotFront, IsFlushed, IsFront, Puts, Stream}
+use Rattle.rz_folder.specs.Sink.{all_out, Flushes, Got, GotFront, IsFront, Puts, Stream}
 use Rattle.rz_folder.specs.declared.sink.Put.{Put}
 use Rattle.rz_folder.specs.declared.sink.Put.TheVariants.{Done, Failed}
 

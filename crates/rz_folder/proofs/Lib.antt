@@ -4,3 +4,4 @@ pub mod Reading
 pub mod FolderPart
 pub mod Streams
 pub mod Held
+pub mod Writers

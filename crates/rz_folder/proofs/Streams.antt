@@ -1,5 +1,5 @@
 -- What puts and flushes change, one after the other.
-use Rattle.std.proofs.Common.{◌≡◌, ◌≢◌, inl, inr, ℕ, List, [], ◌∷◌, ◌++◌, length, take, drop, Some, None, Ok, Err, refl, sym, ap, subst, ◌∙◌, append_assoc, append-nil, take-append-drop}
+use Rattle.std.proofs.Common.{◌≡◌, ◌≢◌, inl, inr, ℕ, List, [], ◌∷◌, ◌++◌, Some, None, Ok, refl, sym, ap, subst, ◌∙◌, append_assoc, append-nil}
 use Rattle.std.specs.declared.option.Option.{Option}
 use Rattle.rz_folder.specs.Sink.{all_out, written, Flushes, Got, GotBut, GotFront, GotPart, IsFlushed, IsFront, IsOut, Puts, PutsOut, Stream, Told}
 use Rattle.rz_folder.specs.declared.sink.Put.{Put}

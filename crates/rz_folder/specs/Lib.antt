@@ -10,5 +10,6 @@ pub mod MemSink
 pub mod TextSink
 pub mod HeldSink
 pub mod RealFaults
+pub mod RealSink
 pub mod OnlyReads
 pub mod Temporary

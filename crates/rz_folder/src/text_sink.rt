@@ -9,9 +9,9 @@ use rz_core::Bytes;
 use std::alloc::Global;
 use std::marker::Model;
 
-/// A sink over bytes of its own, which grow with each put: what a program hands to a call that puts a text, to have the
-/// text in memory. It holds nothing back. A put fails exactly where memory is refused. Contracts see the bytes and the
-/// count of faults.
+/// A sink over bytes of its own, which grow with each put: what a program hands to a call that puts a text, to have
+/// the text in memory. It holds nothing back. A put fails exactly where memory is refused. Contracts see the bytes
+/// and the count of faults.
 #[derive(Drop)]
 pub struct TextSink {
     bytes: Bytes,
@@ -51,8 +51,8 @@ impl Sink for TextSink {
 
     ghost faults = { λ sink. sink.faults };
 
-    /// Appends the piece. `Failed` comes exactly where memory is refused; then the bytes are as before, and the count of
-    /// faults is one more, up to 2^64 - 1.
+    /// Appends the piece. `Failed` comes exactly where memory is refused; then the bytes are as before, and the count
+    /// of faults is one more, up to 2^64 - 1.
     fn put(&mut self, bytes: &[u8]) -> Put
         ensures told { Puts bytes.now (Some (all_out self.old.bytes)) (Some (all_out self.new.bytes)) result }
         ensures counted { self.old.faults ≤ self.new.faults }

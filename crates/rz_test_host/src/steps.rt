@@ -111,8 +111,9 @@ fn show_text(alloc: Global, pieces: &str, came: &mut Text) {
     show_bytes(sink.into_bytes().as_slice(), came);
 }
 
-/// Shows what calls give on a stream in memory that holds bytes back and has room for six, of which the call of a number
-/// fails: `!` is a flush, and each other word a piece. After them stand the faults, the bytes that are out, and all bytes.
+/// Shows what calls give on a stream in memory that holds bytes back and has room for six, of which the call of a
+/// number fails: `!` is a flush, and each other word a piece. After them stand the faults, the bytes that are out,
+/// and all bytes.
 fn show_held(alloc: Global, call: &str, came: &mut Text) {
     let (failing, calls) = in_two(call);
     let mut memory = MemSink::new(alloc);

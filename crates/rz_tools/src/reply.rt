@@ -34,9 +34,9 @@ pub enum Reply {
 }
 
 impl Reply {
-    /// Carries it out: a plan as [`carry_out`] does; of a fork the text is put line by line, and then what is to be said is
-    /// said, after it the line of what went wrong. NoMemory comes for a text alone, and before the whole text is put: what `err`
-    /// does changes no outcome.
+    /// Carries it out: a plan as [`carry_out`] does; of a fork the text is put line by line, and then what is to be
+    /// said is said, after it the line of what went wrong. NoMemory comes for a text alone, and before the whole text
+    /// is put: what `err` does changes no outcome.
     pub fn carry_out<F: Folder, O: Sink, E: Sink>(
         self,
         alloc: Global,
@@ -45,9 +45,10 @@ impl Reply {
         err: &mut E,
     ) -> Outcome
         requires { IsSound self }
-        ensures carried { Runs F.Folder O.Sink E.Sink folder.old folder.new out.old out.new err.old err.new (λ before after.
-            (done : Answer) × IsReply self done × CarriesOut done before after result) }
-        ensures ended { (result ≡ outcome_of self) ⊎ (result ≡ Outcome.WriteFault) ⊎ ((result ≡ Outcome.NoMemory) × IsText self) }
+        ensures carried { Runs F.Folder O.Sink E.Sink folder.old folder.new out.old out.new err.old err.new
+            (λ before after. (done : Answer) × IsReply self done × CarriesOut done before after result) }
+        ensures ended { (result ≡ outcome_of self) ⊎ (result ≡ Outcome.WriteFault)
+            ⊎ ((result ≡ Outcome.NoMemory) × IsText self) }
     {
         every_list_is_shown();
         match self {

@@ -25,7 +25,8 @@ pub fn carry_out<F: Folder, O: Sink, E: Sink>(
 ) -> Outcome
     requires well_formed { IsWellFormed (answer_of plan) }
     requires writable { AreWritable (answer_of plan).writes }
-    ensures carried { Runs F.Folder O.Sink E.Sink folder.old folder.new out.old out.new err.old err.new (λ before after. CarriesOut (answer_of plan) before after result) }
+    ensures carried { Runs F.Folder O.Sink E.Sink folder.old folder.new out.old out.new err.old err.new
+        (λ before after. CarriesOut (answer_of plan) before after result) }
     ensures ended { (result ≡ plan.outcome) ⊎ (result ≡ Outcome.WriteFault) }
 {
     let Plan {

@@ -33,11 +33,11 @@ pub struct ForkText {
 }
 
 impl ForkText {
-    /// Puts the text, one line after the other, and flushes the sink: after `Done` the whole text is out, and nothing is held
-    /// back. Beside the bytes of the fork it holds, of one resource at a time, the name and, under a template, the row.
-    /// `Failed` is that of the first put that failed, or of the flush: nothing is put after a put that failed. Every fork can
-    /// be shown: `NoMemory` is the only refusal, and comes before the whole text is put; what was put till then stays.
-    /// (MPW DeRez.)
+    /// Puts the text, one line after the other, and flushes the sink: after `Done` the whole text is out, and nothing
+    /// is held back. Beside the bytes of the fork it holds, of one resource at a time, the name and, under a
+    /// template, the row. `Failed` is that of the first put that failed, or of the flush: nothing is put after a put
+    /// that failed. Every fork can be shown: `NoMemory` is the only refusal, and comes before the whole text is put;
+    /// what was put till then stays. (MPW DeRez.)
     pub fn put<O: Sink>(&self, alloc: Global, out: &mut O) -> Result<Put, NoMemory>
         requires short { length self.now.fork < 2 ^ 32 }
         requires admitted { (fork : Fork) × (admitted self.now.fork ≡ Ok fork) }
