@@ -1,5 +1,6 @@
 pub mod Search
 pub mod Store
 pub mod Reading
+pub mod Finding
 pub mod FolderPart
 pub mod Fronts

@@ -9,4 +9,5 @@ pub mod SinkState
 pub mod MemSink
 pub mod RealFaults
 pub mod OnlyReads
+pub mod Finds
 pub mod Temporary

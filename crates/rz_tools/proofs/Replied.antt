@@ -6,7 +6,6 @@ use Rattle.rz_core.specs.Stop.{seen}
 use Rattle.rz_core.specs.declared.stop.NoMemory.{NoMemory as NoMemoryAlone}
 use Rattle.rz_folder.specs.Counts.{Rose}
 use Rattle.rz_folder.specs.Folder.{Files}
-use Rattle.rz_folder.specs.OnlyReads.{OnlyReads}
 use Rattle.rz_folder.specs.Sink.{PutsFront}
 use Rattle.rz_folder.specs.declared.sink.Put.{Put}
 use Rattle.rz_folder.specs.declared.sink.Put.TheVariants as puts
@@ -118,12 +117,6 @@ held_too (Some files) entry P Q held = by (entry files) held
     by : (e : Option (List ℕ)) → IfSome e P → IfSome e (λ bytes. Q → P bytes)
     by None holds = tt
     by (Some bytes) holds = λ _. holds
-
--- a call that failed to read only where another did
-pub reads_as : {F A B : Type 0} (files : F → Option Files) (read_faults write_faults : F → ℕ) (old new : F) → (B → A) → OnlyReads files read_faults write_faults old new A
-    → OnlyReads files read_faults write_faults old new B
-reads_as files read_faults write_faults old new so reads =
-    record { unchanged = reads.unchanged; counted = reads.counted; other_count = reads.other_count; cause = λ failed. reads.cause (so failed) }
 
 -- The answers that it stands for.
 

@@ -69,7 +69,7 @@ pub fn read_base<F: Folder>(
     ensures named { IfOk result (λ begun. AreNamed begun.list) }
     ensures room { IfOk result (λ begun. length begun.base.reserved ≤ 240) }
     ensures nameable { (files : ℕ) → OnRefusal result (IsNameable files) }
-    ensures reads { OnlyReads F.files F.read_faults F.write_faults folder.old folder.new (IsReadFault result) }
+    ensures reads { OnlyReads F.Folder folder.old folder.new (IsReadFault result) }
 {
     if !append {
         return Ok(new_file(alloc));
@@ -129,7 +129,7 @@ pub fn read_held<F: Folder>(
     ensures short { IfOk result (λ begun. AllByRecursion (λ r. length r.bytes ≤ 16777212) begun.list) }
     ensures room { IfOk result (λ begun. length begun.base.reserved ≤ 240) }
     ensures nameable { (files : ℕ) → OnRefusal result (IsNameable files) }
-    ensures reads { OnlyReads F.files F.read_faults F.write_faults folder.old folder.new (IsReadFault result) }
+    ensures reads { OnlyReads F.Folder folder.old folder.new (IsReadFault result) }
 {
     match folder.read(alloc, name) {
         Read::Bytes(bytes) => begin_in(alloc, true, form, bytes),

@@ -83,7 +83,7 @@ pub fn plan_bridge<F: Folder>(
     ensures well_formed { IfOk result (λ plan. IsWellFormed (answer_of plan)) }
     ensures writable { IfOk result (λ plan. AreWritable (answer_of plan).writes) }
     ensures no_usage { IfOk result (λ plan. IsNoUsage plan.outcome) }
-    ensures reads { OnlyReads F.files F.read_faults F.write_faults folder.old folder.new (result ≡ Err ReadFault) }
+    ensures reads { OnlyReads F.Folder folder.old folder.new (result ≡ Err ReadFault) }
 {
     match bridge_file(alloc, folder, words) {
         Ok(writes) => Ok(Plan::writing(alloc, writes)),
@@ -100,7 +100,7 @@ fn bridge_file<F: Folder>(
     ensures writes { IfSome (F.files folder.old) (λ files. Yields (writes_of result) (Bridges (bridge words.now) files)) }
     ensures writable { IfOk result (λ writes. AreWritable (map write_of writes)) }
     ensures nameable { (files : ℕ) → OnRefusal result (IsNameable files) }
-    ensures reads { OnlyReads F.files F.read_faults F.write_faults folder.old folder.new (IsReadFault result) }
+    ensures reads { OnlyReads F.Folder folder.old folder.new (IsReadFault result) }
 {
     match read_whole(alloc, folder, words) {
         Ok(file) => Ok(written_as(alloc, words, file)?),
@@ -117,7 +117,7 @@ fn read_whole<F: Folder>(
     ensures file { IfSome (F.files folder.old) (λ files. Yields result (IsRead (bridge words.now) files (finite.get files (string_bytes words.now.file)))) }
     ensures short { IfOk result (λ file. length file.res_fork < 2 ^ 32) }
     ensures nameable { (files : ℕ) → OnRefusal result (IsNameable files) }
-    ensures reads { OnlyReads F.files F.read_faults F.write_faults folder.old folder.new (IsReadFault result) }
+    ensures reads { OnlyReads F.Folder folder.old folder.new (IsReadFault result) }
 {
     let name = words.file.as_str();
     match folder.read(alloc, name) {
@@ -139,7 +139,7 @@ fn read_held<F: Folder>(
     ensures file { IfSome (F.files folder.old) (λ files. Yields result (IsHeld (bridge words.now) files bytes)) }
     ensures short { IfOk result (λ file. length file.res_fork < 2 ^ 32) }
     ensures nameable { (files : ℕ) → OnRefusal result (IsNameable files) }
-    ensures reads { OnlyReads F.files F.read_faults F.write_faults folder.old folder.new (IsReadFault result) }
+    ensures reads { OnlyReads F.Folder folder.old folder.new (IsReadFault result) }
 {
     let form = form_or(words.from, bytes.as_slice());
     match read_beside(alloc, folder, form, words.file.as_str()) {
@@ -157,7 +157,7 @@ fn read_beside<F: Folder>(
 ) -> Result<Bytes, Halt<Fault>>
     ensures data_file { IfSome (F.files folder.old) (λ files. IfOk result (HasBeside form header.now files)) }
     ensures unrefused { OnRefusal result (λ _. ⊥) }
-    ensures reads { OnlyReads F.files F.read_faults F.write_faults folder.old folder.new (IsReadFault result) }
+    ensures reads { OnlyReads F.Folder folder.old folder.new (IsReadFault result) }
 {
     if !matches!(form, Form::AppleDouble) {
         return Ok(Bytes::new(alloc));
