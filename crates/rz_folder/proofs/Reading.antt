@@ -10,6 +10,7 @@ module _ {F : Type 0} (g : Ghosts F) where
     unchanged = refl;
     counted = omega arith;
     other_count = refl;
+    unwritten = refl;
     cause = λ never. absurd never;
   }
 
@@ -19,10 +20,16 @@ module _ {F : Type 0} (g : Ghosts F) where
     unchanged = second.unchanged ∙ first.unchanged;
     counted = omega (arith, first.counted, second.counted);
     other_count = second.other_count ∙ first.other_count;
+    unwritten = second.unwritten ∙ first.unwritten;
     cause = λ failed. (let rose = second.cause (so failed) in omega (arith, rose, first.counted));
   }
 
   -- a call that failed to read only where another did
   pub reads_as : {A B : Type 0} (old new : F) → (B → A) → OnlyReads g old new A → OnlyReads g old new B
-  reads_as old new so reads =
-      record { unchanged = reads.unchanged; counted = reads.counted; other_count = reads.other_count; cause = λ failed. reads.cause (so failed) }
+  reads_as old new so reads = record {
+    unchanged = reads.unchanged;
+    counted = reads.counted;
+    other_count = reads.other_count;
+    unwritten = reads.unwritten;
+    cause = λ failed. reads.cause (so failed);
+  }

@@ -306,6 +306,7 @@ pub fn preprocess<F: Folder>(
     ensures unchanged { F.files folder.new ≡ F.files folder.old }
     ensures counted { F.read_faults folder.old ≤ F.read_faults folder.new }
     ensures other_count { F.write_faults folder.new ≡ F.write_faults folder.old }
+    ensures unwritten { F.writes folder.new ≡ F.writes folder.old }
     ensures cause { IsReadFault result → Rose (F.read_faults folder.old) (F.read_faults folder.new) }
 {
     one_program();

@@ -36,6 +36,8 @@ impl Folder for WatchedFolder {
 
     ghost write_faults = { λ watched. watched.folder.write_faults };
 
+    ghost writes = { λ watched. watched.folder.writes };
+
     fn read(&mut self, alloc: Global, name: &str) -> Read {
         self.calls = self.calls.saturating_add(1);
         self.folder.read(alloc, name)

@@ -38,7 +38,7 @@ shelf write a other => Failed
 shelf write b new => Failed
 shelf read a => new
 shelf read b => Missing
-shelf faults  => 0 18446744073709551615
+shelf faults  => 0 2
 ";
 
 /// A stream in memory takes a front of the put that is named, and counts no flush.

@@ -5,7 +5,7 @@ use Rattle.std.specs.declared.option.Option.{Option}
 use Rattle.std.proofs.lemmas.List.{append-nil}
 use Rattle.rz_core.specs.declared.moment.Moment.{Moment}
 use Rattle.rz_folder.specs.Folder.{Files}
-use Rattle.rz_tools_answer.specs.Answer.{files_after, Answer, Write}
+use Rattle.rz_tools_answer.specs.Answer.{count_after, files_after, Answer, Write}
 use Rattle.rz_tools_answer.specs.Carried.{CarriesOut, EndsWith, IsAnswered, IsUnhindered, IsUntouched}
 use Rattle.rz_tools_answer.specs.WellFormed.{FitsOutcome, IsWellFormed}
 use Rattle.rz_tools_answer.specs.World.{ReadFailed, Says, World, WriteFailed}
@@ -36,12 +36,13 @@ module _ (done : Answer) (before after : World) where
     unwritten no_writes no_out says = record {
       outcome = sym ends;
       files = none_written before.files after.files done.writes no_writes left.files;
+      counted = left.counted ∙ ap (λ (ws : List Write). count_after ws before.writes) (sym no_writes);
       out = none_put before.out after.out done.out no_out left.out;
       err = says;
     }
 
   ends_with : (result : Outcome) → IsWellFormed done → IsUnhindered result → CarriesOut done before after result → EndsWith done before after result
-  ends_with Done fits free carried = record { outcome = sym carried.ends.0; files = carried.ends.1.files; out = carried.ends.1.out; err = carried.says }
+  ends_with Done fits free carried = record { outcome = sym carried.ends.0; files = carried.ends.1.files; counted = carried.ends.1.counted; out = carried.ends.1.out; err = carried.says }
   ends_with (Usage fault) fits free carried =
       let is = subst (λ (o : Outcome). FitsOutcome o done) carried.ends.0 fits in
       unwritten (Usage fault) carried.ends.0 carried.ends.1 (ap (λ (a : Answer). a.writes) is) (ap (λ (a : Answer). a.out) is) carried.says

@@ -144,18 +144,18 @@ all_put : (text : List ℕ) (out left : Option (List ℕ)) → PutsFront text ou
 all_put text None left told = tt
 all_put text (Some out) left told = told
 
-module _ (making : Making) (before after : World) (files : after.files ≡ before.files) where
+module _ (making : Making) (before after : World) (files : after.files ≡ before.files) (unwritten : after.writes ≡ before.writes) where
   text_carried : (put : Result Put NoMemoryAlone) → PutsFront making.bytes before.out after.out put → (put ≡ Ok puts.Failed → Rose before.out_faults after.out_faults)
       → SaysText (said_behind put making.said) before after → CarriesOut (shown making) before after (end_of put)
   text_carried (Ok puts.Done) told cause says = record {
-    ends = (refl, record { files = files_kept before.files after.files files; out = all_put making.bytes before.out after.out told });
+    ends = (refl, record { files = files_kept before.files after.files files; counted = unwritten; out = all_put making.bytes before.out after.out told });
     says = says;
   }
   text_carried (Ok puts.Failed) told cause says = record {
-    ends = (refl, inr (cause refl), at_text (files_kept before.files after.files files) (front_got making.bytes before.out after.out (Ok puts.Failed) tt told));
+    ends = (refl, inr (cause refl), at_text (files_kept before.files after.files files) unwritten (front_got making.bytes before.out after.out (Ok puts.Failed) tt told));
     says = says;
   }
-  text_carried (Err refused) told cause says = record { ends = (files, front_got making.bytes before.out after.out (Err refused) tt told); says = inr (refl, says) }
+  text_carried (Err refused) told cause says = record { ends = (files, unwritten, front_got making.bytes before.out after.out (Err refused) tt told); says = inr (refl, says) }
 
   pub text_ends : (put : Result Put NoMemoryAlone) (said : List ℕ) (result : Outcome) → said ≡ making.said → result ≡ end_of put → PutsFront making.bytes before.out after.out put
       → (put ≡ Ok puts.Failed → Rose before.out_faults after.out_faults) → SaysText (said_behind put said) before after → CarriesOut (shown making) before after result

@@ -26,16 +26,16 @@ module _ (mid after : World) (reads : ℕ) (fewer : reads ≤ mid.read_faults) w
 
   untouched : IsUntouched mid after → IsUntouched before after
   unfolding before
-  untouched is = record { files = is.files; out = is.out }
+  untouched is = record { files = is.files; counted = is.counted; out = is.out }
 
   partly : (writes : List Write) (text : List ℕ) → IsPartlyWritten writes text mid after → IsPartlyWritten writes text before after
   unfolding before
-  partly writes text (at_file done one rest are cut) = at_file done one rest are (record { files = cut.files; out = cut.out })
-  partly writes text (at_text files out) = at_text files out
+  partly writes text (at_file done one rest are cut) = at_file done one rest are (record { files = cut.files; counted = cut.counted; out = cut.out })
+  partly writes text (at_text files counted out) = at_text files counted out
 
   ends_before : (answer : Answer) (result : Outcome) → Ends answer mid after result → Ends answer before after result
   unfolding before
-  ends_before answer Done ends = (ends.0, record { files = ends.1.files; out = ends.1.out })
+  ends_before answer Done ends = (ends.0, record { files = ends.1.files; counted = ends.1.counted; out = ends.1.out })
   ends_before answer (Usage fault) ends = (ends.0, untouched ends.1)
   ends_before answer (Refused fault) ends = (ends.0, untouched ends.1)
   ends_before answer ReadFault ends = (rose_before ends.0, untouched ends.1)
@@ -56,14 +56,15 @@ module _ (mid after : World) (reads : ℕ) (fewer : reads ≤ mid.read_faults) w
   carried_before answer result carried = record { ends = ends_before answer result carried.ends; says = says_before answer result carried.says }
 
 module _ (answer : Answer) (after : World) (result : Outcome) (files files_mid : Option Files) (out err : Option (List ℕ))
-    (reads reads_mid writes writes_mid out_faults err_faults : ℕ) where
-  pub carried_from : files_mid ≡ files → reads ≤ reads_mid → writes_mid ≡ writes
-      → CarriesOut answer (record { files = files_mid; out = out; err = err; read_faults = reads_mid; write_faults = writes_mid; out_faults = out_faults; err_faults = err_faults }) after result
-      → CarriesOut answer (record { files = files; out = out; err = err; read_faults = reads; write_faults = writes; out_faults = out_faults; err_faults = err_faults }) after result
-  carried_from same fewer same_writes carried =
-      subst (λ (f : Option Files). CarriesOut answer (record { files = f; out = out; err = err; read_faults = reads; write_faults = writes; out_faults = out_faults; err_faults = err_faults }) after result) same
-      (subst (λ (w : ℕ). CarriesOut answer (record { files = files_mid; out = out; err = err; read_faults = reads; write_faults = w; out_faults = out_faults; err_faults = err_faults }) after result) same_writes
-      (carried_before (record { files = files_mid; out = out; err = err; read_faults = reads_mid; write_faults = writes_mid; out_faults = out_faults; err_faults = err_faults }) after reads fewer answer result carried))
+    (reads reads_mid writes writes_mid count count_mid out_faults err_faults : ℕ) where
+  pub carried_from : files_mid ≡ files → reads ≤ reads_mid → writes_mid ≡ writes → count_mid ≡ count
+      → CarriesOut answer (record { files = files_mid; out = out; err = err; read_faults = reads_mid; write_faults = writes_mid; writes = count_mid; out_faults = out_faults; err_faults = err_faults }) after result
+      → CarriesOut answer (record { files = files; out = out; err = err; read_faults = reads; write_faults = writes; writes = count; out_faults = out_faults; err_faults = err_faults }) after result
+  carried_from same fewer same_writes same_count carried =
+      subst (λ (f : Option Files). CarriesOut answer (record { files = f; out = out; err = err; read_faults = reads; write_faults = writes; writes = count; out_faults = out_faults; err_faults = err_faults }) after result) same
+      (subst (λ (w : ℕ). CarriesOut answer (record { files = files_mid; out = out; err = err; read_faults = reads; write_faults = w; writes = count; out_faults = out_faults; err_faults = err_faults }) after result) same_writes
+      (subst (λ (n : ℕ). CarriesOut answer (record { files = files_mid; out = out; err = err; read_faults = reads; write_faults = writes_mid; writes = n; out_faults = out_faults; err_faults = err_faults }) after result) same_count
+      (carried_before (record { files = files_mid; out = out; err = err; read_faults = reads_mid; write_faults = writes_mid; writes = count_mid; out_faults = out_faults; err_faults = err_faults }) after reads fewer answer result carried)))
 
 -- Memory was refused before anything was put.
 
@@ -71,9 +72,9 @@ no_front : (text : List ℕ) (out left : Option (List ℕ)) → left ≡ out →
 no_front text None left same = tt
 no_front text (Some out) left same = (0, same ∙ ap Some (sym (append-nil out)))
 
-pub nothing_put : (answer : Answer) (before after : World) → after.files ≡ before.files → after.out ≡ before.out → SaysText no_memory_line before after
-    → CarriesOut answer before after NoMemory
-nothing_put answer before after files out says = record { ends = (files, no_front answer.out before.out after.out out); says = inl (out, says) }
+pub nothing_put : (answer : Answer) (before after : World) → after.files ≡ before.files → after.writes ≡ before.writes → after.out ≡ before.out
+    → SaysText no_memory_line before after → CarriesOut answer before after NoMemory
+nothing_put answer before after files unwritten out says = record { ends = (files, unwritten, no_front answer.out before.out after.out out); says = inl (out, says) }
 
 -- Each answer is the one that was carried out.
 

@@ -50,29 +50,29 @@ pub fn run<F: Folder, O: Sink, E: Sink>(
 ) -> Outcome
     // Whatever the folder tells, an answer is carried out; where it tells its files, this is the answer to the words.
     ensures carried { (done : Answer) × IsWellFormed done
-        × CarriesOut done (world F.files F.read_faults F.write_faults O.written O.faults E.written E.faults folder.old out.old err.old)
-        (world F.files F.read_faults F.write_faults O.written O.faults E.written E.faults folder.new out.new err.new) result
+        × CarriesOut done (world F.files F.read_faults F.write_faults F.writes O.written O.faults E.written E.faults folder.old out.old err.old)
+        (world F.files F.read_faults F.write_faults F.writes O.written O.faults E.written E.faults folder.new out.new err.new) result
         × (IsAnswered result → IfSome (F.files folder.old) (λ files. Answers (map string_bytes words.now) files moment done)) }
     ensures every { IfSome (F.files folder.old) (λ files. (wanted : Answer) → Answers (map string_bytes words.now) files moment wanted
-        → CarriesOut wanted (world F.files F.read_faults F.write_faults O.written O.faults E.written E.faults folder.old out.old err.old)
-        (world F.files F.read_faults F.write_faults O.written O.faults E.written E.faults folder.new out.new err.new) result) }
+        → CarriesOut wanted (world F.files F.read_faults F.write_faults F.writes O.written O.faults E.written E.faults folder.old out.old err.old)
+        (world F.files F.read_faults F.write_faults F.writes O.written O.faults E.written E.faults folder.new out.new err.new) result) }
 
     // Where the folder tells its files, the words have exactly one answer, and a run that meets neither want of memory nor a
     // failed read or write ends with it.
     ensures complete { IfSome (F.files folder.old) (λ files. (answer : Answer) × IsOnlyAnswer (map string_bytes words.now) files moment answer
         × (IsUnhindered result → EndsWith answer
-        (world F.files F.read_faults F.write_faults O.written O.faults E.written E.faults folder.old out.old err.old)
-        (world F.files F.read_faults F.write_faults O.written O.faults E.written E.faults folder.new out.new err.new) result)) }
+        (world F.files F.read_faults F.write_faults F.writes O.written O.faults E.written E.faults folder.old out.old err.old)
+        (world F.files F.read_faults F.write_faults F.writes O.written O.faults E.written E.faults folder.new out.new err.new) result)) }
 
     // The same by the counts of faults: where none of them rose, the run ends with its answer, or for want of memory.
     ensures whole { IfSome (F.files folder.old) (λ files. (answer : Answer) × IsOnlyAnswer (map string_bytes words.now) files moment answer
-        × ((ReadFailed (world F.files F.read_faults F.write_faults O.written O.faults E.written E.faults folder.old out.old err.old)
-        (world F.files F.read_faults F.write_faults O.written O.faults E.written E.faults folder.new out.new err.new) → ⊥)
-        → (WriteFailed (world F.files F.read_faults F.write_faults O.written O.faults E.written E.faults folder.old out.old err.old)
-        (world F.files F.read_faults F.write_faults O.written O.faults E.written E.faults folder.new out.new err.new) → ⊥)
+        × ((ReadFailed (world F.files F.read_faults F.write_faults F.writes O.written O.faults E.written E.faults folder.old out.old err.old)
+        (world F.files F.read_faults F.write_faults F.writes O.written O.faults E.written E.faults folder.new out.new err.new) → ⊥)
+        → (WriteFailed (world F.files F.read_faults F.write_faults F.writes O.written O.faults E.written E.faults folder.old out.old err.old)
+        (world F.files F.read_faults F.write_faults F.writes O.written O.faults E.written E.faults folder.new out.new err.new) → ⊥)
         → (result ≡ Outcome.NoMemory) ⊎ EndsWith answer
-        (world F.files F.read_faults F.write_faults O.written O.faults E.written E.faults folder.old out.old err.old)
-        (world F.files F.read_faults F.write_faults O.written O.faults E.written E.faults folder.new out.new err.new) result)) }
+        (world F.files F.read_faults F.write_faults F.writes O.written O.faults E.written E.faults folder.old out.old err.old)
+        (world F.files F.read_faults F.write_faults F.writes O.written O.faults E.written E.faults folder.new out.new err.new) result)) }
 
     // Usage comes exactly where the words are no command.
     ensures usage { (position : ℕ) → result ≡ Outcome.Usage (record { position = position }) → IsMisplaced (map string_bytes words.now) position }

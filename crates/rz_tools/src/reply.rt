@@ -45,8 +45,8 @@ impl Reply {
     ) -> Outcome
         requires { IsSound self }
         ensures carried { (done : Answer) × IsReply self done
-            × CarriesOut done (world F.files F.read_faults F.write_faults O.written O.faults E.written E.faults folder.old out.old err.old)
-            (world F.files F.read_faults F.write_faults O.written O.faults E.written E.faults folder.new out.new err.new) result }
+            × CarriesOut done (world F.files F.read_faults F.write_faults F.writes O.written O.faults E.written E.faults folder.old out.old err.old)
+            (world F.files F.read_faults F.write_faults F.writes O.written O.faults E.written E.faults folder.new out.new err.new) result }
         ensures ended { (result ≡ outcome_of self) ⊎ (result ≡ Outcome.WriteFault) ⊎ (result ≡ Outcome.NoMemory) }
     {
         every_list_is_shown();

@@ -6,24 +6,27 @@ use Rattle.rz_folder.specs.Counts.{Rose}
 use Rattle.rz_folder.specs.Folder.{Files}
 use Rattle.rz_folder.specs.Sink.{GotFront}
 
--- What the folder, the output and the sink of messages hold, where they tell it, and how many of their calls failed.
+-- What the folder, the output and the sink of messages hold, where they tell it, how many of their calls failed, and how many
+-- writes the folder had, those that failed among them.
 pub record World : Type 0 where
   pub files : Option Files
   pub out : Option (List ℕ)
   pub err : Option (List ℕ)
   pub read_faults : ℕ
   pub write_faults : ℕ
+  pub writes : ℕ
   pub out_faults : ℕ
   pub err_faults : ℕ
 
 -- what is seen of a folder, an output and a sink of messages
-abbrev pub world : {F O E : Type 0} → (F → Option Files) → (F → ℕ) → (F → ℕ) → (O → Option (List ℕ)) → (O → ℕ) → (E → Option (List ℕ)) → (E → ℕ) → F → O → E → World
-world files read_faults write_faults written faults said said_faults folder out err = record {
+abbrev pub world : {F O E : Type 0} → (F → Option Files) → (F → ℕ) → (F → ℕ) → (F → ℕ) → (O → Option (List ℕ)) → (O → ℕ) → (E → Option (List ℕ)) → (E → ℕ) → F → O → E → World
+world files read_faults write_faults writes written faults said said_faults folder out err = record {
   files = files folder;
   out = written out;
   err = said err;
   read_faults = read_faults folder;
   write_faults = write_faults folder;
+  writes = writes folder;
   out_faults = faults out;
   err_faults = said_faults err;
 }

@@ -25,8 +25,8 @@ pub fn carry_out<F: Folder, O: Sink, E: Sink>(
 ) -> Outcome
     requires well_formed { IsWellFormed (answer_of plan) }
     requires writable { AreWritable (answer_of plan).writes }
-    ensures carried { CarriesOut (answer_of plan) (world F.files F.read_faults F.write_faults O.written O.faults E.written E.faults folder.old out.old err.old)
-        (world F.files F.read_faults F.write_faults O.written O.faults E.written E.faults folder.new out.new err.new) result }
+    ensures carried { CarriesOut (answer_of plan) (world F.files F.read_faults F.write_faults F.writes O.written O.faults E.written E.faults folder.old out.old err.old)
+        (world F.files F.read_faults F.write_faults F.writes O.written O.faults E.written E.faults folder.new out.new err.new) result }
     ensures ended { (result ≡ plan.outcome) ⊎ (result ≡ Outcome.WriteFault) }
 {
     let Plan {
@@ -75,10 +75,10 @@ fn say_write_fault<E: Sink>(said: &[u8], err: &mut E) -> Outcome
     Outcome::WriteFault
 }
 
-/// Writes files one after the other, up to one whose write fails.
+/// Writes files one after the other, each in one write, up to one whose write fails.
 fn write_all<F: Folder>(writes: &Writes, folder: &mut F) -> Written
     requires { AreWritable (map write_of writes.now) }
-    ensures told { WritesEach (map write_of writes.now) (F.files folder.old) (F.files folder.new) result }
+    ensures told { WritesEach (map write_of writes.now) (F.files folder.old) (F.files folder.new) (F.writes folder.old) (F.writes folder.new) result }
     ensures nothing { map write_of writes.now ≡ [] → (result ≡ Written.Done) × (F.files folder.new ≡ F.files folder.old) }
     ensures counted { F.write_faults folder.old ≤ F.write_faults folder.new }
     ensures cause { result ≡ Written.Failed → Rose (F.write_faults folder.old) (F.write_faults folder.new) }
