@@ -64,16 +64,6 @@ row_keys which (rows_of label) body is = absurd (true_false (sym is ∙ labelled
 row_keys which (place_in label number) body is = absurd (true_false (sym is ∙ place_in_none which label number))
 row_keys which (row_in array) body is = undeclared body array
 
--- as the code finds it
-
-pub numbered : (row : InRow) (array : List ℕ) (before : Option ℤ) → numbers_row row.array.now (row_key array) ≡ true
-    → (if is_row (which_of (Some row)) (row_key array) then row_number (which_of (Some row)) else before) ≡ Some (pos row.number)
-numbered row array before is = ap (λ (test : Bool). if test then Some (pos row.number) else before) is
-
-pub not_numbered : (row : InRow) (array : List ℕ) (before : Option ℤ) → numbers_row row.array.now (row_key array) ≡ false
-    → (if is_row (which_of (Some row)) (row_key array) then row_number (which_of (Some row)) else before) ≡ before
-not_numbered row array before is = ap (λ (test : Bool). if test then Some (pos row.number) else before) is
-
 -- Bodies.
 
 -- a label's places in rows are given with their number
@@ -125,17 +115,6 @@ hidden : (which : Option RowOf) (body : PlainBody) (key : Key) (before : Option 
 hidden which body key before row stated =
     ap (λ (test : Bool). if test then row_number which else if declares body key then stated_in body key else before) row
     ∙ ap (λ (given : Option ℤ). if declares body key then given else before) stated
-
-pub entered_place : (which : Option RowOf) (body : PlainBody) (place : List ℕ) (before : Option ℤ)
-    → value_inside which body (place_of place) before ≡ (if declares body (place_of place) then None else before)
-entered_place which body place before =
-    hidden which body (place_of place) before (placed_none which place) (no_stated (place_of place) (λ name. refl) body)
-
-pub entered_count : (which : Option RowOf) (body : PlainBody) (array : List ℕ) (before : Option ℤ)
-    → value_inside which body (count_of array) before ≡ (if declares body (count_of array) then stated_in body (count_of array) else before)
-entered_count which body array before =
-    ap (λ (test : Bool). if test then row_number which else if declares body (count_of array) then stated_in body (count_of array) else before)
-    (counted_none which array)
 
 pub entered_rows : (which : Option RowOf) (body : PlainBody) (label : List ℕ) (before : Option ℤ)
     → value_inside which body (rows_of label) before ≡ (if declares body (rows_of label) then None else before)

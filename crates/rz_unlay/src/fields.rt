@@ -26,9 +26,7 @@ use crate::steps::{
 };
 use rz_bits::BitView;
 use rz_core::{Facts, NoMemory, Word};
-use rz_types_fields::{
-    ArrayField, Case, Field, InRow, Note, Row, RowList, Tree, fixed_widths, rows_of,
-};
+use rz_types_fields::{ArrayField, Case, Field, InRow, Note, Row, RowList, Tree, fixed_widths};
 use rz_unlay_pieces::{LabelAhead, Learnt, Met, Spot, claim_count, enter, learn_rows, told_label};
 use std::alloc::Global;
 
@@ -249,7 +247,7 @@ impl Reader<'_> {
                 if count < 0 {
                     Ok(None)
                 } else {
-                    self.read_so_many(name, row, count as u64, learnt, at, left)
+                    self.read_so_many(name, row, count as u128, learnt, at, left)
                 }
             }
             None => self.read_open(name, row, rest, learnt, at, left),
@@ -296,7 +294,7 @@ impl Reader<'_> {
         &self,
         name: &'a Option<Word>,
         row: &'a [Field],
-        count: u64,
+        count: u128,
         learnt: &mut Learnt<'a>,
         at: u32,
         left: u32,

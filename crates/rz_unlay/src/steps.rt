@@ -13,7 +13,8 @@ ghost use Rattle.rz_unlay_pieces.specs.Seen.{told_of};
 use crate::came::RowCame;
 use rz_bits::BitView;
 use rz_core::{NoMemory, Word};
-use rz_types_fields::{Field, InRow, Note, Row, RowList, Tree, rows_of};
+use rz_expr::Key;
+use rz_types_fields::{Field, InRow, Note, Row, RowList, Tree, value_noted};
 use rz_unlay_pieces::LabelAhead;
 
 /// The fields after so many.
@@ -69,13 +70,13 @@ pub fn row_behind<'a>(name: &'a Option<Word>, rows: &RowList) -> Option<InRow<'a
 }
 
 /// The number of rows, where it is stated or known.
-pub fn count_known(name: &Option<Word>, count: Option<i32>, notes: &[Note<'_>]) -> Option<i64>
+pub fn count_known(name: &Option<Word>, count: Option<i32>, notes: &[Note<'_>]) -> Option<i128>
     ensures { result ≡ count_known (known notes.now) name.now count }
 {
     match count {
-        Some(count) => Some(i64::from(count)),
+        Some(count) => Some(i128::from(count)),
         None => match name {
-            Some(name) => rows_of(notes, name),
+            Some(name) => value_noted(notes, Key::Count(name)),
             None => None,
         },
     }
