@@ -1,17 +1,16 @@
 -- The names of rows: which of them a row around, or a body that was entered, gives a value.
-use Rattle.std.proofs.Common.{◌≡◌, ℕ, pos, ℤ, Bool, true, false, ◌||◌, List, Option, Some, None, refl, sym, ap, ◌∙◌, arith}
+use Rattle.std.proofs.Common.{◌≡◌, ℕ, ℤ, Bool, true, false, ◌||◌, List, Option, Some, None, refl, sym, ap, ◌∙◌, arith}
 use Rattle.std.specs.Prelude.{if◌then◌else◌}
 use Rattle.std.specs.Str.{str_to_ascii_lowercase}
 use Rattle.rz_core.proofs.Tests.{true_false}
 use Rattle.rz_core.specs.declared.resource.Word.{Word}
 use Rattle.rz_core.specs.Lists.{or_else}
-use Rattle.rz_expr.specs.Environment.{count_of, place_in, place_of, row_in, row_key, rows_of, Key}
+use Rattle.rz_expr.specs.Environment.{count_of, place_in, place_of, row_in, rows_of, Key}
 use Rattle.rz_types_fields.specs.Field.{field_and, no_fields, Align, Array, Fill, Label, Number, PlainBody, PlainField, Points, Switch, Text}
-use Rattle.rz_types_fields.specs.Known.{stated_in, stated_value, value_inside, which_of}
+use Rattle.rz_types_fields.specs.Known.{stated_in, stated_value, value_inside}
 use Rattle.rz_types_fields.specs.Passed.{declares, gives_count, gives_key, gives_rows, has_label}
 use Rattle.rz_types_fields.specs.RowLabels.{is_row, labels_count, numbers_row, row_number, RowOf}
 use Rattle.rz_types_fields.specs.Solve.{is_same_key}
-use Rattle.rz_types_fields.specs.declared.names.InRow.{InRow}
 
 -- The row around.
 

@@ -1,7 +1,6 @@
 use Rattle.std.proofs.Common.{◌≡◌, ℕ, ◌+◌, ◌-◌, length, take, ap, sym, ◌∙◌, arith}
 use Rattle.rz_expr.specs.NameKey.{key_of}
-use Rattle.rz_types_fields.specs.Known.{known, said_or}
-use Rattle.rz_types_fields.specs.declared.names.Said.{Said}
+use Rattle.rz_types_fields.specs.Known.{known}
 use Rattle.rz_types_fields.proofs.Noting.{given_outside, older_known}
 use Rattle.rz_types_fields.proofs.names.value_noted.Goals as goal
 

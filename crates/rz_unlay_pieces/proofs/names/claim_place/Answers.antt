@@ -16,7 +16,7 @@ returns-in_ok-push-clause-known c =
     claims c.args.learnt.now.notes.items _ _ c.in_ok-push.ensures.items (place_key c.args.name.now.bytes) c.args.at
     (λ other before. ap (λ (v : ℤ). if is_same_key (place_key c.args.name.now.bytes) other then Some v else before) same)
     (c.if-agrees.ensures
-    ∙ ap (agrees c.value_noted.result) (to_z-of_z w128 c.from.result (search rules) ∙ c.from.ensures)
+    ∙ ap (agrees c.value_noted.result) (to_z-of_z w128 c.from.result (search rules) ∙ c.from.ensures ∙ same)
     ∙ ap (λ (o : Option ℤ). agrees o c.args.at) (c.value_noted.ensures ∙ ap (λ (ns : List Note). (known ns).give (place_key c.args.name.now.bytes)) c.as_slice.ensures.value))
 
 pub returns-in_ok-push-clause-met : goal.returns-in_ok-push-clause-met

@@ -1,4 +1,4 @@
-use Rattle.std.proofs.Common.{◌≡◌, rules, ℤ, pos, None, Option, of_z, to_z, w32, w64, ap, ◌∙◌}
+use Rattle.std.proofs.Common.{◌≡◌, ℤ, pos, None, Option, of_z, to_z, w32, w64, ap, ◌∙◌}
 use Rattle.std.specs.Prelude.{if◌then◌else◌, nat_abs}
 use Rattle.std.proofs.lemmas.Int.{to_z-of_z}
 use Rattle.rz_types_fields.specs.Sees.{bits_before, hit}
