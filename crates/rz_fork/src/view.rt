@@ -4,7 +4,8 @@ ghost use Rattle.std.specs.Prelude.{◌≡◌, ◌<◌, ◌≤◌, ◌^◌, [], 
 ghost use Rattle.std.specs.List.{AllByRecursion};
 ghost use Rattle.rz_core.specs.Resources.{KeysDiffer};
 ghost use Rattle.rz_fork.specs.Layout.{entries};
-ghost use Rattle.rz_fork.specs.Admit.{admitted, count_of, data_outside, name_outside, HasArea, HasTypes, IsSayable};
+ghost use Rattle.rz_fork.specs.Admit.{admitted, HasArea, HasTypes, IsSayable};
+ghost use Rattle.rz_fork.specs.Rules.{count_of, data_outside, name_outside};
 ghost use Rattle.rz_fork.specs.Contents.{resource_of, FitsFork};
 ghost use Rattle.rz_fork.specs.View.{lent, GivesFirst};
 
