@@ -104,7 +104,7 @@ fn held_of(
 
 /// Whether a resource is protected.
 fn is_protected(resource: &Resource) -> bool
-    ensures { (row : Option (List Tree)) → result ≡ is_protected (Some (record { resource = resource.now; tree = row })) }
+    ensures { result ≡ is_protected resource.now }
 {
     resource.attr.byte() & PROTECTED != 0
 }
