@@ -53,18 +53,19 @@ def compiled(source, resources):
 def shown(types, kind, content, items):
     """What `derez` shows of one resource by its fields."""
     text = "resource '%s' (128) {\n%s\n};\n\n" % (kind, items)
-    return {"main": fork_of([(kind.encode(), 128, b"", 0, content)]), "types.r": types.encode()}, ["derez", "main", "types.r"], "out", text.encode()
+    files = {"main": fork_of([(kind.encode(), 128, b"", 0, content)]), "types.r": types.encode()}
+    return files, ["derez", "main", "types.r"], "out", text.encode()
 
 
 def again(count):
     kinds = [kind_of(number) for number in range(count)]
-    source = "".join("type '%s' { integer; };\n" % kind for kind in kinds) + "".join("type '%s' { byte; };\n" % kind for kind in kinds)
+    source = "".join("type '%s' { %s; };\n" % (kind, field) for field in ("integer", "byte") for kind in kinds)
     return compiled(source + "resource '%s' (1) { 7 };\n" % kinds[-1], [(kinds[-1].encode(), 1, b"", 0, b"\7")])
 
 
 def copies(count):
     kinds = [kind_of(number) for number in range(count // 10)]
-    source = "type 'Many' {\n" + "byte;\n" * count + "};\n" + "".join("type '%s' as 'Many';\n" % kind for kind in kinds)
+    source = "type 'Many' {\n%s};\n" % ("byte;\n" * count) + "".join("type '%s' as 'Many';\n" % kind for kind in kinds)
     source += "resource '%s' (1) {\n%s\n};\n" % (kinds[-1], ",\n".join(["7"] * count))
     return compiled(source, [(kinds[-1].encode(), 1, b"", 0, b"\7" * count)])
 
@@ -76,7 +77,8 @@ def scopes(count):
 
 def included(count):
     resources = [(b"Test", ident, b"", 0, ident.to_bytes(4, "big")) for ident in range(5_000)]
-    fork = laid(*each(("Test", [reference(ident, 8 * (ident % 5_000)) for ident in range(16_384)])), held(*[one[-1] for one in resources]))
+    references = [reference(ident, 8 * (ident % 5_000)) for ident in range(16_384)]
+    fork = laid(*each(("Test", references)), held(*[one[-1] for one in resources]))
     asked = [k * 5_000 // count for k in range(count)]
     source = "".join("include \"T\" 'Test' (%d);\n" % ident for ident in asked)
     files, words, made, wanted = compiled(source, [resources[ident] for ident in asked])
@@ -164,7 +166,8 @@ def main():
             seconds, memory, says = measured(program, files, words, made, wanted)
             growth = ""
             if before:
-                times = (max(seconds, LEAST_SECONDS) / max(before[0], LEAST_SECONDS), max(memory, LEAST_MEMORY) / max(before[1], LEAST_MEMORY))
+                times = (max(seconds, LEAST_SECONDS) / max(before[0], LEAST_SECONDS),
+                         max(memory, LEAST_MEMORY) / max(before[1], LEAST_MEMORY))
                 growth = "%.1f %.1f" % times
                 says += ["grows faster"] * (max(times) > MOST_GROWTH)
             says += ["too slow"] * (seconds > most_seconds) + ["too much memory"] * (memory > most_memory)
