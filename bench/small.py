@@ -1,5 +1,5 @@
 #!/usr/bin/env python3
-"""Measures what small sources and forks take, which were made to take much: time and memory grow with them and no faster.
+"""Measures what small sources and forks take that were made to take much: time and memory grow with them and no faster.
 
 usage: bench/small.py [PROGRAM [KIND..]]
 
@@ -13,11 +13,11 @@ weightless  `derez` of n/4 rows, each with an array of no rows before the key of
 cases       `derez` of n rows, each of another case of a switch of n cases
 symbols     `derez` of ten numbers 1 under n/2 symbols with the value 0 and n/2 of the same names with the value 1
 
-Without KIND all are measured. Three runs are made of each, each ended after 60 seconds or at 1,000 MB of addresses; counted
-are the least seconds of the processor and the most memory. What is written is compared byte by byte with what is made here.
-The status is 1 where a run fails, something differs, more time or memory is taken than wanted, or of twice as much more than
-2.5 times the time or the memory; times under 0.02 seconds and memory under 8 MB aren't compared. Memory is told by
-`/usr/bin/time -v`.
+Without KIND all are measured. Three runs are made of each, each ended after 60 seconds or at 1,000 MB of addresses, and
+one alone where it takes more than six seconds; counted are the least seconds of the processor and the most memory. What
+is written is compared byte by byte with what is made here. The status is 1 where a run fails, something differs, more
+time or memory is taken than wanted, or four times as much takes more than six times the time or the memory; times under
+0.02 seconds count as 0.02, and memory under 8 MB as 8 MB. Memory is told by `/usr/bin/time -v`.
 """
 import os
 import shutil
@@ -31,8 +31,8 @@ from fork_shapes import each, held, laid, reference  # noqa: E402
 from forks import ADDRESSES, MB, SECONDS, TIME, limits_of, peak_in, seconds_of_children  # noqa: E402
 
 RUNS = 3
-MOST_GROWTH = 2.5
-# Times and memory below these say nothing of growth.
+MOST_GROWTH = 6.0
+# Times and memory below these count as these where growth is told.
 LEAST_SECONDS, LEAST_MEMORY = 0.02, 8 * MB
 
 
@@ -87,7 +87,8 @@ def included(count):
 
 def weightless(count):
     rows = count // 4
-    types = "type 'Rows' { array { switch { case One: array [0] {\n%s}; key byte = 1; byte; }; }; };\n" % ("byte;\n" * count)
+    case = "case One: array [0] {\n%s}; key byte = 1; byte;" % ("byte;\n" * count)
+    types = "type 'Rows' { array { switch { %s }; }; };\n" % case
     one = "        One {\n            {\n            },\n            %d\n        }"
     items = ",\n".join(one % (row % 100) for row in range(rows))
     return shown(types, "Rows", b"".join(bytes([1, row % 100]) for row in range(rows)), "    {\n%s\n    }" % items)
@@ -117,7 +118,7 @@ KINDS = {
     "included": (included, 500, 0.5, 16 * MB),
     "weightless": (weightless, 5_000, 0.2, 32 * MB),
     "cases": (cases, 2_500, 1.0, 32 * MB),
-    "symbols": (symbols, 1_000, 0.1, 32 * MB),
+    "symbols": (symbols, 2_000, 0.1, 32 * MB),
 }
 
 
@@ -152,31 +153,43 @@ def measured(program, files, words, made, wanted):
     return min(one[0] for one in runs), max(one[1] for one in runs), says
 
 
+class Bench:
+    """A program, and whether all of its runs so far are as wanted."""
+
+    def __init__(self, program):
+        self.program, self.good = program, True
+        print("%-10s %8s %10s %9s %9s" % ("kind", "n", "bytes read", "seconds", "peak MB"))
+
+    def measure(self, kind, count, before):
+        """Measures so many of a kind, against the seconds and the memory of a fourth of them, and gives what is taken."""
+        make, _, most_seconds, most_memory = KINDS[kind]
+        files, words, made, wanted = make(count)
+        seconds, memory, says = measured(self.program, files, words, made, wanted)
+        taken = max(seconds, LEAST_SECONDS), max(memory, LEAST_MEMORY)
+        if before:
+            times = taken[0] / before[0], taken[1] / before[1]
+            says += ["%.1f times the time and %.1f times the memory of a fourth" % times] * (max(times) > MOST_GROWTH)
+        says += ["too slow"] * (seconds > most_seconds) + ["too much memory"] * (memory > most_memory)
+        self.good = self.good and not says
+        size = sum(len(content) for content in files.values())
+        print("%-10s %8d %10d %9.3f %9.1f  %s" % (kind, count, size, seconds, memory / MB, ", ".join(says)), flush=True)
+        return taken
+
+    def grow(self, kind):
+        least = KINDS[kind][1]
+        first = self.measure(kind, least, None)
+        self.measure(kind, 2 * least, None)
+        self.measure(kind, 4 * least, first)
+
+
 def main():
     here = os.path.dirname(os.path.abspath(__file__))
     built = os.path.join(here, "..", "crates", "rezkit", "out", "rezkit")
-    program = os.path.abspath(sys.argv[1] if len(sys.argv) > 1 else built)
-    good = True
-    print("%-10s %8s %10s %9s %9s  %s" % ("kind", "n", "bytes read", "seconds", "peak MB", "times half as many: seconds, memory"))
+    bench = Bench(os.path.abspath(sys.argv[1] if len(sys.argv) > 1 else built))
     for kind in sys.argv[2:] or KINDS:
-        make, least, most_seconds, most_memory = KINDS[kind]
-        before = None
-        for count in (least, 2 * least, 4 * least):
-            files, words, made, wanted = make(count)
-            seconds, memory, says = measured(program, files, words, made, wanted)
-            growth = ""
-            if before:
-                times = (max(seconds, LEAST_SECONDS) / max(before[0], LEAST_SECONDS),
-                         max(memory, LEAST_MEMORY) / max(before[1], LEAST_MEMORY))
-                growth = "%.1f %.1f" % times
-                says += ["grows faster"] * (max(times) > MOST_GROWTH)
-            says += ["too slow"] * (seconds > most_seconds) + ["too much memory"] * (memory > most_memory)
-            size = sum(len(content) for content in files.values())
-            print("%-10s %8d %10d %9.3f %9.1f  %s  %s" % (kind, count, size, seconds, memory / MB, growth, ", ".join(says)), flush=True)
-            good = good and not says
-            before = (seconds, memory)
-    print("all is as wanted" if good else "something differs or takes too much")
-    sys.exit(0 if good else 1)
+        bench.grow(kind)
+    print("all is as wanted" if bench.good else "something differs or takes too much")
+    sys.exit(0 if bench.good else 1)
 
 
 if __name__ == "__main__":
