@@ -161,7 +161,7 @@ class Bench:
         print("%-10s %8s %10s %9s %9s" % ("kind", "n", "bytes read", "seconds", "peak MB"))
 
     def measure(self, kind, count, before):
-        """Measures so many of a kind, against the seconds and the memory of a fourth of them, and gives what is taken."""
+        """What so many of a kind take, which is printed; it is measured by what a fourth of them took."""
         make, _, most_seconds, most_memory = KINDS[kind]
         files, words, made, wanted = make(count)
         seconds, memory, says = measured(self.program, files, words, made, wanted)
