@@ -10,7 +10,7 @@
 //! It rests on `rz_core`, `rz_bits`, `rz_types_format`, `rz_lex`, `rz_words` and `rz_expr`.
 //! A new kind of field changes `Field` and its mirror `PlainField`, the shape, the pieces and the width here, its value in
 //! `specs/Row` and `Tree`, its stored form in `specs/Spells` and how it is laid in `specs/Laid`, the rules and whether it is
-//! read in `rz_types`, the walk in `rz_types_check`, `copies` of `rz_types_table`, its form in `rz_stmt_fields` and, for
+//! read in `rz_types`, the walk in `rz_types_check`, its form in `rz_stmt_fields` and, for
 //! strings and what has fields within it, in `rz_stmt_type`, which has the values of constants too, the item that fits it
 //! in `rz_stmt_items`, and what `rz_layout` lays. A new kind of name is a case of `KeyRef` and of `Note`; one that a field
 //! gives, of `gives_key`. A new kind of value is a variant of `Tree`, with a call of `rz_types::values`.

@@ -3,7 +3,6 @@
 ghost use Rattle.rz_types_table.specs.Listed.{codes_of};
 ghost use Rattle.rz_types_table.specs.Positions.{ArePlaced};
 
-use crate::copies::copy_template;
 use crate::find::{asked_in, find_in, index_of, no_such_type};
 use crate::positions::{Places, add, held, take_position};
 use rz_core::{NoMemory, OsType, Stop};
@@ -124,14 +123,14 @@ impl TypeTable {
         }
     }
 
-    /// A copy of the template that `find` gives, or without an id of that of the last declaration for any
-    /// id. 239 where there is none (kept: the type, and the id or 0). It goes once over the declarations of the type
+    /// The template that `find` gives, or without an id that of the last declaration for any id, shared and not copied.
+    /// 239 where there is none (kept: the type, and the id or 0). It goes once over the declarations of the type
     /// alone. (MPW Rez.)
     pub fn copy_of(&self, kind: OsType, id: Option<i16>) -> Result<Template, Stop<TypeFault>>
         ensures { Gives (copied kind id (table_of self.now)) (seen template_of result) }
     {
         match asked_in(&self.declared, held(&self.places, kind.code), kind, id) {
-            Some(one) => Ok(copy_template(*self.declared.allocator(), &one.template)?),
+            Some(one) => Ok(one.template.share()?),
             None => Err(Stop::Refused(no_such_type(kind, id))),
         }
     }
