@@ -1,6 +1,6 @@
 -- Bytes and their bits.
-use Rattle.std.proofs.Common.{◌≡◌, ℕ, zero, suc, ◌+◌, ◌*◌, ◌/◌, ◌%◌, ◌^◌, ◌<◌, Bool, List, [], ◌∷◌, ◌++◌, length, take, drop, get_or, refl, sym, ap, ◌∙◌, arith}
-use Rattle.std.proofs.lemmas.List.{append_assoc, length-append, length-take-le, length-drop, take_at, drop_at, take-append-drop}
+use Rattle.std.proofs.Common.{◌≡◌, ℕ, zero, suc, ◌+◌, ◌-◌, ◌*◌, ◌/◌, ◌%◌, ◌^◌, ◌<◌, Bool, List, [], ◌∷◌, ◌++◌, length, take, drop, get_or, refl, sym, ap, ◌∙◌, arith}
+use Rattle.std.proofs.lemmas.List.{append_assoc, length-append, length-take-le, length-drop, take_at, drop_at, drop_more, take-append-drop}
 use Rattle.std.proofs.lemmas.Nat.{pow-add}
 use Rattle.std.specs.Int.{byte_at, bytes_high_first}
 use Rattle.rz_bits.specs.Bits.{number_bits, number_of, bits_of, front_bytes, bytes_of}
@@ -70,3 +70,19 @@ front_bits (suc n) bits is =
 
 pub bits_of-bytes_of : (bits : List Bool) → length bits % 8 ≡ 0 → bits_of (bytes_of bits) ≡ bits
 bits_of-bytes_of bits whole = front_bits (length bits / 8) bits (omega arith)
+
+-- one byte more of some
+pub byte_more : (bits after all : List Bool) (bytes : List ℕ) (i : ℕ) → i < length bytes → after ≡ bits ++ number_bits 8 (get_or bytes i 0)
+    → bits ++ bits_of (drop i bytes) ≡ all → after ++ bits_of (drop (i + 1) bytes) ≡ all
+byte_more bits after all bytes i less is so =
+    ap (λ bs. bs ++ bits_of (drop (i + 1) bytes)) is
+    ∙ append_assoc bits (number_bits 8 (get_or bytes i 0)) (bits_of (drop (i + 1) bytes))
+    ∙ ap (λ bs. bits ++ bits_of bs) (sym (drop_more bytes i 0 less))
+    ∙ so
+
+pub byte_room : (bits after : List Bool) (byte i count : ℕ) → i < count → after ≡ bits ++ number_bits 8 byte → length bits + 8 * (count - i) < 2147483648
+    → length after + 8 * (count - (i + 1)) < 2147483648
+byte_room bits after byte i count less is room =
+    let size : length after ≡ length bits + 8 = ap length is ∙ length-append bits (number_bits 8 byte) ∙ ap (λ n. length bits + n) (length-number_bits 8 byte) in
+    let split : count - i ≡ suc (count - (i + 1)) = omega (arith, less) in
+    omega (arith, size, split, room, less)

@@ -173,6 +173,31 @@ module _ (bytes new : List ℕ) (count value width size : ℕ) (is : IsHeld byte
     below = room;
   }
 
+-- whole bytes after whole bytes hold the bits before, and their own
+module _ (bytes more : List ℕ) (count : ℕ) (is : IsHeld bytes count) (whole : count % 8 ≡ 0) where
+  abbrev total : ℕ
+  total = count + 8 * length more
+
+  all_own : held (bytes ++ more) total ≡ bits_of (bytes ++ more)
+  all_own = take_all total (bits_of (bytes ++ more)) (omega (arith, held_size bytes count is, whole, length-bits_of (bytes ++ more), length-append bytes more))
+
+  pub bytes_pushed : held (bytes ++ more) total ≡ held bytes count ++ bits_of more
+  bytes_pushed =
+      all_own
+      ∙ bits_of-append bytes more
+      ∙ ap (λ bs. bs ++ bits_of more) (sym (take_all count (bits_of bytes) (omega (arith, held_size bytes count is, whole, length-bits_of bytes))))
+
+  pub bytes_held : total < 2 ^ 31 → IsHeld (bytes ++ more) total
+  bytes_held room =
+      let long : length (held (bytes ++ more) total) ≡ total =
+      ap length all_own ∙ length-bits_of (bytes ++ more) ∙ (let a = held_size bytes count is in let b = length-append bytes more in omega (arith, a, b, whole)) in
+      let none : missing 8 (length (held (bytes ++ more) total)) ≡ 0 = omega (arith, long, whole) in
+      record {
+        there = long;
+        filled = sym (ap (λ n. held (bytes ++ more) total ++ zeros n) none ∙ append-nil (held (bytes ++ more) total) ∙ all_own);
+        below = room;
+      }
+
 -- What the code computes.
 
 -- no digit is lost in 64 bits

@@ -1,6 +1,6 @@
 //! A list of bits that grows at its end and becomes bytes. See `specs/Bits` and `specs/BitBuf`.
 
-ghost use Rattle.std.specs.Prelude.{◌≡◌, ◌+◌, ◌^◌, ◌<◌, ◌≤◌, ℕ, [], ◌++◌, length, take, drop, replicate, IfSome, OnOk, OnErr};
+ghost use Rattle.std.specs.Prelude.{◌≡◌, ◌+◌, ◌*◌, ◌^◌, ◌<◌, ◌≤◌, ℕ, List, [], ◌++◌, length, take, drop, replicate, IfSome, OnOk, OnErr};
 ghost use Rattle.std.specs.List.{list_any};
 ghost use Rattle.rz_bits.specs.Bits.{number_bits, bits_of, bytes_of};
 ghost use Rattle.rz_bits.specs.BitBuf.{missing, filled};
@@ -54,6 +54,24 @@ impl BitBuf {
     {
         push_bits(&mut self.bytes, self.count, value, width)?;
         self.count += width as u32;
+        Ok(())
+    }
+
+    /// Appends the bits of bytes, eight a byte. Where memory is refused the first of the bytes, or none, were appended,
+    /// and the others are left. After whole bytes its time is that of a copy.
+    pub fn push_bytes(&mut self, bytes: &[u8]) -> Result<(), NoMemory>
+        requires room { length self.old + 8 * length bytes.now < 2 ^ 31 }
+        ensures ok { OnOk result (self.new ≡ self.old ++ bits_of bytes.now) }
+        ensures err { OnErr result ((left : List ℕ) × (self.new ++ bits_of left ≡ self.old ++ bits_of bytes.now)) }
+    {
+        if self.count % 8 == 0 {
+            self.bytes.extend_from_slice(bytes)?;
+            self.count += 8 * bytes.len() as u32;
+            return Ok(());
+        }
+        for byte in bytes {
+            self.push(*byte as u32, 8)?;
+        }
         Ok(())
     }
 

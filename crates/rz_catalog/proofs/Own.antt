@@ -1,6 +1,6 @@
 -- The entries of a list's own catalogue give the list again.
 use Rattle.std.proofs.Common.{◌≡◌, ℕ, ◌<◌, Bool, true, false, List, [], ◌∷◌, ◌++◌, length, map, Option, Some, None, cond, refl, sym, ap, subst, ◌∙◌, arith}
-use Rattle.std.specs.Prelude.{◌==◌, ◌||◌, not, filter, if◌then◌else◌, nat_lt, option_map, slice_get, Ok}
+use Rattle.std.specs.Prelude.{◌==◌, ◌&&◌, not, filter, if◌then◌else◌, nat_le, option_map, slice_get, Ok}
 use Rattle.std.specs.List.{list_any, AllByRecursion}
 use Rattle.std.specs.Option.{unwrap_or}
 use Rattle.std.proofs.lemmas.Bool.Decides.{nat_tests}
@@ -9,7 +9,7 @@ use Rattle.std.proofs.lemmas.Option.{slice_get_within}
 use Rattle.rz_core.proofs.Tests.{same_some}
 use Rattle.rz_core.specs.Decided.{Decided}
 use Rattle.rz_core.specs.Lists.{first_in, first_of, or_else, unless_fault, with_front}
-use Rattle.rz_core.specs.Resources.{same_key, KeysDiffer}
+use Rattle.rz_core.specs.Resources.{is_protected, same_key, KeysDiffer}
 use Rattle.rz_core.specs.declared.fault.Fault.{Fault}
 use Rattle.rz_core.specs.declared.moment.Moment.{Moment}
 use Rattle.rz_core.specs.declared.resource.Resource.{Resource}
@@ -17,13 +17,13 @@ use Rattle.rz_catalog_entries.specs.Stored.{unmarked}
 use Rattle.rz_catalog_entries.specs.declared.entry.Entry.{Entry}
 use Rattle.rz_types_fields.specs.declared.tree.Tree.{Tree}
 use Rattle.rz_types_table.specs.Table.{Declaration}
-use Rattle.rz_catalog.specs.Apply.{entry_fault, fault_of, first_refused, first_such, has_leaf, is_entry_for, is_protected, placed, same_leaf, text_for, unless, Applied, IsAppliedTo, IsPut, IsRestrung}
+use Rattle.rz_catalog.specs.Apply.{entry_fault, fault_for, fault_of, first_refused, first_such, is_entry_for, placed, refused_where, same_leaf, text_for, Applied, IsAppliedTo, IsPut, IsRestrung}
 use Rattle.rz_catalog.specs.Catalogue.{IsCatalogue}
 use Rattle.rz_catalog.specs.Leaves.{leaves}
 use Rattle.rz_catalog.specs.Stock.{texts_in, texts_of, AreStocked, HasTree, Stocked}
 use Rattle.rz_catalog.proofs.Lookups.{any_map, at_front, behind_differ, each_own, first_map, holder_is, holder_of, leaves_differ, resources_of, stock_list, tested, IsOwn, LeavesDiffer, StockDiffers}
 use Rattle.rz_catalog.proofs.Pairs.{each_by, AreBy}
-use Rattle.rz_catalog.specs.Own.{is_protected_resource, protected_fault, own_answer}
+use Rattle.rz_catalog.specs.Own.{finds_protected, protected_fault, own_answer}
 
 -- Entries as they were read.
 
@@ -42,21 +42,26 @@ differ_unmarked before (e ∷ entries) all = (
 
 module _ (stock : List Stocked) where
   abbrev holder_locked : Entry → Bool
-  holder_locked e = is_protected (holder_of stock e)
+  holder_locked e = finds_protected (option_map (λ s. s.resource) (holder_of stock e))
 
   -- no entry but one of a protected resource
   module _ (over : Bool) where
-    has_own : (e : Entry) → IsOwn stock e → has_leaf e.leaf (holder_of stock e) ≡ true
-    has_own e (s, is, at) = ap (has_leaf e.leaf) is ∙ within e.leaf (length (texts_of s)) (slice_get_within (texts_of s) e.leaf e.text at)
+    own_fault : (before : List Entry) (e : Entry) → IsOwn stock e → list_any (same_leaf e) before ≡ false
+        → entry_fault over stock before e ≡ refused_where (not over && holder_locked e) (fault_of 219 e)
+    own_fault before e (s, is, at) differ =
+        ap (λ (o : Option Stocked). fault_for over o (list_any (same_leaf e) before) e) is
+        ∙ only (nat_le (length (texts_of s)) e.leaf) (not over && is_protected s.resource) (list_any (same_leaf e) before) (fault_of 462 e) (fault_of 219 e) (fault_of 463 e)
+        (within e.leaf (length (texts_of s)) (slice_get_within (texts_of s) e.leaf e.text at)) differ
+        ∙ ap (λ (o : Option Stocked). refused_where (not over && finds_protected (option_map (λ s. s.resource) o)) (fault_of 219 e)) (sym is)
       where
-        within : (k n : ℕ) → k < n → nat_lt k n ≡ true
+        within : (k n : ℕ) → k < n → nat_le n k ≡ false
         within k n less = grind (arith, nat_tests)
 
-    only : (a b c : Bool) (x y z : Fault) → a ≡ true → c ≡ false → first_of (unless a x ∷ unless b y ∷ unless (not c) z ∷ []) ≡ unless b y
-    only true true false x y z one two = refl
-    only true false false x y z one two = refl
-    only true b true x y z one two = absurd (cc two)
-    only false b c x y z one two = absurd (cc one)
+        only : (a b c : Bool) (x y z : Fault) → a ≡ false → c ≡ false → first_of (refused_where a x ∷ refused_where b y ∷ refused_where c z ∷ []) ≡ refused_where b y
+        only false true false x y z one two = refl
+        only false false false x y z one two = refl
+        only false b true x y z one two = absurd (cc two)
+        only true b c x y z one two = absurd (cc one)
 
     refused_is : (before entries : List Entry) → AllByRecursion (IsOwn stock) entries → LeavesDiffer before entries
         → first_in (entry_fault over stock) before entries ≡ (if over then None else option_map (fault_of 219) (first_such holder_locked entries))
@@ -66,29 +71,24 @@ module _ (stock : List Stocked) where
         none true = refl
         none false = refl
     refused_is before (e ∷ entries) own differ =
-        (λ i. or_else
-        (only (has_leaf e.leaf (holder_of stock e)) (over || not (holder_locked e)) (list_any (same_leaf e) before) (fault_of 462 e) (fault_of 219 e) (fault_of 463 e)
-        (has_own e own.0) differ.0 i) (refused_is (before ++ e ∷ []) entries own.1 differ.1 i))
+        (λ i. or_else (own_fault before e own.0 differ.0 i) (refused_is (before ++ e ∷ []) entries own.1 differ.1 i))
         ∙ by over (holder_locked e)
       where
         by : (b locked : Bool)
-            → or_else (unless (b || not locked) (fault_of 219 e)) (if b then None else option_map (fault_of 219) (first_such holder_locked entries))
+            → or_else (refused_where (not b && locked) (fault_of 219 e)) (if b then None else option_map (fault_of 219) (first_such holder_locked entries))
             ≡ (if b then None else option_map (fault_of 219) (if locked then Some e else first_such holder_locked entries))
         by true locked = refl
         by false true = refl
         by false false = refl
 
 -- its holder in the list
-protected_is : (list : List Resource) (stock : List Stocked) → resources_of stock ≡ list → (e : Entry) → is_protected (holder_of stock e) ≡ is_protected_resource (first_such (λ r. is_entry_for r e) list)
+protected_is : (list : List Resource) (stock : List Stocked) → resources_of stock ≡ list → (e : Entry)
+    → finds_protected (option_map (λ s. s.resource) (holder_of stock e)) ≡ finds_protected (first_such (λ r. is_entry_for r e) list)
 protected_is list stock is e =
-    by (holder_of stock e) ∙ ap is_protected_resource (sym (first_map (λ r. is_entry_for r e) (λ s. s.resource) stock)) ∙ ap (λ (l : List Resource). is_protected_resource (first_such (λ r. is_entry_for r e) l)) is
-  where
-    by : (o : Option Stocked) → is_protected o ≡ is_protected_resource (option_map (λ s. s.resource) o)
-    by None = refl
-    by (Some s) = refl
+    ap finds_protected (sym (first_map (λ r. is_entry_for r e) (λ s. s.resource) stock)) ∙ ap (λ (l : List Resource). finds_protected (first_such (λ r. is_entry_for r e) l)) is
 
 fault_is : (over : Bool) (list : List Resource) (entries : List Entry)
-    → (if over then None else option_map (fault_of 219) (first_such (λ e. is_protected_resource (first_such (λ r. is_entry_for r e) list)) entries)) ≡ protected_fault over list entries
+    → (if over then None else option_map (fault_of 219) (first_such (λ e. finds_protected (first_such (λ r. is_entry_for r e) list)) entries)) ≡ protected_fault over list entries
 fault_is true list entries = refl
 fault_is false list entries = refl
 

@@ -1,20 +1,21 @@
 -- What entries leave of resources, and where their faults stand.
-use Rattle.std.proofs.Common.{◌≡◌, ◌<◌, ℕ, Bool, true, false, not, ◌||◌, if◌then◌else◌, List, [], ◌∷◌, ◌++◌, map, filter, Option, Some, None, Ok, Err, inl, inr, refl, sym, ap, subst, ◌∙◌}
-use Rattle.std.specs.Prelude.{option_map}
+use Rattle.std.proofs.Common.{◌≡◌, ◌<◌, ℕ, Bool, true, false, not, if◌then◌else◌, List, [], ◌∷◌, ◌++◌, length, map, filter, Option, Some, None, Ok, Err, inl, inr, refl, sym, ap, subst, ◌∙◌}
+use Rattle.std.specs.Prelude.{◌&&◌, nat_le, option_map}
 use Rattle.std.specs.List.{list_any}
 use Rattle.std.specs.Option.{ok_or}
 use Rattle.rz_core.proofs.Once.{ok, err, ok_or_err, same_err, same_ok}
 use Rattle.rz_core.specs.Lists.{first_in, first_of, or_else}
 use Rattle.rz_core.specs.Message.{IsNameable}
+use Rattle.rz_core.specs.Resources.{is_protected}
 use Rattle.rz_core.specs.declared.fault.Fault.{Fault}
 use Rattle.rz_core.specs.declared.moment.Moment.{Moment}
 use Rattle.rz_core.specs.declared.resource.Resource.{Resource}
 use Rattle.rz_types_fields.specs.declared.tree.Tree.{Tree}
 use Rattle.rz_types_table.specs.Table.{Declaration}
-use Rattle.rz_catalog.specs.Apply.{entry_fault, fault_of, first_refused, first_such, has_leaf, is_entry_for, is_protected, same_leaf, unless, with_bytes, Applied, IsAppliedTo, IsPut, IsRestrung}
+use Rattle.rz_catalog.specs.Apply.{entry_fault, fault_for, fault_of, first_refused, first_such, is_entry_for, refused_where, same_leaf, with_bytes, Applied, IsAppliedTo, IsPut, IsRestrung}
 use Rattle.rz_catalog.specs.Stays.{bare}
 use Rattle.rz_catalog_entries.specs.Stored.{AreEntriesIn}
-use Rattle.rz_catalog.specs.Stock.{AreStocked, Stocked}
+use Rattle.rz_catalog.specs.Stock.{texts_of, AreStocked, Stocked}
 use Rattle.rz_catalog_entries.specs.InOrder.{EachInOrder}
 use Rattle.rz_catalog_entries.specs.declared.entry.Entry.{Entry}
 
@@ -69,18 +70,21 @@ module _ (files : ℕ) where
 
   -- the first of three that there may be is one of these
   one_of : (a b c : Bool) (f g h : Fault) → IsNameable files f → IsNameable files g → IsNameable files h → (fault : Fault)
-      → first_of (unless a f ∷ unless b g ∷ unless c h ∷ []) ≡ Some fault → IsNameable files fault
-  one_of false b c f g h one two three fault is = subst (IsNameable files) (some_same f fault is) one
-  one_of true false c f g h one two three fault is = subst (IsNameable files) (some_same g fault is) two
-  one_of true true false f g h one two three fault is = subst (IsNameable files) (some_same h fault is) three
-  one_of true true true f g h one two three fault is = absurd (none_some fault is)
+      → first_of (refused_where a f ∷ refused_where b g ∷ refused_where c h ∷ []) ≡ Some fault → IsNameable files fault
+  one_of true b c f g h one two three fault is = subst (IsNameable files) (some_same f fault is) one
+  one_of false true c f g h one two three fault is = subst (IsNameable files) (some_same g fault is) two
+  one_of false false true f g h one two three fault is = subst (IsNameable files) (some_same h fault is) three
+  one_of false false false f g h one two three fault is = absurd (none_some fault is)
 
   module _ (over : Bool) (stock : List Stocked) where
     entry_told : (before : List Entry) (e : Entry) (fault : Fault) → e.mark.file < files → entry_fault over stock before e ≡ Some fault → IsNameable files fault
-    entry_told before e fault within is =
-        one_of (has_leaf e.leaf (first_such (λ s. is_entry_for s.resource e) stock)) (over || not (is_protected (first_such (λ s. is_entry_for s.resource e) stock)))
-        (not (list_any (same_leaf e) before)) (fault_of 462 e) (fault_of 219 e) (fault_of 463 e)
-        (record { number = refl; place = within }) (record { number = refl; place = within }) (record { number = refl; place = within }) fault is
+    entry_told before e fault within is = by (first_such (λ s. is_entry_for s.resource e) stock) is
+      where
+        by : (found : Option Stocked) → fault_for over found (list_any (same_leaf e) before) e ≡ Some fault → IsNameable files fault
+        by None is = told 462 e fault (sym (some_same (fault_of 462 e) fault is)) (record { number = refl; place = within })
+        by (Some s) is =
+            one_of (nat_le (length (texts_of s)) e.leaf) (not over && is_protected s.resource) (list_any (same_leaf e) before) (fault_of 462 e) (fault_of 219 e) (fault_of 463 e)
+            (record { number = refl; place = within }) (record { number = refl; place = within }) (record { number = refl; place = within }) fault is
 
     first_told : (before entries : List Entry) (fault : Fault) → AreEntriesIn files entries → first_in (entry_fault over stock) before entries ≡ Some fault → IsNameable files fault
     first_told before [] fault all is = absurd (none_some fault is)

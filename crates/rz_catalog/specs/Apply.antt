@@ -1,12 +1,12 @@
 -- A list of resources with the texts of entries in place of its leaves, or why an entry is refused.
-use Rattle.std.specs.Prelude.{◌≡◌, ℕ, ◌==◌, nat_lt, Bool, true, false, not, ◌&&◌, ◌||◌, if◌then◌else◌, List, [], ◌∷◌, bit_and, filter, length, Option, Some, None, option_map, Ok, Err}
+use Rattle.std.specs.Prelude.{◌≡◌, ℕ, ◌==◌, nat_le, Bool, true, false, not, ◌&&◌, if◌then◌else◌, List, [], ◌∷◌, filter, length, Option, Some, None, option_map, Ok, Err}
 use Rattle.std.specs.Int.{cast_unsigned, w16}
 use Rattle.std.specs.List.{list_any}
 use Rattle.std.specs.Option.{ok_or, unwrap_or}
 use Rattle.std.specs.declared.result.Result.{Result}
 use Rattle.rz_core.specs.Decided.{Decided}
 use Rattle.rz_core.specs.Lists.{each_with_front, first_in, first_of}
-use Rattle.rz_core.specs.Resources.{id_bits}
+use Rattle.rz_core.specs.Resources.{id_bits, is_protected}
 use Rattle.rz_core.specs.declared.fault.Fault.{Fault}
 use Rattle.rz_core.specs.declared.fault.Kept.TheVariants.{Key}
 use Rattle.rz_core.specs.declared.moment.Moment.{Moment}
@@ -50,27 +50,20 @@ placed entries texts = each_with_front (λ before own. text_for entries (length 
 abbrev pub fault_of : ℕ → Entry → Fault
 fault_of number e = record { number = number; mark = Some e.mark; kept = Key e.kind e.id }
 
-abbrev pub unless : Bool → Fault → Option Fault
-unless true fault = None
-unless false fault = Some fault
+-- a fault where a test holds
+abbrev pub refused_where : Bool → Fault → Option Fault
+refused_where true fault = Some fault
+refused_where false fault = None
 
-abbrev pub has_leaf : ℕ → Option Stocked → Bool
-has_leaf leaf None = false
-has_leaf leaf (Some s) = nat_lt leaf (length (texts_of s))
-
--- the bit 08 of the attributes is that of a protected resource
-abbrev pub is_protected : Option Stocked → Bool
-is_protected None = false
-is_protected (Some s) = not (bit_and s.resource.attr 8 == 0)
-
--- why an entry is refused, for a resource or for none, and where one before it has the same leaf or not: 462 where there is
--- no such leaf, 219 for a protected resource, 463 for a leaf that is there twice
-abbrev pub fault_for : Bool → Option Stocked → Bool → Entry → Option Fault
-fault_for over found twice e =
+-- why an entry is refused, for a resource or for none: 462 where there is no such leaf, 219 for a protected resource, if these may not
+-- be changed, 463 where an entry before has the same leaf
+abbrev pub fault_for : (over : Bool) → Option Stocked → (twice : Bool) → Entry → Option Fault
+fault_for over None twice e = Some (fault_of 462 e)
+fault_for over (Some s) twice e =
     first_of (
-    unless (has_leaf e.leaf found) (fault_of 462 e)
-    ∷ unless (over || not (is_protected found)) (fault_of 219 e)
-    ∷ unless (not twice) (fault_of 463 e)
+    refused_where (nat_le (length (texts_of s)) e.leaf) (fault_of 462 e)
+    ∷ refused_where (not over && is_protected s.resource) (fault_of 219 e)
+    ∷ refused_where twice (fault_of 463 e)
     ∷ [])
 
 -- an entry after others is for the first resource that has its type and id
@@ -85,19 +78,26 @@ first_refused over stock entries = first_in (entry_fault over stock) [] entries
 abbrev pub with_bytes : Resource → List ℕ → Resource
 with_bytes r bytes = record { kind = r.kind; id = r.id; name = r.name; attr = r.attr; bytes = bytes }
 
--- a resource whose bytes tell a row, and its entries, of which there is a first one: with other bytes it has the row with
--- the texts in place as its tree, or else there are no such bytes, which is 464
-abbrev pub IsChanged : List Declaration → Moment → Resource → List Tree → List Entry → Entry → Result Resource Fault → Type 0
-IsChanged types moment r row entries first answer =
+-- a resource whose bytes tell a row, and its entries, of which there is a first one: it has bytes that tell the row with the texts in
+-- place, or else there are no such bytes, which is 464
+abbrev pub IsChangedBy : (Tell : List ℕ → List Tree → Type 0) → Resource → List Tree → List Entry → Entry → Result Resource Fault → Type 0
+IsChangedBy Tell r row entries first answer =
     (new : List Tree) × HasTexts (placed entries (leaves row)) row new
-    × (found : Option (List ℕ)) × Decided (λ bytes. HasTree types moment (with_bytes r bytes) new) found
+    × (found : Option (List ℕ)) × Decided (λ bytes. Tell bytes new) found
     × (answer ≡ ok_or (option_map (with_bytes r) found) (fault_of 464 first))
 
 -- a resource without an entry, or without a tree, stays
+abbrev pub IsPutBy : (Tell : List ℕ → List Tree → Type 0) → Resource → Option (List Tree) → List Entry → Result Resource Fault → Type 0
+IsPutBy Tell r tree [] answer = answer ≡ Ok r
+IsPutBy Tell r None (first ∷ others) answer = answer ≡ Ok r
+IsPutBy Tell r (Some row) (first ∷ others) answer = IsChangedBy Tell r row (first ∷ others) first answer
+
+-- other bytes tell a row where the resource has it with them as its tree
+abbrev pub IsChanged : List Declaration → Moment → Resource → List Tree → List Entry → Entry → Result Resource Fault → Type 0
+IsChanged types moment r row entries first answer = IsChangedBy (λ bytes new. HasTree types moment (with_bytes r bytes) new) r row entries first answer
+
 abbrev pub IsPut : List Declaration → Moment → Resource → Option (List Tree) → List Entry → Result Resource Fault → Type 0
-IsPut types moment r tree [] answer = answer ≡ Ok r
-IsPut types moment r None (first ∷ others) answer = answer ≡ Ok r
-IsPut types moment r (Some row) (first ∷ others) answer = IsChanged types moment r row (first ∷ others) first answer
+IsPut types moment r tree entries answer = IsPutBy (λ bytes new. HasTree types moment (with_bytes r bytes) new) r tree entries answer
 
 abbrev pub IsRestrung : List Declaration → Moment → List Entry → Stocked → Result Resource Fault → Type 0
 IsRestrung types moment entries s answer = IsPut types moment s.resource s.tree (filter (is_entry_for s.resource) entries) answer

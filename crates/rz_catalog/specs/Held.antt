@@ -1,12 +1,11 @@
 -- What the code holds of resources and entries while it checks these: where the first one with each key stands, how many
 -- leaves each resource has, and whether it is protected.
-use Rattle.std.specs.Prelude.{◌≡◌, ℕ, ℤ, ◌==◌, ◌&&◌, Bool, List, [], ◌∷◌, length, map, Option, Some, None, option_map, Ok}
+use Rattle.std.specs.Prelude.{◌≡◌, ℕ, ℤ, ◌==◌, ◌&&◌, Bool, List, length, map, Option}
 use Rattle.std.specs.HashMap.{get, HashMap}
 use Rattle.std.specs.Int.{cast_unsigned, w16}
 use Rattle.std.specs.List.{position_from}
-use Rattle.std.specs.Option.{ok_or}
 use Rattle.std.specs.declared.result.Result.{Result}
-use Rattle.rz_core.specs.Decided.{Decided}
+use Rattle.rz_core.specs.Resources.{is_protected}
 use Rattle.rz_core.specs.declared.facts.Facts.{Facts}
 use Rattle.rz_core.specs.declared.fault.Fault.{Fault}
 use Rattle.rz_core.specs.declared.resource.OsType.{OsType}
@@ -15,8 +14,7 @@ use Rattle.rz_catalog_entries.specs.declared.entry.Entry.{Entry}
 use Rattle.rz_types.specs.Field.{PlainBody}
 use Rattle.rz_types_fields.specs.declared.tree.Tree.{Tree}
 use Rattle.rz_unlay.specs.Reading.{IsTree}
-use Rattle.rz_catalog.specs.Apply.{fault_of, is_protected, placed, with_bytes}
-use Rattle.rz_catalog.specs.Leaves.{leaves, HasTexts}
+use Rattle.rz_catalog.specs.Apply.{IsChangedBy, IsPutBy}
 use Rattle.rz_catalog.specs.Stock.{texts_of, Stocked}
 use Rattle.rz_catalog.specs.declared.stock.Held.{Held}
 use Rattle.rz_catalog.specs.declared.stock.Stock.{Stock}
@@ -48,7 +46,7 @@ AreFirst eq keys map = (k : _) → get eq map k ≡ position_from (eq k) 0 keys
 -- What is held of a stock.
 
 abbrev pub held_of : Stocked → Held
-held_of s = record { leaves = length (texts_of s); protected = is_protected (Some s) }
+held_of s = record { leaves = length (texts_of s); protected = is_protected s.resource }
 
 pub record IsHeld (stock : List Stocked) (held : Stock) : Type 0 where
   pub places : AreFirst key_eq (map (λ s. resource_key s.resource) stock) held.places
@@ -57,12 +55,7 @@ pub record IsHeld (stock : List Stocked) (held : Stock) : Type 0 where
 -- What is put into a resource under a template, where so much is known of it.
 
 abbrev pub IsChangedUnder : Option PlainBody → Facts → Resource → List Tree → List Entry → Entry → Result Resource Fault → Type 0
-IsChangedUnder fields known r row entries first answer =
-    (new : List Tree) × HasTexts (placed entries (leaves row)) row new
-    × (found : Option (List ℕ)) × Decided (λ bytes. (body : PlainBody) × IsTree fields known bytes body new) found
-    × (answer ≡ ok_or (option_map (with_bytes r) found) (fault_of 464 first))
+IsChangedUnder fields known r row entries first answer = IsChangedBy (λ bytes new. (body : PlainBody) × IsTree fields known bytes body new) r row entries first answer
 
 abbrev pub IsPutUnder : Option PlainBody → Facts → Resource → Option (List Tree) → List Entry → Result Resource Fault → Type 0
-IsPutUnder fields known r tree [] answer = answer ≡ Ok r
-IsPutUnder fields known r None (first ∷ others) answer = answer ≡ Ok r
-IsPutUnder fields known r (Some row) (first ∷ others) answer = IsChangedUnder fields known r row (first ∷ others) first answer
+IsPutUnder fields known r tree entries answer = IsPutBy (λ bytes new. (body : PlainBody) × IsTree fields known bytes body new) r tree entries answer

@@ -1,10 +1,10 @@
 //! What is held of the resources of a list while entries are checked. See `specs/Held`.
 
-ghost use Rattle.std.specs.Prelude.{◌≡◌, IfOk, List, Option, option_map, slice_get, Some};
+ghost use Rattle.std.specs.Prelude.{◌≡◌, IfOk, List, Option, option_map, slice_get};
 ghost use Rattle.rz_core.specs.Decided.{Decided};
 ghost use Rattle.rz_types_fields.specs.declared.tree.Tree.{Tree};
 ghost use Rattle.rz_types_table.specs.TypeTable.{table_of};
-ghost use Rattle.rz_catalog.specs.Apply.{first_such, is_entry_for, is_protected};
+ghost use Rattle.rz_catalog.specs.Apply.{first_such, is_entry_for};
 ghost use Rattle.rz_catalog.specs.Held.{held_of, IsHeld};
 ghost use Rattle.rz_catalog.specs.Stock.{AreStocked, HasTree, Stocked};
 
@@ -14,9 +14,6 @@ use rz_catalog_entries::Entry;
 use rz_core::{Listing, Moment, NoMemory, Resource, Resources};
 use rz_types_table::TypeTable;
 use std::alloc::Global;
-
-/// The attribute bit of a protected resource.
-const PROTECTED: u8 = 0x08;
 
 /// What is held of a resource.
 #[derive(Clone, Copy, Debug, Drop)]
@@ -98,13 +95,6 @@ fn held_of(
     )?;
     Ok(Held {
         leaves: texts.len(),
-        protected: is_protected(resource),
+        protected: resource.is_protected(),
     })
-}
-
-/// Whether a resource is protected.
-fn is_protected(resource: &Resource) -> bool
-    ensures { (row : Option (List Tree)) → result ≡ is_protected (Some (record { resource = resource.now; tree = row })) }
-{
-    resource.attr.byte() & PROTECTED != 0
 }

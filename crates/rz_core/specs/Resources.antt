@@ -1,5 +1,5 @@
 -- Types, lists of resources and the keys of resources. (Inside Macintosh: More Macintosh Toolbox, Resource Manager.)
-use Rattle.std.specs.Prelude.{◌≡◌, ℕ, ◌==◌, ◌&&◌, Bool, false, if◌then◌else◌, List, [], ◌∷◌, ◌++◌, fold, Option, Some, None}
+use Rattle.std.specs.Prelude.{◌≡◌, ℕ, ◌==◌, ◌&&◌, Bool, false, not, if◌then◌else◌, List, [], ◌∷◌, ◌++◌, bit_and, fold, Option, Some, None}
 use Rattle.std.specs.List.{list_any}
 use Rattle.std.specs.Int.{cast_unsigned, from_be_bytes, w16, w32}
 use Rattle.rz_core.specs.declared.resource.OsType.{OsType}
@@ -13,6 +13,10 @@ kind_of bytes = None
 -- the 16 bits of a resource's id
 abbrev pub id_bits : Resource → ℕ
 id_bits r = cast_unsigned w16 r.id
+
+-- the bit 08 of the attributes is that of a protected resource
+abbrev pub is_protected : Resource → Bool
+is_protected r = not (bit_and r.attr 8 == 0)
 
 -- the two resources have the same type and the same id
 abbrev pub same_key : Resource → Resource → Bool

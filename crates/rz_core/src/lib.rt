@@ -1,7 +1,8 @@
 //! The values that all other crates share: bytes and lists, numbers at a place of bytes, types and attributes of
 //! resources, moments, Mac Roman, and faults with their message lines. Each call gives exactly its definition, or is
 //! out of memory.
-//! It rests on the standard library, on `byteorder` for numbers in bytes, and on `jiff_core` for the calendar.
+//! It rests on the standard library, on `bitflags` for attributes, on `byteorder` for numbers in bytes, and on
+//! `jiff_core` for the calendar.
 //! A new fault is a row of the table in `message`, of its definition, and of docs/LANGUAGE.md. Definitions that
 //! several crates need stand in `specs`.
 #![tactic(auto)]

@@ -1,9 +1,10 @@
 //! A resource and its type, lists of resources, and names of the language.
 
 ghost use Rattle.std.specs.Prelude.{◌≡◌};
-ghost use Rattle.rz_core.specs.Resources.{kind_of};
+ghost use Rattle.rz_core.specs.Resources.{is_protected, kind_of};
 
 use crate::{Attr, Bytes, Listing};
+use bitflags::Flags;
 
 /// The type of a resource: four bytes in Mac Roman, as one number with the first byte highest.
 #[derive(Clone, Copy, Debug, PartialEq, Eq)]
@@ -39,6 +40,16 @@ pub struct Resource {
     pub attr: Attr,
     /// The contents.
     pub bytes: Bytes,
+}
+
+impl Resource {
+    /// Whether it is protected: whether the bit 08 of its attributes is set. (Inside Macintosh: More Macintosh Toolbox,
+    /// Resource Manager.)
+    pub fn is_protected(&self) -> bool
+        ensures { result ≡ is_protected self.now }
+    {
+        self.attr.contains(Attr::PROTECTED)
+    }
 }
 
 /// A list of resources.

@@ -11,8 +11,8 @@ use Rattle.rz_fork.specs.declared.layout.Outline.{Outline}
 use Rattle.rz_fork.specs.declared.layout.TypeEntry.{TypeEntry}
 use Rattle.rz_fork.specs.declared.layout.Reference.{Reference}
 use Rattle.rz_fork.specs.Layout.{entries, references}
-use Rattle.rz_fork.specs.Admit.{Tested, list_rule, count_of}
-use Rattle.rz_fork.specs.Admit as admit
+use Rattle.rz_fork.specs.Rules.{Tested, list_rule, count_of}
+use Rattle.rz_fork.specs.Rules as rules
 use Rattle.rz_fork.specs.Breaks.{listed, holds, type_faults, whole_faults}
 use Rattle.rz_fork.proofs.Items.{count_more, length-entries, length-references}
 use Rattle.rz_det.specs.declared.lists.Cursor.{Cursor}
@@ -94,15 +94,15 @@ module _ (pass : Pass) (bytes : List ℕ) (o : Outline) where
 
   pub whole_type : (before : List TypeEntry) (t : TypeEntry) → (pass ≡ Data) ⊎ ((pass ≡ Names) ⊎ (pass ≡ Ids)) → is_some (list_rule o before t) ≡ false
       → on_type pass bytes o before t ≡ references_left pass bytes o t 0
-  whole_type before t (inl e) holds = rw e (whole admit.Data before t holds)
-  whole_type before t (inr (inl e)) holds = rw e (whole admit.Name before t holds)
-  whole_type before t (inr (inr e)) holds = rw e (whole admit.Id before t holds)
+  whole_type before t (inl e) holds = rw e (whole rules.Data before t holds)
+  whole_type before t (inr (inl e)) holds = rw e (whole rules.Name before t holds)
+  whole_type before t (inr (inr e)) holds = rw e (whole rules.Id before t holds)
 
   pub broken_type : (before : List TypeEntry) (t : TypeEntry) → (pass ≡ Data) ⊎ ((pass ≡ Names) ⊎ (pass ≡ Ids)) → is_some (list_rule o before t) ≡ true
       → on_type pass bytes o before t ≡ []
-  broken_type before t (inl e) fails = rw e (if_fails (list_rule o before t) (type_faults admit.Data bytes o t) fails)
-  broken_type before t (inr (inl e)) fails = rw e (if_fails (list_rule o before t) (type_faults admit.Name bytes o t) fails)
-  broken_type before t (inr (inr e)) fails = rw e (if_fails (list_rule o before t) (type_faults admit.Id bytes o t) fails)
+  broken_type before t (inl e) fails = rw e (if_fails (list_rule o before t) (type_faults rules.Data bytes o t) fails)
+  broken_type before t (inr (inl e)) fails = rw e (if_fails (list_rule o before t) (type_faults rules.Name bytes o t) fails)
+  broken_type before t (inr (inr e)) fails = rw e (if_fails (list_rule o before t) (type_faults rules.Id bytes o t) fails)
 
   -- a rule that begins finds what it finds in all types
   pub from_start : (at : Cursor) → at.entry.count ≤ at.next → at.begun ≡ 0 → left_here pass bytes o at ≡ in_types pass bytes o

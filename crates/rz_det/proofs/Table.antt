@@ -8,7 +8,7 @@ use Rattle.rz_fork.specs.declared.fault.ForkFault.{ForkFault}
 use Rattle.rz_fork.specs.declared.layout.Header.{Header}
 use Rattle.rz_fork.specs.declared.layout.Outline.{Outline}
 use Rattle.rz_fork.specs.Layout.{header_of, types_of, the_outline}
-use Rattle.rz_fork.specs.Admit.{short_header, data_area_outside, map_outside, short_map, type_list_outside, types_outside}
+use Rattle.rz_fork.specs.Rules.{short_header, data_area_outside, map_outside, short_map, type_list_outside, types_outside}
 use Rattle.rz_fork.specs.Breaks.{Rule, ShortHeader, DataArea, MapArea, ShortMap, TypeList, Types, Lists, DataOf, NamesOf, Codes, Ids, listed, faults, where_hold, behind, rules, breaks}
 use Rattle.rz_det.specs.Left.{lists_of}
 

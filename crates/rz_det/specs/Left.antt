@@ -9,8 +9,9 @@ use Rattle.rz_fork.specs.declared.layout.Outline.{Outline}
 use Rattle.rz_fork.specs.declared.layout.TypeEntry.{TypeEntry}
 use Rattle.rz_fork.specs.declared.layout.Reference.{Reference}
 use Rattle.rz_fork.specs.Layout.{entries, references}
-use Rattle.rz_fork.specs.Admit.{data_outside, name_outside, list_rule, type_rule, id_rule, count_of, HasArea, HasTypes, IsSayable}
-use Rattle.rz_fork.specs.Admit as admit
+use Rattle.rz_fork.specs.Admit.{HasArea, HasTypes, IsSayable}
+use Rattle.rz_fork.specs.Rules.{data_outside, name_outside, list_rule, type_rule, id_rule, count_of}
+use Rattle.rz_fork.specs.Rules as rules
 use Rattle.rz_fork.specs.Code.{AreMarked}
 use Rattle.rz_fork.specs.Breaks.{listed, all_in, whole_faults}
 use Rattle.rz_det.specs.declared.heads.Heads.{Heads}
@@ -29,10 +30,10 @@ in_type Ids bytes o before r = id_rule before r
 -- what a rule finds at a type and its references; it sees the types before it
 abbrev pub on_type : Pass → List ℕ → Outline → List TypeEntry → TypeEntry → List ForkFault
 on_type Lists bytes o before t = listed (list_rule o before t)
-on_type Data bytes o before t = whole_faults admit.Data bytes o before t
-on_type Names bytes o before t = whole_faults admit.Name bytes o before t
+on_type Data bytes o before t = whole_faults rules.Data bytes o before t
+on_type Names bytes o before t = whole_faults rules.Name bytes o before t
 on_type Codes bytes o before t = listed (type_rule before t)
-on_type Ids bytes o before t = whole_faults admit.Id bytes o before t
+on_type Ids bytes o before t = whole_faults rules.Id bytes o before t
 
 -- what a rule finds in all types
 abbrev pub in_types : Pass → List ℕ → Outline → List ForkFault

@@ -1,6 +1,7 @@
 pub mod Keyword
 pub mod Term
 pub mod Environment
+pub mod NameKey
 pub mod Value
 pub mod Unvalued
 pub mod Grammar

@@ -6,8 +6,10 @@ ghost use Rattle.rz_expr.specs.Constant.{constant_of, constant_sight, is_constan
 ghost use Rattle.rz_expr.specs.Term.{term_of};
 ghost use Rattle.rz_core.specs.Decided.{Decided};
 
-use crate::{Env, Expr, FactWord, one_expression, predefined, read_whole, value_in};
-use rz_core::{NoMemory, Word};
+use crate::{
+    Env, Expr, FactWord, Key, one_expression, predefined, read_whole, value_in, value_outside,
+};
+use rz_core::NoMemory;
 use rz_lex::Token;
 use std::alloc::Global;
 
@@ -19,27 +21,11 @@ impl Env for ConstantEnv {
 
     ghost belongs = { λ _ finished. finished ≡ constant_sight };
 
-    fn place(&self, name: &Word) -> Option<i32> {
-        predefined(name)
+    fn give(&self, key: Key<'_>) -> Option<i128> {
+        value_outside(key)
     }
 
-    fn count(&self, _name: &Word) -> Option<i32> {
-        None
-    }
-
-    fn rows(&self, _label: &Word) -> Option<u64> {
-        None
-    }
-
-    fn place_at(&self, _label: &Word, _row: i32) -> Option<i32> {
-        None
-    }
-
-    fn row(&self, _array: &Word) -> Option<i32> {
-        None
-    }
-
-    fn bits(&self, _name: &Word, _start: i32, _width: i32) -> Option<u32> {
+    fn bits(&self, _first: i64, _width: i32) -> Option<u32> {
         None
     }
 

@@ -1,6 +1,6 @@
 //! The reader of expressions, from loose operators down to operands. The grammar is in `specs/Grammar`.
 
-ghost use Rattle.std.specs.Prelude.{◌≡◌, ◌+◌, ◌*◌, ◌%◌, ◌^◌, ◌<◌, ◌≤◌, true, None, pos, length, drop, List, IfOk, IfSome, MatchOption};
+ghost use Rattle.std.specs.Prelude.{◌≡◌, ◌⊎◌, ◌+◌, ◌*◌, ◌%◌, ◌^◌, ◌<◌, ◌≤◌, true, None, pos, length, drop, List, IfOk, IfSome, MatchOption};
 ghost use Rattle.rz_expr.specs.Fronts.{NoneBegins, NoneEnds};
 ghost use Rattle.rz_expr.specs.Grammar.{bytes_number, is_bracket, loosest, sign_start, word_start, Bracket, Calls, IsExpression, Label, LongestExpression, NoExpression};
 ghost use Rattle.rz_expr.specs.Reading.{prefix_count, prefix_of, prefixed_term, Begins, IsEnded, IsFront};
@@ -78,7 +78,7 @@ pub fn read_whole(alloc: Global, tokens: &[Token]) -> Result<Option<Expr>, NoMem
     ensures { IfOk result (λ found. MatchOption found ((term : Term) → IsExpression tokens.now term → ⊥)
         (λ expr. IsExpression tokens.now (term_of expr))) }
 {
-    match read_level(alloc, tokens, LOOSEST)? {
+    match read_level(alloc, tokens, loosest_in(tokens))? {
         Some(front) => {
             if front.length == tokens.len() {
                 Ok(Some(front.expr))
@@ -89,6 +89,15 @@ pub fn read_whole(alloc: Global, tokens: &[Token]) -> Result<Option<Expr>, NoMem
         }
         None => Ok(None),
     }
+}
+
+/// The level of the loosest operator that can stand between operands in these tokens: with its operands it takes three
+/// of them at least.
+fn loosest_in(tokens: &[Token]) -> u8
+    ensures level { (result ≡ loosest) ⊎ ((result ≡ 0) × (length tokens.now ≤ 2)) }
+    ensures within { result ≤ loosest }
+{
+    if tokens.len() <= 2 { 0 } else { LOOSEST }
 }
 
 /// The tokens after the first so many.

@@ -1,16 +1,17 @@
 //! The value of an expression, or its first fault. What each operator gives is in `specs/Value`.
 
-ghost use Rattle.std.specs.Prelude.{◌≡◌, ◌≢◌, ◌^◌, ◌+ℤ◌, ◌*ℤ◌, false, pos, int_div, int_rem, IfOk, Some, None, Ok, Err};
+ghost use Rattle.std.specs.Prelude.{◌≡◌, ◌≢◌, ◌^◌, ◌+ℤ◌, ◌*ℤ◌, false, pos, int_div, int_rem, IfOk, Ok, Err};
 ghost use Rattle.std.specs.Int.{int_shr};
 ghost use Rattle.rz_core.specs.Stop.{Gives};
 ghost use Rattle.rz_core.specs.declared.stop.Stop.TheVariants as stop;
-ghost use Rattle.rz_expr.specs.Environment.{Sight, place_key, rows_key};
+ghost use Rattle.rz_expr.specs.Environment.{Sight, rows_key};
+ghost use Rattle.rz_expr.specs.NameKey.{key_of};
 ghost use Rattle.rz_expr.specs.Term.{has_names, term_of};
 ghost use Rattle.rz_expr.specs.Unvalued.{fault_of, held, IsCopyOf};
 ghost use Rattle.rz_expr.specs.declared.value.EvalFault.TheVariants as fault;
 ghost use Rattle.rz_expr.specs.Value.{divided, known_value, IsUnknown, number_at, operate, operate_one, place_in_row, reduced, shifted, truth, value_of};
 
-use crate::{BinaryOp, Env, Expr, UnaryOp};
+use crate::{BinaryOp, Env, Expr, Key, UnaryOp};
 use rz_core::{NoMemory, Stop, Word};
 use std::alloc::Global;
 
@@ -90,18 +91,18 @@ pub fn value_in<'a, E: Env>(expr: &'a Expr, env: &E) -> Result<i32, Unvalued<'a>
 {
     match expr {
         Expr::Number(number) => Ok(*number),
-        Expr::Name(name) => known(name, env.place(name)),
-        Expr::Indexed(name, index) => {
+        Expr::Name(name) => known(env, name, Key::Place(name)),
+        Expr::Indexed(label, index) => {
             let number = value_in(index, env)?;
-            place_in_row(env, name, number)
+            place_in_row(env, label, number)
         }
-        Expr::Count(name) => known(name, env.count(name)),
-        Expr::ArrayIndex(name) => known(name, env.row(name)),
+        Expr::Count(array) => known(env, array, Key::Count(array)),
+        Expr::ArrayIndex(array) => known(env, array, Key::Row(array)),
         Expr::Bits(name, start, width) => {
-            let place = known(name, env.place(name))?;
+            let place = known(env, name, Key::Place(name))?;
             let start = value_in(start, env)?;
             let width = value_in(width, env)?;
-            number_at(env, name, place, start, width)
+            number_at(env, place, start, width)
         }
         Expr::Fact(which) => Ok(env.fact(*which)),
         Expr::Unary(op, operand) => {
@@ -116,12 +117,12 @@ pub fn value_in<'a, E: Env>(expr: &'a Expr, env: &E) -> Result<i32, Unvalued<'a>
     }
 }
 
-/// The value of a name or an array, where it has one.
-fn known<'a>(name: &'a Word, value: Option<i32>) -> Result<i32, Unvalued<'a>>
-    ensures { held result ≡ known_value name.now.bytes value }
+/// The value of a key with this name, wrapped to 32 bits with a sign, where it has one.
+fn known<'a, E: Env>(env: &E, name: &'a Word, key: Key<'_>) -> Result<i32, Unvalued<'a>>
+    ensures { held result ≡ known_value name.now.bytes ((E.view env.now).names.give (key_of key.entry)) }
 {
-    match value {
-        Some(value) => Ok(value),
+    match env.give(key) {
+        Some(value) => Ok(reduced(value)),
         None => Err(Unvalued::UnknownName(name)),
     }
 }
@@ -130,34 +131,26 @@ fn known<'a>(name: &'a Word, value: Option<i32>) -> Result<i32, Unvalued<'a>>
 fn place_in_row<'a, E: Env>(env: &E, label: &'a Word, number: i32) -> Result<i32, Unvalued<'a>>
     ensures { held result ≡ place_in_row label.now.bytes (E.view env.now).names number ((E.view env.now).names.give (rows_key label.now.bytes)) }
 {
-    match env.rows(label) {
+    match env.give(Key::Rows(label)) {
         Some(rows) => {
-            if number < 1 || number as u64 > rows {
+            if number < 1 || i128::from(number) > rows {
                 Err(Unvalued::BadIndex(number))
             } else {
-                known(label, env.place_at(label, number))
+                known(env, label, Key::PlaceIn(label, number))
             }
         }
         None => Err(Unvalued::UnknownName(label)),
     }
 }
 
-/// The number in the bits, as many as `width` says, that begin `start` bits after a name whose value is
-/// `place`.
-fn number_at<'a, E: Env>(
-    env: &E,
-    name: &'a Word,
-    place: i32,
-    start: i32,
-    width: i32,
-) -> Result<i32, Unvalued<'a>>
-    requires { (E.view env.now).names.give (place_key name.now.bytes) ≡ Some place }
+/// The number in the bits, as many as `width` says, that begin `start` bits after a place.
+fn number_at<'a, E: Env>(env: &E, place: i32, start: i32, width: i32) -> Result<i32, Unvalued<'a>>
     ensures { held result ≡ number_at (E.view env.now) (place +ℤ start) width }
 {
     if width < 1 || width > 32 {
         return Err(Unvalued::DataWidth(width));
     }
-    match env.bits(name, start, width) {
+    match env.bits(first_bit(place, start), width) {
         Some(number) => Ok(signed(number)),
         None => Err(later_data(place, start, width)),
     }
@@ -188,6 +181,14 @@ pub fn signed(number: u32) -> i32
     ensures { result ≡ reduced (pos number) }
 {
     number.cast_signed()
+}
+
+/// A number, wrapped to 32 bits with a sign.
+#[tactic(auto, using(crate::proofs::Bits::reduced_again))]
+pub fn reduced(number: i128) -> i32
+    ensures { result ≡ reduced number }
+{
+    signed((number.cast_unsigned() % 4_294_967_296) as u32)
 }
 
 fn truth(holds: bool) -> i32

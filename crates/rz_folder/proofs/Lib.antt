@@ -1,5 +1,8 @@
 pub mod Search
 pub mod Store
 pub mod Reading
+pub mod Finding
 pub mod FolderPart
-pub mod Fronts
+pub mod Streams
+pub mod Held
+pub mod Writers

@@ -6,7 +6,7 @@ use Rattle.rz_folder.specs.Counts.{next}
 use Rattle.rz_folder.specs.Folder.{Files}
 
 -- The files, the room (how many writes and how many bytes more it takes), the number of reads and writes so
--- far, the number of the call that is to fail (0: none), and the numbers of reads and writes that failed.
+-- far, the number of the call that is to fail (0: none), the numbers of reads and writes that failed, and that of writes.
 pub record FolderState : Type 0 where
   pub files : Files
   pub write_room : ℕ
@@ -15,18 +15,19 @@ pub record FolderState : Type 0 where
   pub failing : ℕ
   pub read_faults : ℕ
   pub write_faults : ℕ
+  pub writes : ℕ
 
 -- states as tuples
 abbrev pub coded_state : Coded FolderState
-coded_state = code_by (Files × (ℕ × (ℕ × (ℕ × (ℕ × (ℕ × ℕ))))))
-    (coded× (map.code (coded_list coded_ℕ) (coded_list coded_ℕ)) (coded× coded_ℕ (coded× coded_ℕ (coded× coded_ℕ (coded× coded_ℕ (coded× coded_ℕ coded_ℕ))))))
-    (λ s. (s.files, (s.write_room, (s.byte_room, (s.calls, (s.failing, (s.read_faults, s.write_faults)))))))
-    (λ t. record { files = t.0; write_room = t.1.0; byte_room = t.1.1.0; calls = t.1.1.1.0; failing = t.1.1.1.1.0; read_faults = t.1.1.1.1.1.0; write_faults = t.1.1.1.1.1.1 })
+coded_state = code_by (Files × (ℕ × (ℕ × (ℕ × (ℕ × (ℕ × (ℕ × ℕ)))))))
+    (coded× (map.code (coded_list coded_ℕ) (coded_list coded_ℕ)) (coded× coded_ℕ (coded× coded_ℕ (coded× coded_ℕ (coded× coded_ℕ (coded× coded_ℕ (coded× coded_ℕ coded_ℕ)))))))
+    (λ s. (s.files, (s.write_room, (s.byte_room, (s.calls, (s.failing, (s.read_faults, (s.write_faults, s.writes))))))))
+    (λ t. record { files = t.0; write_room = t.1.0; byte_room = t.1.1.0; calls = t.1.1.1.0; failing = t.1.1.1.1.0; read_faults = t.1.1.1.1.1.0; write_faults = t.1.1.1.1.1.1.0; writes = t.1.1.1.1.1.1.1 })
     (λ _. refl)
 
 -- no files, no room, no calls
 abbrev pub empty_folder : FolderState
-empty_folder = record { files = map.empty; write_room = 0; byte_room = 0; calls = 0; failing = 0; read_faults = 0; write_faults = 0 }
+empty_folder = record { files = map.empty; write_room = 0; byte_room = 0; calls = 0; failing = 0; read_faults = 0; write_faults = 0; writes = 0 }
 
 -- the next call is the one that is to fail
 abbrev pub IsNextNamed : FolderState → Type 0
@@ -47,10 +48,11 @@ after_read s =
 abbrev pub after_write : FolderState → List ℕ → List ℕ → FolderState
 after_write s name bytes =
     if (next s.calls == s.failing) || (s.write_room == 0) || nat_lt s.byte_room (length name + length bytes)
-    then record s { calls = next s.calls; write_faults = next s.write_faults }
+    then record s { calls = next s.calls; write_faults = next s.write_faults; writes = next s.writes }
     else record s {
       files = map.insert s.files name bytes;
       write_room = s.write_room - 1;
       byte_room = s.byte_room - (length name + length bytes);
       calls = next s.calls;
+      writes = next s.writes;
     }

@@ -7,6 +7,10 @@ pub mod MemFolder
 pub mod Shelf
 pub mod SinkState
 pub mod MemSink
+pub mod TextSink
+pub mod HeldSink
 pub mod RealFaults
+pub mod RealSink
 pub mod OnlyReads
+pub mod Finds
 pub mod Temporary

@@ -15,6 +15,7 @@ folder_state f = record {
   failing = f.failing;
   read_faults = f.read_faults;
   write_faults = f.write_faults;
+  writes = f.writes;
 }
 
 -- every entry lies in the store, and the memory of the room is there

@@ -1,4 +1,4 @@
--- What contracts see of a folder of the host's and of a sink of the host's: their counts of faults.
+-- What contracts see of a folder of the host's and of a sink of the host's: their counts of writes and faults.
 use Rattle.std.specs.Prelude.{ℕ}
 use Rattle.rz_folder.specs.Counts.{next}
 use Rattle.rz_folder.specs.declared.folder.Read.{Read}
@@ -8,22 +8,23 @@ use Rattle.rz_folder.specs.declared.folder.Written.TheVariants as written
 use Rattle.rz_folder.specs.declared.sink.Put.{Put}
 use Rattle.rz_folder.specs.declared.sink.Put.TheVariants as put
 
--- the numbers of reads and of writes that failed
-pub record RealFaults : Type 0 where
-  pub reads : ℕ
+-- the numbers of reads and of writes that failed, and that of all writes
+pub record RealCounts : Type 0 where
+  pub read_faults : ℕ
+  pub write_faults : ℕ
   pub writes : ℕ
 
 -- the counts after a read that gave this: a failure counts, and nothing else does
-abbrev pub after_read : RealFaults → Read → RealFaults
+abbrev pub after_read : RealCounts → Read → RealCounts
 after_read s (read.Bytes bytes) = s
 after_read s read.Missing = s
-after_read s read.Failed = record s { reads = next s.reads }
+after_read s read.Failed = record s { read_faults = next s.read_faults }
 after_read s read.NoMemory = s
 
--- the counts after a write that ended so
-abbrev pub after_write : RealFaults → Written → RealFaults
-after_write s written.Done = s
-after_write s written.Failed = record s { writes = next s.writes }
+-- the counts after a write that ended so: each counts, and a failure as one
+abbrev pub after_write : RealCounts → Written → RealCounts
+after_write s written.Done = record s { writes = next s.writes }
+after_write s written.Failed = record s { write_faults = next s.write_faults; writes = next s.writes }
 
 -- the count of a sink after a put that ended so
 abbrev pub after_put : ℕ → Put → ℕ

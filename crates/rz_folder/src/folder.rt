@@ -1,8 +1,8 @@
-//! The trait of files by name, with counts of its faults. What its calls do is in `specs/Folder`.
+//! The trait of files by name, with counts of its writes and of its faults. What its calls do is in `specs/Folder`.
 
 ghost use Rattle.std.specs.Prelude.{◌≡◌, ◌<◌, ◌≤◌, ◌^◌, ℕ, length};
 ghost use Rattle.std.specs.declared.option.Option.{Option};
-ghost use Rattle.rz_folder.specs.Counts.{Rose};
+ghost use Rattle.rz_folder.specs.Counts.{next, Rose};
 ghost use Rattle.rz_folder.specs.Folder.{Files, Reads, Writes};
 
 use rz_core::Bytes;
@@ -30,8 +30,8 @@ pub enum Written {
     Failed,
 }
 
-/// Files by name, with a count of the reads that failed and one of the writes that failed. Both
-/// counts start where the folder was made, never fall, and stop at 2^64 - 1.
+/// Files by name, with a count of the writes, one of the reads that failed and one of the writes that
+/// failed. The counts start where the folder was made, never fall, and stop at 2^64 - 1.
 ///
 /// Some folders tell what their files hold, as one in memory does, and some tell nothing, as the
 /// host's. A folder that tells it goes on telling it.
@@ -45,6 +45,9 @@ pub trait Folder {
     /// The number of writes that failed.
     ghost write_faults: { Self → ℕ };
 
+    /// The number of writes, those that failed among them.
+    ghost writes: { Self → ℕ };
+
     /// Reads the whole file of that name into memory of the allocator. No file changes.
     ///
     /// - `Bytes` has fewer than 2^32 bytes: what the name holds, where the folder tells it.
@@ -56,20 +59,22 @@ pub trait Folder {
         ensures unchanged { files self.new ≡ files self.old }
         ensures counted { read_faults self.old ≤ read_faults self.new }
         ensures cause { result ≡ Read.Failed → Rose (read_faults self.old) (read_faults self.new) }
-        ensures other_count { write_faults self.new ≡ write_faults self.old };
+        ensures other_count { write_faults self.new ≡ write_faults self.old }
+        ensures unwritten { writes self.new ≡ writes self.old };
 
     /// Makes the file of that name hold these bytes, of which there are fewer than 2^32. It takes
     /// no memory.
     ///
-    /// After `Done` that file alone is set. `Failed` comes only where `write_faults` rose in this
-    /// call or stands at its last value; then the name may hold anything or nothing, and every
-    /// other file is as before.
+    /// Each call counts as one write. After `Done` that file alone is set. `Failed` comes only where
+    /// `write_faults` rose in this call or stands at its last value; then the name may hold anything
+    /// or nothing, and every other file is as before.
     fn write(&mut self, name: &str, bytes: &[u8]) -> Written
         requires { length bytes.now < 2 ^ 32 }
         ensures told { Writes name.now bytes.now (files self.old) (files self.new) result }
         ensures counted { write_faults self.old ≤ write_faults self.new }
         ensures cause { result ≡ Written.Failed → Rose (write_faults self.old) (write_faults self.new) }
-        ensures other_count { read_faults self.new ≡ read_faults self.old };
+        ensures other_count { read_faults self.new ≡ read_faults self.old }
+        ensures once { writes self.new ≡ next (writes self.old) };
 
     /// The number of reads that failed, which stops at 2^64 - 1.
     fn read_faults(&self) -> u64

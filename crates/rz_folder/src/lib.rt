@@ -1,7 +1,8 @@
-//! Files by name and places to write to, each with counts of its faults: the two traits, and a folder and a sink
-//! in memory whose contracts are exact. It rests on `rz_core`, `arrayvec` and `itoa`.
+//! Files by name, with a count of the writes, and places to write to, each with counts of its faults: the two traits,
+//! and a folder and a sink in memory whose contracts are exact. It rests on `rz_core`, `arrayvec` and `itoa`.
 //! `Shelf` holds files in memory that are read and never written, for a command that has its files of its own, and
-//! `TextSink` has in memory what a call puts.
+//! `TextSink` has in memory what a call puts. `HeldSink` holds back in memory what is put until a flush, as standard
+//! output does.
 //! `RealFolder` and `RealSink` are the host's: what the host's calls do is trusted and tested, not proved.
 //! `replace` writes a regular file so that it is replaced whole or stays as it was; `temporary` names the file
 //! that it fills.
@@ -9,6 +10,7 @@
 #![tactic(auto)]
 
 mod folder;
+mod held_sink;
 mod limit;
 mod mem_folder;
 mod mem_sink;
@@ -21,6 +23,7 @@ mod temporary;
 mod text_sink;
 
 pub use folder::{Folder, Read, Written};
+pub use held_sink::HeldSink;
 pub use mem_folder::MemFolder;
 pub use mem_sink::MemSink;
 pub use real_folder::RealFolder;

@@ -27,7 +27,7 @@ struct Entry {
 /// so that each answer of a program over a folder can be brought about.
 ///
 /// Contracts see the files, the room, the number of calls so far, the number of the call that is to
-/// fail, and the two counts of faults. The room is the number of writes and the number of bytes for
+/// fail, the two counts of faults, and the count of writes. The room is the number of writes and the number of bytes for
 /// which there is memory; both are 0 at first. A look-up goes through the entries one by one, and
 /// contents that were replaced keep their memory.
 #[derive(Drop)]
@@ -40,6 +40,7 @@ pub struct MemFolder {
     failing: u64,
     read_faults: u64,
     write_faults: u64,
+    writes: u64,
 }
 
 impl Model for MemFolder {
@@ -73,6 +74,7 @@ impl MemFolder {
             failing: 0,
             read_faults: 0,
             write_faults: 0,
+            writes: 0,
         }
     }
 
@@ -147,6 +149,8 @@ impl Folder for MemFolder {
 
     ghost write_faults = { λ s. s.write_faults };
 
+    ghost writes = { λ s. s.writes };
+
     /// Gives a copy of what the name holds, in memory of the allocator. `Failed` comes exactly
     /// where `fail_at` named this call, and `Missing` exactly where it did not and the folder has
     /// no file of that name. The files and the room stay.
@@ -156,6 +160,7 @@ impl Folder for MemFolder {
         ensures counted { self.old.read_faults ≤ self.new.read_faults }
         ensures cause { result ≡ Read.Failed → Rose self.old.read_faults self.new.read_faults }
         ensures other_count { self.new.write_faults ≡ self.old.write_faults }
+        ensures unwritten { self.new.writes ≡ self.old.writes }
 
         ensures failed { (result ≡ Read.Failed) ↔ IsNextNamed self.old }
         ensures missing { map.get self.old.files name.now ≡ None → (result ≡ Read.Missing) ⊎ IsNextNamed self.old }
@@ -183,12 +188,14 @@ impl Folder for MemFolder {
         ensures counted { self.old.write_faults ≤ self.new.write_faults }
         ensures cause { result ≡ Written.Failed → Rose self.old.write_faults self.new.write_faults }
         ensures other_count { self.new.read_faults ≡ self.old.read_faults }
+        ensures once { self.new.writes ≡ next self.old.writes }
 
         ensures failed { (result ≡ Written.Failed) ↔
             (IsNextNamed self.old ⊎ LacksRoom self.old name.now bytes.now) }
         ensures after { self.new ≡ after_write self.old name.now bytes.now }
     {
         let is_named = self.count_call();
+        self.writes = self.writes.saturating_add(1);
         let name_length = name.len() as u64;
         let length = bytes.len() as u64;
         if is_named

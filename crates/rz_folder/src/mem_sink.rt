@@ -1,15 +1,16 @@
-//! A sink in memory whose puts fail where they are told to. What a put does is in `specs/Sink`.
+//! A sink in memory whose puts fail where they are told to, and which holds nothing back. What a put does is in
+//! `specs/Sink`.
 
 ghost use Rattle.std.specs.Prelude.{◌≡◌, ◌≤◌, ◌↔◌, ◌⊎◌, length, max, Some, OnOk, OnErr};
 ghost use Rattle.rz_folder.specs.Counts.{Rose};
-ghost use Rattle.rz_folder.specs.Sink.{Puts};
+ghost use Rattle.rz_folder.specs.Sink.{all_out, Flushes, Puts};
 
 use crate::{Put, Sink};
 use rz_core::NoMemory;
 use std::alloc::Global;
 use std::marker::Model;
 
-/// A sink in memory, which tells all that was written. Its puts fail where they are told to.
+/// A sink in memory, which tells all that was written and holds nothing back. Its puts fail where they are told to.
 ///
 /// Contracts see the bytes written, the room, the number of puts so far, the number of the put that
 /// is to fail with the number of bytes that it takes first, and the count of faults. The room is
@@ -96,7 +97,7 @@ impl MemSink {
 impl Sink for MemSink {
     ghost use Rattle.rz_folder.specs.SinkState.{IsNextNamed, LacksRoom, after_put};
 
-    ghost written = { λ s. Some s.written };
+    ghost stream = { λ s. Some (all_out s.written) };
 
     ghost faults = { λ s. s.faults };
 
@@ -105,7 +106,7 @@ impl Sink for MemSink {
     /// piece first, as `fail_at` says, and the room falls by so many bytes; one that fails by its
     /// room alone takes nothing.
     fn put(&mut self, bytes: &[u8]) -> Put
-        ensures told { Puts bytes.now (Some self.old.written) (Some self.new.written) result }
+        ensures told { Puts bytes.now (Some (all_out self.old.written)) (Some (all_out self.new.written)) result }
         ensures counted { self.old.faults ≤ self.new.faults }
         ensures cause { result ≡ Put.Failed → Rose self.old.faults self.new.faults }
 
@@ -128,8 +129,9 @@ impl Sink for MemSink {
         Put::Done
     }
 
-    /// Does nothing, for all that was put is there. It is no put that `fail_at` counts.
+    /// Does nothing, for all that was put is out. It is no put that `fail_at` counts.
     fn flush(&mut self) -> Put
+        ensures told { Flushes (Some (all_out self.old.written)) (Some (all_out self.new.written)) result }
         ensures unchanged { self.new ≡ self.old }
         ensures done { result ≡ Put.Done }
     {

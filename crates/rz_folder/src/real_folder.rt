@@ -1,7 +1,7 @@
 //! The host's files by their paths: a trusted edge. How its counts of faults rise is in `specs/Counts`.
 
 ghost use Rattle.std.specs.Prelude.{◌≡◌, ◌≤◌, ◌<◌, ◌^◌, None, IfOk, length};
-ghost use Rattle.rz_folder.specs.Counts.{Rose};
+ghost use Rattle.rz_folder.specs.Counts.{next, Rose};
 ghost use Rattle.rz_folder.specs.Folder.{IsShort};
 
 use crate::replace::write_file;
@@ -19,32 +19,35 @@ const LENGTH_LIMIT: u64 = 1 << 32;
 
 /// The host's files, by their paths. This is the trusted edge: it tells nothing of what the files
 /// hold, and what its calls do to them rests on the host and on std, not on a proof. What is proved
-/// is that a read gives fewer than 2^32 bytes, that each call ends, and that the counts of faults
-/// are kept as their clauses say. Contracts see the two counts.
+/// is that a read gives fewer than 2^32 bytes, that each call ends, and that the counts of writes and
+/// of faults are kept as their clauses say. Contracts see the three counts.
 #[derive(Drop)]
 pub struct RealFolder<R> {
     runtime: R,
     read_faults: u64,
     write_faults: u64,
+    // Nothing reads this count but contracts.
+    writes: u64,
 }
 
 impl<R> Model for RealFolder<R> {
-    ghost use Rattle.rz_folder.specs.RealFaults.{RealFaults};
+    ghost use Rattle.rz_folder.specs.RealFaults.{RealCounts};
 
-    ghost Value = { RealFaults };
+    ghost Value = { RealCounts };
 
-    ghost view = { λ folder. record { reads = folder.read_faults; writes = folder.write_faults } };
+    ghost view = { λ folder. record { read_faults = folder.read_faults; write_faults = folder.write_faults; writes = folder.writes } };
 }
 
 impl<R: Files + Drop> RealFolder<R> {
-    /// The files that the runtime gives, with no faults so far.
+    /// The files that the runtime gives, with no writes and no faults so far.
     pub fn new(rt: R) -> RealFolder<R>
-        ensures { result ≡ record { reads = 0; writes = 0 } }
+        ensures { result ≡ record { read_faults = 0; write_faults = 0; writes = 0 } }
     {
         RealFolder {
             runtime: rt,
             read_faults: 0,
             write_faults: 0,
+            writes: 0,
         }
     }
 }
@@ -54,9 +57,11 @@ impl<R: Files + Drop> Folder for RealFolder<R> {
 
     ghost files = { λ _. None };
 
-    ghost read_faults = { λ folder. folder.reads };
+    ghost read_faults = { λ folder. folder.read_faults };
 
-    ghost write_faults = { λ folder. folder.writes };
+    ghost write_faults = { λ folder. folder.write_faults };
+
+    ghost writes = { λ folder. folder.writes };
 
     /// Reads the host's file of that path. `Missing` is the host's 'not found', and that no file can
     /// stand at the path: a folder stands there, it leads through a file, it is too long for the
@@ -67,9 +72,10 @@ impl<R: Files + Drop> Folder for RealFolder<R> {
     /// tells is taken at once. A read that a signal interrupts is taken again.
     fn read(&mut self, alloc: Global, name: &str) -> Read
         ensures short { IsShort result }
-        ensures counted { self.old.reads ≤ self.new.reads }
-        ensures cause { result ≡ Read.Failed → Rose self.old.reads self.new.reads }
-        ensures other_count { self.new.writes ≡ self.old.writes }
+        ensures counted { self.old.read_faults ≤ self.new.read_faults }
+        ensures cause { result ≡ Read.Failed → Rose self.old.read_faults self.new.read_faults }
+        ensures other_count { self.new.write_faults ≡ self.old.write_faults }
+        ensures unwritten { self.new.writes ≡ self.old.writes }
         ensures after { self.new ≡ after_read self.old result }
     {
         match read_file(&self.runtime, alloc, name) {
@@ -102,11 +108,13 @@ impl<R: Files + Drop> Folder for RealFolder<R> {
     /// empty or hold a front of the bytes.
     fn write(&mut self, name: &str, bytes: &[u8]) -> Written
         requires { length bytes.now < 2 ^ 32 }
-        ensures counted { self.old.writes ≤ self.new.writes }
-        ensures cause { result ≡ Written.Failed → Rose self.old.writes self.new.writes }
-        ensures other_count { self.new.reads ≡ self.old.reads }
+        ensures counted { self.old.write_faults ≤ self.new.write_faults }
+        ensures cause { result ≡ Written.Failed → Rose self.old.write_faults self.new.write_faults }
+        ensures other_count { self.new.read_faults ≡ self.old.read_faults }
+        ensures once { self.new.writes ≡ next self.old.writes }
         ensures after { self.new ≡ after_write self.old result }
     {
+        self.writes = self.writes.saturating_add(1);
         if write_file(&self.runtime, name, bytes).is_ok() {
             return Written::Done;
         }
@@ -115,13 +123,13 @@ impl<R: Files + Drop> Folder for RealFolder<R> {
     }
 
     fn read_faults(&self) -> u64
-        ensures { result ≡ self.now.reads }
+        ensures { result ≡ self.now.read_faults }
     {
         self.read_faults
     }
 
     fn write_faults(&self) -> u64
-        ensures { result ≡ self.now.writes }
+        ensures { result ≡ self.now.write_faults }
     {
         self.write_faults
     }

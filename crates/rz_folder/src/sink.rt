@@ -1,9 +1,9 @@
-//! The trait of a place to write to, with a count of its faults. What a put does is in `specs/Sink`.
+//! The trait of a place to write to, with a count of its faults. What puts and flushes do is in `specs/Sink`.
 
-ghost use Rattle.std.specs.Prelude.{◌≡◌, ◌≤◌, ℕ, List};
+ghost use Rattle.std.specs.Prelude.{◌≡◌, ◌≤◌, ℕ};
 ghost use Rattle.std.specs.declared.option.Option.{Option};
 ghost use Rattle.rz_folder.specs.Counts.{Rose};
-ghost use Rattle.rz_folder.specs.Sink.{Puts};
+ghost use Rattle.rz_folder.specs.Sink.{Flushes, Puts, Stream};
 
 /// How a put or a flush ended.
 #[derive(Clone, Copy, Debug, PartialEq, Eq)]
@@ -17,28 +17,30 @@ pub enum Put {
 /// A place to write to, with a count of its faults: the calls that failed. The count starts where
 /// the sink was made, never falls, and stops at 2^64 - 1.
 ///
-/// Some sinks tell what was written, as one in memory does, and some tell nothing, as standard
-/// output. A sink that tells it goes on telling it.
+/// Some sinks tell their bytes, as one in memory does, and some tell nothing, as standard output. A
+/// sink that tells them goes on telling them. Bytes are put at the end, and some of them may be held
+/// back until a flush. No call takes back a byte that is out, also one that fails.
 pub trait Sink {
-    /// The bytes put so far, where the sink tells them.
-    ghost written: { Self → Option (List ℕ) };
+    /// The bytes that are out, and those that the sink holds back, where it tells them.
+    ghost stream: { Self → Option Stream };
 
     /// The number of calls that failed.
     ghost faults: { Self → ℕ };
 
-    /// Puts the piece after all that was put. A sink may keep some of it back until `flush`.
+    /// Puts the piece after all that was put. A sink may hold some of it back until `flush`.
     ///
-    /// After `Done` the whole piece is there. `Failed` comes only where `faults` rose in this call
-    /// or stands at its last value; then a front of the piece is there.
+    /// After `Done` the whole piece is put. `Failed` comes only where `faults` rose in this call
+    /// or stands at its last value; then a front of the piece is put.
     fn put(&mut self, bytes: &[u8]) -> Put
-        ensures told { Puts bytes.now (written self.old) (written self.new) result }
+        ensures told { Puts bytes.now (stream self.old) (stream self.new) result }
         ensures counted { faults self.old ≤ faults self.new }
         ensures cause { result ≡ Put.Failed → Rose (faults self.old) (faults self.new) };
 
-    /// Sees to it that all that was put is out, where the sink keeps some of it back. It takes no
-    /// memory. `Failed` comes only where `faults` rose in this call or stands at its last value.
+    /// Sees to it that all that was put is out. It takes no memory. After `Done` nothing is held
+    /// back. `Failed` comes only where `faults` rose in this call or stands at its last value; then
+    /// some of what was held back may be out, and the rest is held back still.
     fn flush(&mut self) -> Put
-        ensures kept { written self.new ≡ written self.old }
+        ensures told { Flushes (stream self.old) (stream self.new) result }
         ensures counted { faults self.old ≤ faults self.new }
         ensures cause { result ≡ Put.Failed → Rose (faults self.old) (faults self.new) };
 

@@ -1,70 +1,77 @@
 //! A sink over bytes of its own, which grow. What a put does is in `specs/Sink`.
 
-ghost use Rattle.std.specs.Prelude.{◌≡◌, ◌++◌, ◌-◌, ◌^◌, [], Some};
-ghost use Rattle.rz_folder.specs.Sink.{Puts};
+ghost use Rattle.std.specs.Prelude.{◌≡◌, ◌≤◌, ◌++◌, [], Some};
+ghost use Rattle.rz_folder.specs.Counts.{next, Rose};
+ghost use Rattle.rz_folder.specs.Sink.{all_out, Flushes, Puts};
 
 use crate::{Put, Sink};
 use rz_core::Bytes;
 use std::alloc::Global;
 use std::marker::Model;
 
-/// A sink over bytes of its own, which grow with each put: what a program hands to a call that puts a text, to have the
-/// text in memory. A put fails exactly where memory is refused. Contracts see the bytes.
+/// A sink over bytes of its own, which grow with each put: what a program hands to a call that puts a text, to have
+/// the text in memory. It holds nothing back. A put fails exactly where memory is refused. Contracts see the bytes
+/// and the count of faults.
 #[derive(Drop)]
 pub struct TextSink {
     bytes: Bytes,
+    faults: u64,
 }
 
 impl Model for TextSink {
-    ghost use Rattle.std.specs.Prelude.{ℕ, List};
-    ghost use Rattle.std.specs.Coded.{coded_ℕ, coded_list};
+    ghost use Rattle.rz_folder.specs.TextSink.{TextState};
 
-    ghost Value = { List ℕ };
+    ghost Value = { TextState };
 
-    ghost coded = { coded_list coded_ℕ };
-
-    ghost view = { λ sink. sink.bytes };
+    ghost view = { λ sink. record { bytes = sink.bytes; faults = sink.faults } };
 }
 
 impl TextSink {
-    /// A sink without bytes. It takes no memory.
+    /// A sink without bytes and without faults. It takes no memory.
     pub fn new(alloc: Global) -> TextSink
-        ensures { result ≡ [] }
+        ensures { result ≡ record { bytes = []; faults = 0 } }
     {
         TextSink {
             bytes: Bytes::new(alloc),
+            faults: 0,
         }
     }
 
     /// The bytes that were put, given back. It takes no memory.
     pub fn into_bytes(self) -> Bytes
-        ensures { result ≡ self }
+        ensures { result ≡ self.bytes }
     {
-        let TextSink { bytes } = self;
+        let TextSink { bytes, faults: _ } = self;
         bytes
     }
 }
 
 impl Sink for TextSink {
-    ghost written = { λ bytes. Some bytes };
+    ghost stream = { λ sink. Some (all_out sink.bytes) };
 
-    ghost faults = { λ _. 2 ^ 64 - 1 };
+    ghost faults = { λ sink. sink.faults };
 
-    /// Appends the piece. `Failed` comes exactly where memory is refused, and then the bytes are as before. The count of
-    /// faults stands at its last value from the first on, so that it need not be kept.
+    /// Appends the piece. `Failed` comes exactly where memory is refused; then the bytes are as before, and the count
+    /// of faults is one more, up to 2^64 - 1.
     fn put(&mut self, bytes: &[u8]) -> Put
-        ensures told { Puts bytes.now (Some self.old) (Some self.new) result }
-        ensures done { result ≡ Put.Done → self.new ≡ self.old ++ bytes.now }
-        ensures failed { result ≡ Put.Failed → self.new ≡ self.old }
+        ensures told { Puts bytes.now (Some (all_out self.old.bytes)) (Some (all_out self.new.bytes)) result }
+        ensures counted { self.old.faults ≤ self.new.faults }
+        ensures cause { result ≡ Put.Failed → Rose self.old.faults self.new.faults }
+        ensures done { result ≡ Put.Done → self.new ≡ record self.old { bytes = self.old.bytes ++ bytes.now } }
+        ensures failed { result ≡ Put.Failed → self.new ≡ record self.old { faults = next self.old.faults } }
     {
         match self.bytes.append(bytes) {
             Ok(()) => Put::Done,
-            Err(_) => Put::Failed,
+            Err(_) => {
+                self.faults = self.faults.saturating_add(1);
+                Put::Failed
+            }
         }
     }
 
-    /// Does nothing, for all that was put is there.
+    /// Does nothing, for all that was put is out.
     fn flush(&mut self) -> Put
+        ensures told { Flushes (Some (all_out self.old.bytes)) (Some (all_out self.new.bytes)) result }
         ensures unchanged { self.new ≡ self.old }
         ensures done { result ≡ Put.Done }
     {
@@ -72,8 +79,8 @@ impl Sink for TextSink {
     }
 
     fn faults(&self) -> u64
-        ensures { result ≡ 2 ^ 64 - 1 }
+        ensures { result ≡ self.now.faults }
     {
-        u64::MAX
+        self.faults
     }
 }

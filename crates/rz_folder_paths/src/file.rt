@@ -22,7 +22,7 @@ pub fn find<'a, F: Folder>(
     ensures found { IfSome (F.files folder.old) (λ files. IfOk result (λ found.
         option_map (λ found. (found.0.now, found.1)) found ≡ file_of files names.now)) }
     ensures short { IfOk result (λ found. IfSome found (λ found. length found.1 < 2 ^ 32)) }
-    ensures reads { OnlyReads F.files F.read_faults F.write_faults folder.old folder.new (IsReadFault result) }
+    ensures reads { OnlyReads F.Folder folder.old folder.new (IsReadFault result) }
     ensures no_rule { OnRefusal result (λ _. ⊥) }
 {
     let mut k = 0;
@@ -53,7 +53,7 @@ pub fn read_file<F: Folder>(
         Yields result (λ answer. answer ≡ bytes_of files names.now (missing_file (Some mark) kept.now))) }
     ensures short { IfOk result (λ bytes. length bytes < 2 ^ 32) }
     ensures nameable { (files : ℕ) → mark.file < files → OnRefusal result (IsNameable files) }
-    ensures reads { OnlyReads F.files F.read_faults F.write_faults folder.old folder.new (IsReadFault result) }
+    ensures reads { OnlyReads F.Folder folder.old folder.new (IsReadFault result) }
 {
     match find(alloc, folder, names)? {
         Some((_, bytes)) => Ok(bytes),

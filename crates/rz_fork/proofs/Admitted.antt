@@ -1,5 +1,5 @@
 -- What is admitted as a fork has differing pairs of type and id, and resources that a fork can hold.
-use Rattle.std.proofs.Common.{◌≡◌, ℕ, zero, suc, ◌<◌, ◌==◌, if◌then◌else◌, Bool, true, false, List, [], ◌∷◌, length, Option, Some, None, Ok, refl, arith, subst}
+use Rattle.std.proofs.Common.{◌≡◌, ℕ, zero, suc, ◌<◌, ◌==◌, if◌then◌else◌, Bool, true, false, List, [], ◌∷◌, length, Option, Some, None, Ok, refl, sym, ◌∙◌, arith, subst}
 use Rattle.std.specs.List.{AllByRecursion}
 use Rattle.rz_core.specs.Lists.{unless_fault}
 use Rattle.rz_core.specs.Resources.{KeysDiffer}
@@ -7,7 +7,9 @@ use Rattle.rz_core.proofs.Lists.{or_else_none}
 use Rattle.rz_fork.specs.declared.fault.ForkFault.{ForkFault}
 use Rattle.rz_fork.specs.Layout.{header_of, types_of, the_outline}
 use Rattle.rz_fork.specs.Contents.{attributes_of, reserved_of, resources, contents, Fork, FitsFork}
-use Rattle.rz_fork.specs.Admit.{map_fault, lists_broken, first_broken, inadmissible, admitted}
+use Rattle.rz_fork.specs.Admit.{inadmissible, admitted}
+use Rattle.rz_fork.specs.Code.{map_fault, lists_broken, first_broken}
+use Rattle.rz_fork.proofs.Breaking.{tested_is}
 use Rattle.rz_fork.proofs.Fits.{AreBytes, all_fit}
 use Rattle.rz_fork.proofs.Holding.{lists_hold}
 use Rattle.rz_fork.proofs.Keys.{keys_differ}
@@ -39,7 +41,7 @@ contents_fit bytes small none =
     let o = the_outline bytes in
     fit_by (length bytes == 0) (first_broken bytes h (types_of bytes h) o)
     (record { list = resources bytes o; attributes = attributes_of bytes h; reserved = reserved_of bytes h })
-    (λ unbroken. lists_fit bytes small (or_else_none (map_fault bytes) (lists_broken bytes o) unbroken).1) none
+    (λ unbroken. lists_fit bytes small (or_else_none (map_fault bytes) (lists_broken bytes o) unbroken).1) (sym (tested_is bytes) ∙ none)
 
 -- a value where there is no fault
 unfaulted : (broken : Option ForkFault) (value fork : Fork) → unless_fault broken value ≡ Ok fork → (broken ≡ None) × (value ≡ fork)

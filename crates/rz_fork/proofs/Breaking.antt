@@ -1,6 +1,6 @@
--- The first of all broken rules is the one that admission gives.
-use Rattle.std.proofs.Common.{◌≡◌, ℕ, ◌==◌, Bool, true, false, if◌then◌else◌, List, [], ◌∷◌, ◌++◌, length, Some, None, refl, sym, ap, ◌∙◌, arith}
-use Rattle.std.proofs.lemmas.Bool.{eq-eqb}
+-- The first of all broken rules is the first of those that are tested one after the other.
+use Rattle.std.proofs.Common.{◌≡◌, ℕ, ◌<◌, ◌==◌, Bool, true, false, if◌then◌else◌, List, [], ◌∷◌, ◌++◌, length, Some, None, refl, sym, ap, ◌∙◌, arith}
+use Rattle.std.proofs.lemmas.Bool.{ne_eqb}
 use Rattle.std.specs.List.{flat_map, AllByRecursion}
 use Rattle.std.specs.declared.option.Option.{Option}
 use Rattle.rz_core.specs.Lists.{with_front, first_in, first_of, or_else}
@@ -9,7 +9,9 @@ use Rattle.rz_fork.specs.declared.fault.ForkFault.{ForkFault}
 use Rattle.rz_fork.specs.declared.layout.Outline.{Outline}
 use Rattle.rz_fork.specs.declared.layout.TypeEntry.{TypeEntry}
 use Rattle.rz_fork.specs.Layout.{header_of, types_of, the_outline, entries, references}
-use Rattle.rz_fork.specs.Admit.{short_header, data_area_outside, map_outside, short_map, type_list_outside, types_outside, map_broken, lists_broken, list_rule, type_rule, reference_rule, in_type, in_types, first_broken, inadmissible, Tested, Data, Name, Id}
+use Rattle.rz_fork.specs.Admit.{inadmissible}
+use Rattle.rz_fork.specs.Rules.{short_header, data_area_outside, map_outside, short_map, type_list_outside, types_outside, list_rule, type_rule, reference_rule, Tested, Data, Name, Id}
+use Rattle.rz_fork.specs.Code.{map_broken, map_fault, lists_broken, in_type, in_types, first_broken, first_tested}
 use Rattle.rz_fork.specs.Breaks.{Rule, ShortHeader, DataArea, MapArea, ShortMap, TypeList, Types, Lists, DataOf, NamesOf, Codes, Ids, listed, all_in, holds, type_faults, whole_faults, reference_faults, faults, where_hold, behind, rules, breaks, first}
 
 first_append : {F : Type 0} (xs ys : List F) → first (xs ++ ys) ≡ or_else (first xs) (first ys)
@@ -125,10 +127,34 @@ module _ (bytes : List ℕ) where
       step of (behind Ids) Ids _ _ _ (e1, (e3, (e4, (e5, (e6, tt))))) (ids_first e7) (λ e11. refl)))))))))))
       ∙ sym (in_a_row (short_header bytes) (data_area_outside bytes (header_of bytes)) (map_outside bytes (header_of bytes)) (short_map (header_of bytes)) (type_list_outside (header_of bytes) (types_of bytes (header_of bytes))) (types_outside o) (lists_broken bytes o))
 
-pub breaks_begin : (bytes : List ℕ) → first (breaks bytes) ≡ inadmissible bytes
-breaks_begin bytes = by_cases (length bytes == 0)
+-- it is the first of those that are tested one after the other
+pub tested_is : (bytes : List ℕ) → inadmissible bytes ≡ first_tested bytes
+unfolding inadmissible
+tested_is bytes = by_cases (length bytes == 0)
   where
     by_cases : (b : Bool) → first (if b then [] else flat_map (λ rule. where_hold (faults bytes) (behind rule) (faults bytes rule)) rules)
         ≡ (if b then None else first_broken bytes (header_of bytes) (types_of bytes (header_of bytes)) (the_outline bytes))
     by_cases true = refl
     by_cases false = table_first bytes
+
+pub breaks_begin : (bytes : List ℕ) → first (breaks bytes) ≡ inadmissible bytes
+unfolding inadmissible
+breaks_begin bytes = refl
+
+-- no bytes break none
+pub none_broken : (bytes : List ℕ) → length bytes ≡ 0 → inadmissible bytes ≡ None
+none_broken bytes empty =
+    let there : (length bytes == 0) ≡ true = ap (λ (n : ℕ). n == 0) empty in
+    tested_is bytes ∙ (λ i. if there i then None else first_broken bytes (header_of bytes) (types_of bytes (header_of bytes)) (the_outline bytes))
+
+-- where the header and the map break none, it is the first on types and references
+pub lists_tested : (bytes : List ℕ) (o : Outline) → 0 < length bytes → map_fault bytes ≡ None → o ≡ the_outline bytes → inadmissible bytes ≡ lists_broken bytes o
+lists_tested bytes o some none is =
+    let there : (length bytes == 0) ≡ false = ne_eqb (length bytes) 0 (λ empty. omega (arith, some, empty)) in
+    tested_is bytes ∙ (λ i. if there i then None else or_else (none i) (lists_broken bytes (sym is i)))
+
+-- one on the header or the map comes first
+pub map_tested : (bytes : List ℕ) (fault : ForkFault) → 0 < length bytes → map_fault bytes ≡ Some fault → inadmissible bytes ≡ Some fault
+map_tested bytes fault some is =
+    let there : (length bytes == 0) ≡ false = ne_eqb (length bytes) 0 (λ empty. omega (arith, some, empty)) in
+    tested_is bytes ∙ (λ i. if there i then None else or_else (is i) (lists_broken bytes (the_outline bytes)))

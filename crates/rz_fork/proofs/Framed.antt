@@ -11,7 +11,8 @@ use Rattle.rz_fork.specs.declared.fault.LimitFault.{LimitFault}
 use Rattle.rz_fork.specs.declared.layout.Header.{Header}
 use Rattle.rz_fork.specs.declared.layout.Outline.{Outline}
 use Rattle.rz_fork.specs.Image.{kinds_of, grouped, data_area, name_list, lists_end, passed, first_limit}
-use Rattle.rz_fork.specs.Admit.{short_header, data_area_outside, map_outside, short_map, type_list_outside, types_outside, map_broken, lists_broken, first_broken}
+use Rattle.rz_fork.specs.Rules.{short_header, data_area_outside, map_outside, short_map, type_list_outside, types_outside}
+use Rattle.rz_fork.specs.Code.{map_broken, lists_broken, first_broken}
 
 -- within the limits of an image
 pub record IsWithinLimits (list : List Resource) : Type 0 where

@@ -8,7 +8,8 @@ use Rattle.rz_fork.specs.declared.layout.Outline.{Outline}
 use Rattle.rz_fork.specs.declared.layout.TypeEntry.{TypeEntry}
 use Rattle.rz_fork.specs.declared.layout.Reference.{Reference}
 use Rattle.rz_fork.specs.Layout.{entries, references}
-use Rattle.rz_fork.specs.Admit.{references_outside, count_of, list_rule, data_outside, name_outside, type_rule, reference_rule, in_type, in_types, lists_broken, IsAdmitted, HasResources, Data, Name, Id}
+use Rattle.rz_fork.specs.Rules.{references_outside, count_of, list_rule, data_outside, name_outside, type_rule, reference_rule, Data, Name, Id}
+use Rattle.rz_fork.specs.Code.{in_type, in_types, lists_broken, IsAdmitted, HasResources}
 
 -- a reference list that keeps its rule lies in the map
 pub list_within : (o : Outline) (so_far : ℕ) (t : TypeEntry) → references_outside o so_far t ≡ None → t.list + 12 * t.count ≤ o.header.map_at + o.header.map_length

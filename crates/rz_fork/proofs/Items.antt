@@ -9,7 +9,7 @@ use Rattle.rz_fork.specs.declared.layout.Outline.{Outline}
 use Rattle.rz_fork.specs.declared.layout.TypeEntry.{TypeEntry}
 use Rattle.rz_core.specs.Numbers.{items_from}
 use Rattle.rz_fork.specs.Layout.{types_place, entry_at, entries, reference_at, references}
-use Rattle.rz_fork.specs.Admit.{count_of}
+use Rattle.rz_fork.specs.Rules.{count_of}
 
 pub length-items_from : {A : Type 0} (item : ℕ → A) (size place count : ℕ) → length (items_from item size place count) ≡ count
 length-items_from item size place zero = refl

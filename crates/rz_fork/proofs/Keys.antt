@@ -18,7 +18,8 @@ use Rattle.rz_fork.specs.declared.layout.TypeEntry.{TypeEntry}
 use Rattle.rz_fork.specs.declared.layout.Reference.{Reference}
 use Rattle.rz_fork.specs.Layout.{entries, references}
 use Rattle.rz_fork.specs.Contents.{resource_of, resources_of, resources}
-use Rattle.rz_fork.specs.Admit.{id_rule, type_rule, in_type, broken, fault, Id}
+use Rattle.rz_fork.specs.Rules.{id_rule, type_rule, broken, fault, Id}
+use Rattle.rz_fork.specs.Code.{in_type}
 use Rattle.rz_fork.proofs.Fits.{AreBytes, HasId, ids_fit}
 use Rattle.rz_fork.proofs.Holding.{HoldLists}
 

@@ -13,7 +13,10 @@ use Rattle.rz_fork.specs.Image as image
 use Rattle.rz_fork.specs.Image.{kinds_of, grouped, data_area, name_list, header, map_fields, map_tail, lists_of, type_entries, reference_lists, first_limit}
 use Rattle.rz_fork.specs.Layout.{count_at, header_of, types_of, outline_of, the_outline, entries}
 use Rattle.rz_fork.specs.Contents.{attributes_of, reserved_of, resources_of, resources, contents}
-use Rattle.rz_fork.specs.Admit.{list_rule, type_rule, in_types, lists_broken, first_broken, inadmissible, admitted, Data, Name, Id}
+use Rattle.rz_fork.specs.Admit.{inadmissible, admitted}
+use Rattle.rz_fork.specs.Rules.{list_rule, type_rule, Data, Name, Id}
+use Rattle.rz_fork.specs.Code.{in_types, lists_broken, first_broken}
+use Rattle.rz_fork.proofs.Breaking.{tested_is}
 use Rattle.rz_fork.proofs.Framed.{IsWithinLimits, within_limits, IsFramed, some_bytes, first_is}
 use Rattle.rz_fork.proofs.Lengths.{length-header, length-map_fields, length-tail_with, length-type_entries, length-lists_of}
 use Rattle.rz_core.proofs.Placed.{Has, has_all, has_left, has_right, number_mod, number_is, piece_is}
@@ -274,7 +277,8 @@ module _ (list : List Resource) (attributes : ℕ) (reserved : List ℕ) (readab
 
   none_broken : inadmissible bytes ≡ None
   none_broken =
-      (λ i. if not_empty i then None else first_broken bytes (header_is i) (types_of bytes (header_is i)) (outline_of bytes (header_is i) (types_of bytes (header_is i))))
+      tested_is bytes
+      ∙ (λ i. if not_empty i then None else first_broken bytes (header_is i) (types_of bytes (header_is i)) (outline_of bytes (header_is i) (types_of bytes (header_is i))))
       ∙ ap (λ (t : ℕ). first_broken bytes written_header t (outline_of bytes written_header t)) types_is
       ∙ ap (first_broken bytes written_header 28) outline_reads ∙ first_is bytes written_header written_outline framed ∙ lists_hold
 

@@ -11,7 +11,8 @@ use Rattle.rz_core.specs.declared.resource.Resource.{Resource}
 use Rattle.rz_fork.specs.declared.layout.Outline.{Outline}
 use Rattle.rz_fork.specs.declared.layout.Reference.{Reference}
 use Rattle.rz_fork.specs.declared.layout.TypeEntry.{TypeEntry}
-use Rattle.rz_fork.specs.Admit.{count_of, IsAdmitted}
+use Rattle.rz_fork.specs.Rules.{count_of}
+use Rattle.rz_fork.specs.Code.{IsAdmitted}
 use Rattle.rz_fork.specs.Contents.{contents, reserved_of, resource_of, resources_of, resources, FitsFork}
 use Rattle.rz_fork.specs.Layout.{header_of, entries, entry_at, references, types_place}
 use Rattle.rz_fork.specs.View.{left, IsLent}

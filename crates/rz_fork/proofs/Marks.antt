@@ -13,7 +13,8 @@ use Rattle.rz_fork.specs.declared.layout.Reference.{Reference}
 use Rattle.rz_fork.specs.declared.layout.TypeEntry.{TypeEntry}
 use Rattle.rz_fork.specs.declared.layout.Outline.{Outline}
 use Rattle.rz_fork.specs.Layout.{references}
-use Rattle.rz_fork.specs.Admit.{id_rule, in_type, type_rule, broken, fault, Id}
+use Rattle.rz_fork.specs.Rules.{id_rule, type_rule, broken, fault, Id}
+use Rattle.rz_fork.specs.Code.{in_type}
 
 -- no marks
 pub unmarked : (n id : ℕ) → get_or (replicate n false) id false ≡ false

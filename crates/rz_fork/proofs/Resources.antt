@@ -18,7 +18,7 @@ use Rattle.rz_fork.specs.declared.layout.TypeEntry.{TypeEntry}
 use Rattle.rz_fork.specs.declared.layout.Reference.{Reference}
 use Rattle.rz_fork.specs.Image.{stored_data, data_area, stored_name, name_list, name_offset}
 use Rattle.rz_fork.specs.Contents.{data_of, name_of, resource_of}
-use Rattle.rz_fork.specs.Admit.{data_outside, name_outside, reference_rule, id_rule, broken, fault, Data, Name}
+use Rattle.rz_fork.specs.Rules.{data_outside, name_outside, reference_rule, id_rule, broken, fault, Data, Name}
 use Rattle.rz_core.proofs.Placed.{Has, has_left, has_right, piece_is, number_is, byte_is}
 use Rattle.rz_fork.proofs.Written.{written_reference, written_references, AreSmall, HasShortId, area_of, names_append}
 

@@ -20,7 +20,8 @@ use Rattle.rz_fork.specs.Image as image
 use Rattle.rz_fork.specs.Image.{new_kind, group_of, name_offset, data_area, list_offset}
 use Rattle.rz_fork.specs.Layout.{types_place, references}
 use Rattle.rz_fork.specs.Contents.{resource_of, resources_of}
-use Rattle.rz_fork.specs.Admit.{references_outside, count_of, list_rule, type_rule, reference_rule, in_type, broken, fault, Data, Name, Id}
+use Rattle.rz_fork.specs.Rules.{references_outside, count_of, list_rule, type_rule, reference_rule, broken, fault, Data, Name, Id}
+use Rattle.rz_fork.specs.Code.{in_type}
 use Rattle.rz_fork.proofs.Grouping.{with_front_append}
 use Rattle.rz_fork.proofs.Lengths.{length-reference_to}
 use Rattle.rz_core.proofs.Placed.{Has, has_left, has_right}

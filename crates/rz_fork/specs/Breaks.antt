@@ -8,9 +8,9 @@ use Rattle.rz_fork.specs.declared.fault.ForkFault.{ForkFault}
 use Rattle.rz_fork.specs.declared.layout.Outline.{Outline}
 use Rattle.rz_fork.specs.declared.layout.TypeEntry.{TypeEntry}
 use Rattle.rz_fork.specs.Layout.{header_of, types_of, the_outline, entries, references}
-use Rattle.rz_fork.specs.Admit.{short_header, data_area_outside, map_outside, short_map, type_list_outside, types_outside, list_rule, type_rule, reference_rule, Tested, Data, Name, Id}
+use Rattle.rz_fork.specs.Rules.{short_header, data_area_outside, map_outside, short_map, type_list_outside, types_outside, list_rule, type_rule, reference_rule, Tested, Data, Name, Id}
 
--- the rules; what they test stands in Admit
+-- the rules; what they test stands in Rules
 pub data Rule : Type 0 where
   ShortHeader : Rule
   DataArea : Rule

@@ -5,4 +5,5 @@ pub mod Contents
 pub mod Groups
 pub mod Image
 pub mod Layout
+pub mod Rules
 pub mod View

@@ -5,7 +5,8 @@ use Rattle.std.specs.declared.option.Option.{Option}
 use Rattle.std.specs.declared.option.Option.TheVariants.{Some, None}
 use Rattle.rz_core.specs.Resources.{KeysDiffer}
 use Rattle.rz_core.specs.declared.resource.Resource.{Resource}
-use Rattle.rz_fork.specs.Admit.{count_of, HasResources, IsAdmitted}
+use Rattle.rz_fork.specs.Rules.{count_of}
+use Rattle.rz_fork.specs.Code.{HasResources, IsAdmitted}
 use Rattle.rz_fork.specs.Contents.{contents, resource_of, resources_of, FitsFork}
 use Rattle.rz_fork.specs.Layout.{entries, references}
 use Rattle.rz_fork.specs.declared.layout.Outline.{Outline}

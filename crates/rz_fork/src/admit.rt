@@ -1,9 +1,12 @@
-//! Whether bytes are a fork: the rules in their order, over all types and references. See `specs/Admit`.
+//! Whether bytes are a fork: the rules in their order, over all types and references. See `specs/Admit`,
+//! `specs/Rules` and `specs/Code`.
 
 ghost use Rattle.std.specs.Prelude.{◌≡◌, ◌<◌, ◌≤◌, ◌+◌, ◌*◌, ◌^◌, [], length, slice_get, List, IfSome, IfOk, IfErr, MatchResult, Some, None};
 ghost use Rattle.rz_core.specs.Lists.{first_in};
 ghost use Rattle.rz_fork.specs.Layout.{header_of, the_outline, entries, references};
-ghost use Rattle.rz_fork.specs.Admit.{map_fault, list_rule, reference_rule, in_type, in_types, lists_broken, inadmissible, HasArea, HasTypes, IsAdmitted, IsSayable};
+ghost use Rattle.rz_fork.specs.Admit.{inadmissible, HasArea, HasTypes, IsSayable};
+ghost use Rattle.rz_fork.specs.Rules.{list_rule, reference_rule};
+ghost use Rattle.rz_fork.specs.Code.{map_fault, in_type, in_types, lists_broken, IsAdmitted};
 ghost use Rattle.rz_fork.specs.Code.{tested_by};
 ghost use Rattle.rz_fork.specs.declared.layout.Reference.{Reference};
 
@@ -37,7 +40,7 @@ pub fn admit(bytes: &[u8]) -> Result<Outline, ForkFault>
 
 /// The outline of a fork whose type list lies in its map, or the first broken rule on the header and
 /// the map.
-#[tactic(auto, unfolding(crate::specs::Admit::map_broken))]
+#[tactic(auto, unfolding(crate::specs::Code::map_broken))]
 fn admit_map(bytes: &[u8]) -> Result<Outline, ForkFault>
     requires short { length bytes.now < 2 ^ 32 }
     ensures ok { IfOk result (λ outline. map_fault bytes.now ≡ None) }
@@ -73,7 +76,7 @@ fn admit_map(bytes: &[u8]) -> Result<Outline, ForkFault>
 }
 
 /// The first broken rule on types and references.
-#[tactic(auto, unfolding(crate::specs::Admit::lists_broken))]
+#[tactic(auto, unfolding(crate::specs::Code::lists_broken))]
 fn lists_broken(bytes: &[u8], outline: Outline) -> Option<ForkFault>
     requires types { HasTypes bytes.now outline }
     requires area { HasArea bytes.now outline.header }

@@ -2,7 +2,7 @@
 //! gives exactly the one image of a list, or the first limit that it passes; `ForkView::admit` gives exactly what the
 //! bytes hold, or the first rule that they break; and an image is read as its list, grouped by type. What is read
 //! is lent from the bytes: a view and a walk over it take no memory, and only `copy_all` copies.
-//! It rests on `rz_core`, `indexmap` and `thiserror`.
+//! It rests on `rz_core`, `bitflags`, `indexmap` and `thiserror`.
 //! What a fork is stands in `specs` and in docs/FORMATS.md, which change together.
 #![tactic(auto)]
 
@@ -12,6 +12,7 @@ mod group;
 mod laws;
 mod layout;
 mod limit;
+mod map_attributes;
 mod numbers;
 mod parts;
 mod read;
@@ -24,6 +25,7 @@ pub use admit::{entry_of, reference_of};
 pub use fault::{ForkFault, LimitFault};
 pub use laws::{admitted_forks_fit, breaks_begin};
 pub use layout::{Header, Outline, Reference, TypeEntry, read_header, read_outline, type_list_at};
+pub use map_attributes::MapAttributes;
 pub use numbers::{long_at, word_at};
 pub use repeats::{IDS, Marks, id_repeats, type_repeats};
 pub use rules::{

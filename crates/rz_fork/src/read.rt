@@ -2,7 +2,8 @@
 
 ghost use Rattle.std.specs.Prelude.{◌≡◌, ◌<◌, ◌≤◌, ◌+◌, ◌^◌, length, take, drop, None};
 ghost use Rattle.rz_fork.specs.Contents.{data_of, name_of, attributes_of, reserved_of};
-ghost use Rattle.rz_fork.specs.Admit.{data_outside, name_outside, HasArea};
+ghost use Rattle.rz_fork.specs.Admit.{HasArea};
+ghost use Rattle.rz_fork.specs.Rules.{data_outside, name_outside};
 
 use crate::layout::{Header, NO_NAME, Outline, Reference};
 use rz_core::{rest_at, u8_at, u16_at, u32_at};
@@ -16,7 +17,7 @@ fn piece_at(bytes: &[u8], place: usize, count: usize) -> &[u8]
 }
 
 /// A resource's bytes.
-#[tactic(auto, unfolding(crate::specs::Contents::data_of, crate::specs::Admit::data_outside))]
+#[tactic(auto, unfolding(crate::specs::Contents::data_of, crate::specs::Rules::data_outside))]
 pub fn data_of(bytes: &[u8], outline: Outline, reference: Reference) -> &[u8]
     requires area { HasArea bytes.now outline.header }
     requires within { data_outside bytes.now outline reference ≡ None }
@@ -27,7 +28,7 @@ pub fn data_of(bytes: &[u8], outline: Outline, reference: Reference) -> &[u8]
 }
 
 /// A resource's name.
-#[tactic(auto, unfolding(crate::specs::Contents::name_of, crate::specs::Admit::name_outside))]
+#[tactic(auto, unfolding(crate::specs::Contents::name_of, crate::specs::Rules::name_outside))]
 pub fn name_of(bytes: &[u8], outline: Outline, reference: Reference) -> &[u8]
     requires map { outline.header.map_at + outline.header.map_length ≤ length bytes.now }
     requires names { outline.names < 2 ^ 16 }

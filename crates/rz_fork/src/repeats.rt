@@ -1,12 +1,14 @@
 //! The rule on repeated types and ids, without a look back over all that stands before each: codes of types are sorted,
-//! and ids are marked in a table. See `specs/Admit`.
+//! and ids are marked in a table. See `specs/Rules`.
 
 ghost use Rattle.std.specs.Prelude.{◌≡◌, ◌+◌, ◌*◌, ◌≤◌, ◌<◌, ◌^◌, ◌==◌, List, [], ◌∷◌, ◌++◌, length, map, take, eqb, true, None, IfNone, IfSome};
 ghost use Rattle.std.specs.List.{list_any, IsDistinct};
 ghost use Rattle.std.specs.List.Sorted.{IsStrictlyIncreasing};
 ghost use Rattle.rz_core.specs.Lists.{first_in};
 ghost use Rattle.rz_fork.specs.Layout.{entries, references};
-ghost use Rattle.rz_fork.specs.Admit.{id_rule, in_types, list_rule, type_rule, HasTypes, Id, IsSayable};
+ghost use Rattle.rz_fork.specs.Admit.{HasTypes, IsSayable};
+ghost use Rattle.rz_fork.specs.Rules.{id_rule, list_rule, type_rule, Id};
+ghost use Rattle.rz_fork.specs.Code.{in_types};
 ghost use Rattle.rz_fork.specs.Code.{AreMarked};
 ghost use Rattle.rz_fork.specs.declared.layout.Reference.{Reference};
 

@@ -1,8 +1,9 @@
-//! Rules by which a fork is admitted, most as a function each; changed only with `specs/Admit`.
+//! Rules by which a fork is admitted, most as a function each; changed only with `specs/Rules`.
 
 ghost use Rattle.std.specs.Prelude.{◌≡◌, ◌<◌, ◌≤◌, ◌+◌, ◌*◌, ◌^◌, length, IfNone, IfSome};
 ghost use Rattle.rz_fork.specs.Layout.{types_place};
-ghost use Rattle.rz_fork.specs.Admit.{short_header, data_area_outside, map_outside, short_map, type_list_outside, types_outside, references_outside, data_outside, name_outside, HasArea, IsSayable};
+ghost use Rattle.rz_fork.specs.Admit.{HasArea, IsSayable};
+ghost use Rattle.rz_fork.specs.Rules.{short_header, data_area_outside, map_outside, short_map, type_list_outside, types_outside, references_outside, data_outside, name_outside};
 
 use crate::fault::ForkFault;
 use crate::layout::{Header, NO_NAME, Outline, Reference, TypeEntry};
@@ -37,7 +38,7 @@ pub fn fault(number: u16, offset: usize, value: u32) -> ForkFault
 }
 
 /// ShortHeader.
-#[tactic(auto, unfolding(crate::specs::Admit::short_header))]
+#[tactic(auto, unfolding(crate::specs::Rules::short_header))]
 pub fn short_header(bytes: &[u8]) -> Option<ForkFault>
     ensures rule { result ≡ short_header bytes.now }
     ensures within { IfNone result (16 ≤ length bytes.now) }
@@ -50,7 +51,7 @@ pub fn short_header(bytes: &[u8]) -> Option<ForkFault>
 }
 
 /// DataAreaOutside.
-#[tactic(auto, unfolding(crate::specs::Admit::data_area_outside))]
+#[tactic(auto, unfolding(crate::specs::Rules::data_area_outside))]
 pub fn data_area_outside(bytes: &[u8], header: Header) -> Option<ForkFault>
     requires small { header.data_at + header.data_length < 2 ^ 33 }
     requires length { header.data_length < 2 ^ 32 }
@@ -65,7 +66,7 @@ pub fn data_area_outside(bytes: &[u8], header: Header) -> Option<ForkFault>
 }
 
 /// MapOutside.
-#[tactic(auto, unfolding(crate::specs::Admit::map_outside))]
+#[tactic(auto, unfolding(crate::specs::Rules::map_outside))]
 pub fn map_outside(bytes: &[u8], header: Header) -> Option<ForkFault>
     requires at { header.map_at < 2 ^ 32 }
     requires length { header.map_length < 2 ^ 32 }
@@ -80,7 +81,7 @@ pub fn map_outside(bytes: &[u8], header: Header) -> Option<ForkFault>
 }
 
 /// ShortMap.
-#[tactic(auto, unfolding(crate::specs::Admit::short_map))]
+#[tactic(auto, unfolding(crate::specs::Rules::short_map))]
 pub fn short_map(header: Header) -> Option<ForkFault>
     ensures rule { result ≡ short_map header }
     ensures within { IfNone result (28 ≤ header.map_length) }
@@ -93,7 +94,7 @@ pub fn short_map(header: Header) -> Option<ForkFault>
 }
 
 /// TypeListOutside.
-#[tactic(auto, unfolding(crate::specs::Admit::type_list_outside))]
+#[tactic(auto, unfolding(crate::specs::Rules::type_list_outside))]
 pub fn type_list_outside(header: Header, types: usize) -> Option<ForkFault>
     requires at { header.map_at < 2 ^ 32 }
     requires types { types < 2 ^ 16 }
@@ -108,7 +109,7 @@ pub fn type_list_outside(header: Header, types: usize) -> Option<ForkFault>
 }
 
 /// TypesOutside.
-#[tactic(auto, unfolding(crate::specs::Admit::types_outside))]
+#[tactic(auto, unfolding(crate::specs::Rules::types_outside))]
 pub fn types_outside(outline: Outline) -> Option<ForkFault>
     requires at { types_place outline < 2 ^ 34 }
     requires count { outline.count < 2 ^ 16 }
@@ -131,7 +132,7 @@ pub fn types_outside(outline: Outline) -> Option<ForkFault>
 }
 
 /// ReferencesOutside, of a type after types with so many references.
-#[tactic(auto, unfolding(crate::specs::Admit::references_outside))]
+#[tactic(auto, unfolding(crate::specs::Rules::references_outside))]
 pub fn references_outside(outline: Outline, so_far: usize, entry: TypeEntry) -> Option<ForkFault>
     requires map { outline.header.map_at + outline.header.map_length < 2 ^ 33 }
     requires so_far { so_far < 2 ^ 30 }
@@ -150,7 +151,7 @@ pub fn references_outside(outline: Outline, so_far: usize, entry: TypeEntry) -> 
 }
 
 /// DataOutside.
-#[tactic(auto, unfolding(crate::specs::Admit::data_outside))]
+#[tactic(auto, unfolding(crate::specs::Rules::data_outside))]
 pub fn data_outside(bytes: &[u8], outline: Outline, reference: Reference) -> Option<ForkFault>
     requires area { HasArea bytes.now outline.header }
     requires short { length bytes.now < 2 ^ 32 }
@@ -170,7 +171,7 @@ pub fn data_outside(bytes: &[u8], outline: Outline, reference: Reference) -> Opt
 }
 
 /// NameOutside.
-#[tactic(auto, unfolding(crate::specs::Admit::name_outside))]
+#[tactic(auto, unfolding(crate::specs::Rules::name_outside))]
 pub fn name_outside(bytes: &[u8], outline: Outline, reference: Reference) -> Option<ForkFault>
     requires map { outline.header.map_at + outline.header.map_length ≤ length bytes.now }
     requires names { outline.names < 2 ^ 16 }

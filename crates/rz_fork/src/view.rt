@@ -4,14 +4,17 @@ ghost use Rattle.std.specs.Prelude.{◌≡◌, ◌<◌, ◌≤◌, ◌^◌, [], 
 ghost use Rattle.std.specs.List.{AllByRecursion};
 ghost use Rattle.rz_core.specs.Resources.{KeysDiffer};
 ghost use Rattle.rz_fork.specs.Layout.{entries};
-ghost use Rattle.rz_fork.specs.Admit.{admitted, count_of, data_outside, name_outside, HasArea, HasTypes, IsSayable};
+ghost use Rattle.rz_fork.specs.Admit.{admitted, HasArea, HasTypes, IsSayable};
+ghost use Rattle.rz_fork.specs.Rules.{count_of, data_outside, name_outside};
 ghost use Rattle.rz_fork.specs.Contents.{resource_of, FitsFork};
 ghost use Rattle.rz_fork.specs.View.{lent, GivesFirst};
 
 use crate::admit::{admit, entry_of, reference_of};
 use crate::fault::ForkFault;
 use crate::layout::{Header, Outline, Reference, TypeEntry};
+use crate::map_attributes::MapAttributes;
 use crate::read::{attributes_of, data_of, name_of, reserved_of};
+use bitflags::Flags;
 use rz_core::{Attr, Bytes, NoMemory, OsType, Resource, Resources};
 use std::alloc::Global;
 use std::marker::Model;
@@ -112,16 +115,15 @@ impl<'a> ForkView<'a> {
         self.count
     }
 
-    /// The attributes of the map. The bits 0x80 (read only), 0x40 (compact) and 0x20 (changed) have a
-    /// meaning; all 16 are kept.
+    /// The attributes of the map.
     #[tactic(auto, unfolding(crate::specs::Contents::contents))]
-    pub fn attributes(&self) -> u16
+    pub fn attributes(&self) -> MapAttributes
         ensures { result ≡ self.now.attributes }
     {
         if self.bytes.is_empty() {
-            return 0;
+            return MapAttributes::empty();
         }
-        attributes_of(self.bytes, self.outline.header)
+        MapAttributes::from_bits_retain(attributes_of(self.bytes, self.outline.header))
     }
 
     /// The 240 bytes after the header, or as many of them as stand before the data area, the map and the

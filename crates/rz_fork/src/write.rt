@@ -10,7 +10,9 @@ ghost use Rattle.rz_fork.specs.Image.{data_area, name_list, lists_end, header, m
 use crate::fault::LimitFault;
 use crate::group::{Group, groups_in, in_order};
 use crate::limit::{data_length, first_limit};
+use crate::map_attributes::MapAttributes;
 use crate::parts::{append_count, append_data, append_entries, append_names, append_references};
+use bitflags::Flags;
 use rz_core::{Bytes, NoMemory, Resource, Resources, Stop, append_u16, append_u32, append_zeros};
 use std::alloc::Global;
 
@@ -26,9 +28,9 @@ const TYPES_AT: u16 = 28;
 /// The one fork of the resources: the header, the reserved bytes filled with zeros to 240, the data
 /// area from offset 256 on, and the map with its type list at 28, the reference lists and the name
 /// list. Resources stand grouped by type, types in the order of their first resources, and share
-/// nothing; a resource without a name has the name offset FFFF. `attributes` are those of the map, with
-/// the bits 0x80 (read only), 0x40 (compact) and 0x20 (changed). Each name has at most 255 bytes, pairs
-/// of type and id differ, and there are at most 240 reserved bytes. [`ForkView::admit`](crate::ForkView::admit) of
+/// nothing; a resource without a name has the name offset FFFF. `attributes` are those of the map. Each
+/// name has at most 255 bytes, pairs of type and id differ, and there are at most 240 reserved bytes.
+/// [`ForkView::admit`](crate::ForkView::admit) of
 /// the fork gives the resources grouped by type, the attributes and the 240 reserved bytes again. The
 /// time is linear in the resources and their bytes.
 ///
@@ -39,7 +41,7 @@ const TYPES_AT: u16 = 28;
 pub fn write_fork(
     alloc: Global,
     list: &Resources,
-    attributes: u16,
+    attributes: MapAttributes,
     reserved: &[u8],
 ) -> Result<Bytes, Stop<LimitFault>>
     requires { IsWritable list.now reserved.now }
@@ -56,7 +58,7 @@ pub fn write_fork(
     if let Some(fault) = first_limit(groups.len(), &order) {
         return Err(Stop::Refused(fault));
     }
-    Ok(write_image(alloc, &groups, &order, attributes, reserved)?)
+    Ok(write_image(alloc, &groups, &order, attributes.bits(), reserved)?)
 }
 
 fn write_image(

@@ -1,7 +1,7 @@
 -- Zero bits and the bits of bytes, one part after the other.
-use Rattle.std.proofs.Common.{◌≡◌, ℕ, zero, suc, ◌+◌, ◌-◌, ◌*◌, ◌<◌, ◌≤◌, Bool, false, List, [], ◌∷◌, ◌++◌, length, get_or, take, drop, Result, Ok, Err, Option, Some, None, refl, sym, ap, subst, ◌∙◌, arith}
+use Rattle.std.proofs.Common.{◌≡◌, ℕ, zero, suc, ◌+◌, ◌-◌, ◌*◌, ◌<◌, ◌≤◌, Bool, false, List, [], ◌∷◌, ◌++◌, length, take, Result, Ok, Err, Option, Some, None, refl, sym, ap, subst, ◌∙◌, arith}
 use Rattle.std.specs.Prelude.{replicate, OnOk}
-use Rattle.std.proofs.lemmas.List.{append_assoc, append-nil, drop_more, length-append, length-replicate, length-take, replicate-append-replicate, take_all}
+use Rattle.std.proofs.lemmas.List.{append_assoc, append-nil, length-append, length-replicate, length-take, replicate-append-replicate, take_all}
 use Rattle.rz_bits.specs.Bits.{bits_of, number_bits}
 use Rattle.rz_bits.specs.BitBuf.{zeros}
 use Rattle.rz_bits.proofs.Numbers.{number_bits-zero}
@@ -25,22 +25,6 @@ pub zero_bytes : (count : ℕ) → bits_of (replicate count 0) ≡ zeros (8 * co
 zero_bytes zero = refl
 zero_bytes (suc count) =
     (λ i. number_bits-zero 8 i ++ zero_bytes count i) ∙ replicate-append-replicate 8 (8 * count) false ∙ ap zeros (omega (arith))
-
--- one byte more
-pub byte_more : (bits after all : List Bool) (bytes : List ℕ) (i : ℕ) → i < length bytes → after ≡ bits ++ number_bits 8 (get_or bytes i 0)
-    → bits ++ bits_of (drop i bytes) ≡ all → after ++ bits_of (drop (i + 1) bytes) ≡ all
-byte_more bits after all bytes i less is so =
-    ap (λ bs. bs ++ bits_of (drop (i + 1) bytes)) is
-    ∙ append_assoc bits (number_bits 8 (get_or bytes i 0)) (bits_of (drop (i + 1) bytes))
-    ∙ ap (λ bs. bits ++ bits_of bs) (sym (drop_more bytes i 0 less))
-    ∙ so
-
-pub byte_room : (bits after : List Bool) (byte i count : ℕ) → i < count → after ≡ bits ++ number_bits 8 byte → length bits + 8 * (count - i) < 2147483648
-    → length after + 8 * (count - (i + 1)) < 2147483648
-byte_room bits after byte i count less is room =
-    let size : length after ≡ length bits + 8 = ap length is ∙ length-append bits (number_bits 8 byte) ∙ ap (λ n. length bits + n) (length_number 8 byte) in
-    let split : count - i ≡ suc (count - (i + 1)) = omega (arith, less) in
-    omega (arith, size, split, room, less)
 
 -- a size cuts or fills
 pub length_sized : (size : ℕ) (bytes : List ℕ) → length (sized size bytes) ≡ size

@@ -22,7 +22,6 @@ mod number;
 mod points;
 mod push;
 mod seen;
-mod store;
 mod text;
 mod valued;
 

@@ -5,7 +5,6 @@ ghost use Rattle.rz_bits.specs.Bits.{bits_of};
 ghost use Rattle.rz_layout.specs.Text.{sized_length, stored_length};
 ghost use Rattle.rz_types.specs.Stored.{in_size, sized, stored_text, to_size};
 
-use crate::store::push_bytes;
 use crate::text::before_zero;
 use rz_bits::BitBuf;
 use rz_core::NoMemory;
@@ -35,7 +34,7 @@ pub fn push_text(
         }
         TextForm::Zero => {
             push_sized(bits, before_zero(size), bytes)?;
-            push_bytes(bits, &[0])
+            bits.push_bytes(&[0])
         }
     }
 }
@@ -59,7 +58,7 @@ fn push_sized(bits: &mut BitBuf, size: Option<u32>, bytes: &[u8]) -> Result<(), 
 {
     match size {
         Some(size) => push_cut(bits, size as usize, bytes),
-        None => push_bytes(bits, bytes),
+        None => bits.push_bytes(bytes),
     }
 }
 
@@ -68,8 +67,8 @@ fn push_cut(bits: &mut BitBuf, size: usize, bytes: &[u8]) -> Result<(), NoMemory
     ensures { OnOk result (bits.new ≡ bits.old ++ bits_of (sized size bytes.now)) }
 {
     if size <= bytes.len() {
-        return push_bytes(bits, bytes.split_at(size).0);
+        return bits.push_bytes(bytes.split_at(size).0);
     }
-    push_bytes(bits, bytes)?;
+    bits.push_bytes(bytes)?;
     bits.push_many(false, 8 * (size - bytes.len()) as u32)
 }

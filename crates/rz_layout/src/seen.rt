@@ -1,8 +1,9 @@
 //! What expressions see of what is laid, and their values. What they see is in `specs/Seen`.
 
-ghost use Rattle.std.specs.Prelude.{◌≡◌, ◌≤◌, ◌+ℤ◌, if◌then◌else◌, Err, None, option_map, pos};
+ghost use Rattle.std.specs.Prelude.{◌≡◌, ◌≤◌, if◌then◌else◌, not, Err, None, option_map, pos};
 ghost use Rattle.rz_core.specs.Stop.{Gives};
 ghost use Rattle.rz_expr.specs.Environment.{IsSeenIn};
+ghost use Rattle.rz_expr.specs.NameKey.{key_of};
 ghost use Rattle.rz_expr.specs.Term.{term_of};
 ghost use Rattle.rz_expr.specs.Unvalued.{fault_of, held};
 ghost use Rattle.rz_expr.specs.Value.{value_of};
@@ -19,9 +20,9 @@ use crate::LayFault;
 use crate::fault::value_fault;
 use crate::laid::Laid;
 use rz_bits::BitBuf;
-use rz_core::{Bytes, Facts, Fault, Mark, Stop, Word};
-use rz_expr::{Env, Expr, FactWord, Unvalued, value_in};
-use rz_types_fields::{NamesEnv, Note, Texts, labelled_rows, place_of, text_seen};
+use rz_core::{Bytes, Facts, Fault, Mark, Stop};
+use rz_expr::{Env, Expr, FactWord, Key, Unvalued, value_in};
+use rz_types_fields::{NamesEnv, Note, Texts, text_seen, value_noted};
 use std::alloc::Global;
 
 /// What an expression sees of names and of the bits before a place, without the late ones.
@@ -42,37 +43,12 @@ impl Env for DraftEnv<'_> {
 
     ghost belongs = { λ env finished. IsSeenIn (env_sight env) finished };
 
-    fn place(&self, name: &Word) -> Option<i32> {
-        self.names.place(name)
+    fn give(&self, key: Key<'_>) -> Option<i128> {
+        self.names.give(key)
     }
 
-    fn count(&self, name: &Word) -> Option<i32> {
-        self.names.count(name)
-    }
-
-    fn rows(&self, label: &Word) -> Option<u64> {
-        self.names.rows(label)
-    }
-
-    fn place_at(&self, label: &Word, row: i32) -> Option<i32> {
-        self.names.place_at(label, row)
-    }
-
-    fn row(&self, array: &Word) -> Option<i32> {
-        self.names.row(array)
-    }
-
-    fn bits(&self, name: &Word, start: i32, width: i32) -> Option<u32> {
-        match self.names.place(name) {
-            Some(place) => number_seen(
-                self.bits,
-                self.marks,
-                self.at,
-                i64::from(place) + i64::from(start),
-                width as u8,
-            ),
-            None => None,
-        }
+    fn bits(&self, first: i64, width: i32) -> Option<u32> {
+        number_seen(self.bits, self.marks, self.at, first, width as u8)
     }
 
     fn fact(&self, which: FactWord) -> i32 {
@@ -113,18 +89,25 @@ pub fn names_later(expr: &Expr, notes: &[Note<'_>]) -> bool
 {
     match expr {
         Expr::Number(_) | Expr::Count(_) | Expr::ArrayIndex(_) | Expr::Fact(_) => false,
-        Expr::Name(name) => place_of(notes, name).is_none(),
+        Expr::Name(name) => is_later(notes, Key::Place(name)),
         Expr::Indexed(name, index) => {
-            labelled_rows(notes, name).is_none() || names_later(index, notes)
+            is_later(notes, Key::Rows(name)) || names_later(index, notes)
         }
         Expr::Unary(_, operand) => names_later(operand, notes),
         Expr::Binary(_, left, right) => names_later(left, notes) || names_later(right, notes),
         Expr::Bits(name, start, width) => {
-            place_of(notes, name).is_none()
+            is_later(notes, Key::Place(name))
                 || names_later(start, notes)
                 || names_later(width, notes)
         }
     }
+}
+
+/// Whether a key has no value yet.
+fn is_later(notes: &[Note<'_>], key: Key<'_>) -> bool
+    ensures { result ≡ not (met_in (known notes.now) (key_of key.entry)) }
+{
+    value_noted(notes, key).is_none()
 }
 
 /// The value of an expression after what is laid so far.

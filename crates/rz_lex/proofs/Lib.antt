@@ -2,6 +2,7 @@ pub mod Leaving
 pub mod Fronts
 pub mod Takes
 pub mod RunsAhead
+pub mod BareLines
 pub mod PartWords
 pub mod OneLine
 pub mod OneCover
@@ -9,6 +10,7 @@ pub mod EveryText
 pub mod Ends
 pub mod Places
 pub mod Spelling
+pub mod DigitTable
 pub mod Befores
 pub mod Steps
 pub mod Signs

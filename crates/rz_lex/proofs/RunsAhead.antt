@@ -14,7 +14,7 @@ use Rattle.rz_lex.specs.Runs.{is_plain, is_unbroken, HasRun, IsInside, TakesPart
 use Rattle.rz_core.proofs.Tests.{by_test}
 
 -- each byte passes this test
-abbrev Pass : (ℕ → Bool) → List ℕ → Type 0
+abbrev pub Pass : (ℕ → Bool) → List ℕ → Type 0
 Pass test bytes = AllByRecursion (λ byte. test byte ≡ true) bytes
 
 pub front_passes : (test : ℕ → Bool) (bytes : List ℕ) → Pass test (take_while test bytes)
@@ -24,10 +24,10 @@ front_passes test (b ∷ bytes) = subst (Pass test) (sym (take_while-cons test b
 
 -- A byte that is neither a backslash nor ends a line.
 
-abbrev Stays : ℕ → Type 0
+abbrev pub Stays : ℕ → Type 0
 Stays b = (b == 92 ≡ false) × (b == 10 ≡ false) × (b == 13 ≡ false)
 
-unbroken_stays : (stop b : ℕ) → is_unbroken stop b ≡ true → (b == stop ≡ false) × Stays b
+pub unbroken_stays : (stop b : ℕ) → is_unbroken stop b ≡ true → (b == stop ≡ false) × Stays b
 unbroken_stays stop b is =
     let last = and_parts (not (b == stop) && not (b == 92) && not (b == 10)) (not (b == 13)) is in
     let third = and_parts (not (b == stop) && not (b == 92)) (not (b == 10)) last.0 in
@@ -43,7 +43,7 @@ joined_more line b bytes stays = rw (stays.2, stays.1, stays.0) refl
 -- A run in the joined text.
 
 module _ (test : ℕ → Bool) (stays : (b : ℕ) → test b ≡ true → Stays b) where
-  has_run : (line : ℕ) (run rest : List ℕ) → Pass test run → HasRun test (joined line (run ++ rest)) run (joined line rest)
+  pub has_run : (line : ℕ) (run rest : List ℕ) → Pass test run → HasRun test (joined line (run ++ rest)) run (joined line rest)
   has_run line [] rest all = record { front = []; whole = refl; bytes = refl; all = tt }
   has_run line (b ∷ run) rest all =
       let more = has_run line run rest all.1 in

@@ -1,5 +1,5 @@
 -- Bytes that are taken in one piece: a run of parts that are single bytes, and a run within a quoted part or a comment.
-use Rattle.std.specs.Prelude.{◌≡◌, ◌≢◌, ℕ, Bool, true, false, ◌&&◌, ◌==◌, not, List, [], ◌++◌}
+use Rattle.std.specs.Prelude.{◌≡◌, ◌≢◌, ℕ, Bool, true, false, ◌&&◌, ◌||◌, ◌==◌, not, List, [], ◌∷◌, ◌++◌}
 use Rattle.std.specs.List.{flat_map, AllByRecursion}
 use Rattle.rz_lex.specs.declared.joined.Placed.{Placed}
 use Rattle.rz_lex.specs.Classes.{is_quote}
@@ -20,6 +20,16 @@ pub record HasRun (test : ℕ → Bool) (text : List Placed) (run : List ℕ) (r
   pub whole : text ≡ front ++ rest
   pub bytes : run ≡ bytes_of front
   pub all : AllByRecursion (λ placed. test placed.byte ≡ true) front
+
+-- these bytes stand at the end of a line: a line end stands first, or nothing
+abbrev pub ends_line : List ℕ → Bool
+ends_line [] = true
+ends_line (byte ∷ bytes) = byte == 10 || byte == 13
+
+-- the same of a text
+abbrev pub ends_here : List Placed → Bool
+ends_here [] = true
+ends_here (first ∷ rest) = first.byte == 10
 
 -- a part that is no line end
 abbrev pub IsInside : List Placed → Type 0

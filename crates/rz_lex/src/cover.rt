@@ -10,8 +10,28 @@ ghost use Rattle.rz_lex.specs.declared.joined.Placed.{Placed};
 
 use crate::classes::is_quote;
 use crate::joined::{Position, next_byte};
-use crate::runs::{plain_run, unbroken_run};
+use crate::runs::{bare_line, plain_run, unbroken_run};
 use rz_core::{Bytes, NoMemory};
+use std::alloc::Global;
+
+/// The bytes for which a line has room before it grows.
+const FIRST_ROOM: usize = 64;
+
+/// Takes the line that stands ahead whole where neither a slash nor a backslash stands in it, and of any other line
+/// nothing: what was taken, and the position after it.
+pub fn take_bare_line<'a>(
+    alloc: Global,
+    start: Position<'a>,
+) -> Result<(Bytes, Position<'a>), NoMemory>
+    ensures taken { IfOk result (λ read. TakesParts (ahead start.entry) (ahead read.1) [] read.0) }
+    ensures on { IfOk result (λ read. IsOn start.entry read.1) }
+    ensures moved { IfOk result (λ read. (length read.1.rest.now < length start.entry.rest.now) ⊎ (ahead read.1 ≡ ahead start.entry)) }
+{
+    match bare_line(start) {
+        Some((line, end)) => Ok((Bytes::of(alloc, line)?, end)),
+        None => Ok((Bytes::with_capacity(alloc, FIRST_ROOM)?, start)),
+    }
+}
 
 /// Takes the bytes that stand ahead and are parts by themselves, and where there is none the part that stands
 /// ahead, which is no line end; appends what they leave in their line, and gives the position after them.

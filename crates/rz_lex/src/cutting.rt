@@ -16,6 +16,9 @@ use crate::{RawLine, Token, Tokens};
 use rz_core::{Fault, Mark, Stop};
 use std::alloc::Global;
 
+/// The tokens for which a list has room before it grows.
+const FIRST_ROOM: usize = 12;
+
 /// The tokens of a line, each the longest that stands at its place, all with the line's mark. A refusal
 /// is the first fault of the line: 108 where a literal or a text does not end on it, 109 for a wrong
 /// escape (kept: the token's bytes as written, at most 255), 110 for a wrong number or literal (kept: the
@@ -36,7 +39,10 @@ fn cut_line(alloc: Global, line: &RawLine) -> Result<Tokens, Stop<Fault>>
     ensures tokens { IfOk result (Cuts line.now.mark line.now.bytes) }
     ensures fault { OnFault result (Refuses line.now.mark line.now.bytes) }
 {
-    let mut tokens = Tokens::new(alloc);
+    if after_blanks(line.bytes.as_slice()).is_empty() {
+        return Ok(Tokens::new(alloc));
+    }
+    let mut tokens = Tokens::with_capacity(alloc, FIRST_ROOM)?;
     let mut rest = line.bytes.as_slice();
     'lexemes: loop {
         match next_token(alloc, line.mark, rest) {

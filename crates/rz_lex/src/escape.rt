@@ -4,6 +4,7 @@ ghost use Rattle.std.specs.Prelude.{◌≡◌, ◌+◌, ◌<◌, ◌≤◌, [], 
 ghost use Rattle.rz_lex.specs.Escape.{before, digits_escape, escape_at, escape_behind_0, letter_escape, text_value};
 
 use crate::digits::digits_value;
+use memchr::memchr;
 use rz_core::{Bytes, NoMemory};
 use std::alloc::Global;
 
@@ -15,6 +16,9 @@ use std::alloc::Global;
 pub fn text_value(alloc: Global, body: &[u8]) -> Result<Option<Bytes>, NoMemory>
     ensures { IfOk result (λ value. value ≡ text_value 0 body.now) }
 {
+    if memchr(b'\\', body).is_none() {
+        return Ok(Some(Bytes::of(alloc, body)?));
+    }
     let mut value = Bytes::with_capacity(alloc, body.len())?;
     let mut rest = body;
     while !rest.is_empty() {

@@ -9,14 +9,11 @@ ghost use Rattle.rz_lex.specs.Lines.{open_comment, HasLines, HasOpenComment, Sta
 ghost use Rattle.rz_lex.specs.declared.joined.Placed.{Placed};
 ghost use Rattle.rz_lex.specs.declared.raw_line.RawLine.{RawLine};
 
-use crate::cover::take_parts;
+use crate::cover::{take_bare_line, take_parts};
 use crate::joined::{Position, next_byte};
 use crate::raw_line::RawLine;
-use rz_core::{Bytes, Fault, Kept, Mark, Stop};
+use rz_core::{Fault, Kept, Mark, Stop};
 use std::alloc::Global;
-
-/// The bytes for which a line has room before it grows.
-const FIRST_ROOM: usize = 64;
 
 /// The first logical line that stands ahead, and the position of the next. `file` is the position of the
 /// source in the list of files, for the marks. `None` comes exactly at the end of the text. 107 comes
@@ -41,8 +38,7 @@ pub fn next_line<'a>(
         file,
         line: first.line,
     };
-    let mut bytes = Bytes::with_capacity(alloc, FIRST_ROOM)?;
-    let mut place = start;
+    let (mut bytes, mut place) = take_bare_line(alloc, start)?;
     while let Some((byte, after)) = next_byte(place) {
         if byte.byte == b'\n' {
             return Ok(Some((RawLine { bytes, mark }, after)));

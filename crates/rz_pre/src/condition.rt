@@ -19,7 +19,7 @@ use crate::expanded::expand_all;
 use crate::macros::Macros;
 use rz_core::{Fault, Kept, Mark, NoMemory, Stop, Word};
 use rz_expr::{
-    Env, FactWord, Keyword, Role, eval, is_keyword, predefined, read_expr, role_of, spelling,
+    Env, FactWord, Key, Keyword, Role, eval, is_keyword, predefined, read_expr, role_of, spelling,
 };
 use rz_lex::{Shape, Sign, Token, Tokens};
 use std::alloc::Global;
@@ -44,27 +44,11 @@ impl Env for NoNames {
 
     ghost belongs = { λ _ finished. finished ≡ nothing_seen };
 
-    fn place(&self, _name: &Word) -> Option<i32> {
+    fn give(&self, _key: Key<'_>) -> Option<i128> {
         None
     }
 
-    fn count(&self, _name: &Word) -> Option<i32> {
-        None
-    }
-
-    fn rows(&self, _label: &Word) -> Option<u64> {
-        None
-    }
-
-    fn place_at(&self, _label: &Word, _row: i32) -> Option<i32> {
-        None
-    }
-
-    fn row(&self, _array: &Word) -> Option<i32> {
-        None
-    }
-
-    fn bits(&self, _name: &Word, _start: i32, _width: i32) -> Option<u32> {
+    fn bits(&self, _first: i64, _width: i32) -> Option<u32> {
         None
     }
 

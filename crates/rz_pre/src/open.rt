@@ -35,7 +35,7 @@ pub fn open_file<F: Folder>(
     ensures lexed { IsLexedReading reading.old → IsLexedReading reading.new }
     ensures nameable { OnRefusal result (IsSourceFault (length reading.new.files)) }
     ensures short { IfOk result (λ text. length text < 2 ^ 32) }
-    ensures reads { OnlyReads F.files F.read_faults F.write_faults folder.old folder.new (IsReadFault result) }
+    ensures reads { OnlyReads F.Folder folder.old folder.new (IsReadFault result) }
 {
     match find(alloc, folder, names)? {
         Some((name, source)) => {

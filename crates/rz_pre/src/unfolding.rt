@@ -56,7 +56,7 @@ fn read_file<F: Folder>(
     ensures more { OnOk result (length reading.old.files ≤ length reading.new.files) }
     ensures nameable { OnRefusal result (IsSourceFault (length reading.new.files)) }
     ensures lexed { IsLexedReading reading.old → OnOk result (IsLexedReading reading.new) }
-    ensures reads { OnlyReads F.files F.read_faults F.write_faults folder.old folder.new (IsReadFault result) }
+    ensures reads { OnlyReads F.Folder folder.old folder.new (IsReadFault result) }
 {
     every_text_has_lines();
     tokens_are_lexed();
@@ -135,7 +135,7 @@ fn open_included<F: Folder>(
     ensures tokens { reading.new.tokens ≡ reading.old.tokens }
     ensures nameable { OnRefusal result (IsSourceFault (length reading.new.files)) }
     ensures lexed { IsLexedReading reading.old → IsLexedReading reading.new }
-    ensures reads { OnlyReads F.files F.read_faults F.write_faults folder.old folder.new (IsReadFault result) }
+    ensures reads { OnlyReads F.Folder folder.old folder.new (IsReadFault result) }
 {
     if levels == 0 {
         return Err(Halt::Refused(too_deep(mark)));
@@ -159,7 +159,7 @@ fn read_names<F: Folder>(
     ensures more { OnOk result (length reading.old.files ≤ length reading.new.files) }
     ensures nameable { OnRefusal result (IsSourceFault (length reading.new.files)) }
     ensures lexed { IsLexedReading reading.old → OnOk result (IsLexedReading reading.new) }
-    ensures reads { OnlyReads F.files F.read_faults F.write_faults folder.old folder.new (IsReadFault result) }
+    ensures reads { OnlyReads F.Folder folder.old folder.new (IsReadFault result) }
 {
     let mut k = 0;
     while k < names.len() {
@@ -184,7 +184,7 @@ fn read_named<F: Folder>(
     ensures more { OnOk result (length reading.old.files ≤ length reading.new.files) }
     ensures nameable { OnRefusal result (IsSourceFault (length reading.new.files)) }
     ensures lexed { IsLexedReading reading.old → OnOk result (IsLexedReading reading.new) }
-    ensures reads { OnlyReads F.files F.read_faults F.write_faults folder.old folder.new (IsReadFault result) }
+    ensures reads { OnlyReads F.Folder folder.old folder.new (IsReadFault result) }
 {
     let file = reading.files.len();
     let mut own = FileNames::new(alloc);
@@ -223,7 +223,7 @@ fn read_all<F: Folder>(
     ensures placed { OnOk result (IsPlaced reading.new) }
     ensures nameable { OnRefusal result (IsSourceFault (length reading.new.files)) }
     ensures lexed { HaveLexedTexts defs.now → OnOk result (IsLexedReading reading.new) }
-    ensures reads { OnlyReads F.files F.read_faults F.write_faults folder.old folder.new (IsReadFault result) }
+    ensures reads { OnlyReads F.Folder folder.old folder.new (IsReadFault result) }
 {
     define_all(alloc, defs, &mut reading.macros)?;
     read_names(alloc, folder, setting, names, reading)
@@ -306,6 +306,7 @@ pub fn preprocess<F: Folder>(
     ensures unchanged { F.files folder.new ≡ F.files folder.old }
     ensures counted { F.read_faults folder.old ≤ F.read_faults folder.new }
     ensures other_count { F.write_faults folder.new ≡ F.write_faults folder.old }
+    ensures unwritten { F.writes folder.new ≡ F.writes folder.old }
     ensures cause { IsReadFault result → Rose (F.read_faults folder.old) (F.read_faults folder.new) }
 {
     one_program();

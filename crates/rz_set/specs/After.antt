@@ -1,10 +1,10 @@
 -- What the calls of a set leave of its list of resources, or why they are refused. (MPW Rez.)
-use Rattle.std.specs.Prelude.{◌≡◌, ◌<◌, ◌==◌, Bool, not, if◌then◌else◌, List, [], ◌∷◌, bit_and, filter, length, map, Option, Some, None, Ok, Err}
+use Rattle.std.specs.Prelude.{◌≡◌, ◌<◌, Bool, not, if◌then◌else◌, List, [], ◌∷◌, filter, length, map, Option, Some, None, Ok, Err}
 use Rattle.std.specs.List.{flat_map}
 use Rattle.std.specs.Option.{unwrap_or}
 use Rattle.std.specs.declared.result.Result.{Result}
 use Rattle.rz_core.specs.Lists.{or_else, unless_fault}
-use Rattle.rz_core.specs.Resources.{put, put_all}
+use Rattle.rz_core.specs.Resources.{is_protected, put, put_all}
 use Rattle.rz_core.specs.declared.resource.OsType.{OsType}
 use Rattle.rz_core.specs.declared.resource.Resource.{Resource}
 use Rattle.rz_core.specs.declared.stop.Stop.{Stop}
@@ -24,10 +24,6 @@ Leaves old answer (Err (Refused fault)) new = (answer ≡ Err fault) × (new ≡
 Leaves old answer (Err NoMemory) new = new ≡ old
 
 -- Protected resources.
-
--- the bit 08 of its attributes is set
-abbrev pub is_protected : Resource → Bool
-is_protected r = not (bit_and r.attr 8 == 0)
 
 -- the first of these that is protected
 abbrev pub first_protected : List Resource → Option SetFault

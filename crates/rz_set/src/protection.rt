@@ -2,27 +2,17 @@
 
 ghost use Rattle.std.specs.Prelude.{◌≡◌};
 ghost use Rattle.std.specs.Option.{option_copied};
-ghost use Rattle.rz_set.specs.After.{as_list, forbidden, is_protected};
+ghost use Rattle.rz_set.specs.After.{as_list, forbidden};
 
 use crate::pick::SetFault;
 use rz_core::Resource;
-
-/// The attribute bit of a protected resource.
-const PROTECTED: u8 = 0x08;
-
-/// Whether a resource is protected.
-pub fn is_protected(resource: &Resource) -> bool
-    ensures { result ≡ is_protected resource.now }
-{
-    resource.attr.byte() & PROTECTED != 0
-}
 
 /// The fault of a resource that is protected and may not be touched, if it is there.
 pub fn forbidden(held: Option<&Resource>, over: bool) -> Option<SetFault>
     ensures { result ≡ forbidden over (as_list (option_copied held.entry)) }
 {
     match held {
-        Some(resource) if !over && is_protected(resource) => {
+        Some(resource) if !over && resource.is_protected() => {
             Some(SetFault::Protected(resource.kind, resource.id))
         }
         _ => None,

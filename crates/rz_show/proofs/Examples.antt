@@ -13,7 +13,8 @@ use Rattle.rz_types_fields.specs.declared.field.Symbol.{Symbol}
 use Rattle.rz_types.specs.Field.{PlainNumber}
 use Rattle.rz_core.specs.declared.facts.Facts.{Facts}
 use Rattle.rz_core.specs.declared.moment.Moment.{Moment}
-use Rattle.rz_show.specs.Head.{head_end, head_front, head_lines}
+use Rattle.rz_show.specs.Head.{head_end, head_lines}
+use Rattle.rz_show_lines.specs.Head.{head_front}
 use Rattle.rz_show.specs.Number.{by_value, number_shown}
 use Rattle.rz_show_lines.specs.Print.{block, by_name, in_decimal, in_group, in_hex, in_literal, in_text, list_lines, named_block, no_prints, pieces, print, single}
 use Rattle.rz_show.specs.Shown.{text_print}

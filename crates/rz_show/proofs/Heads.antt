@@ -10,7 +10,8 @@ use Rattle.rz_types_fields.specs.declared.field.Field.{Field}
 use Rattle.rz_types_fields.specs.declared.tree.Tree.{Tree}
 use Rattle.rz_types.specs.Field.{plain_body, PlainBody}
 use Rattle.rz_types.specs.Shape.{are_shaped, body_depth, deepest_body, is_well_shaped}
-use Rattle.rz_show.specs.Head.{head_end, head_front, head_lines}
+use Rattle.rz_show.specs.Head.{head_end, head_lines}
+use Rattle.rz_show_lines.specs.Head.{head_front}
 use Rattle.rz_show.specs.declared.items.Items.{Items}
 use Rattle.rz_show.specs.declared.lines.Part.{Part}
 use Rattle.rz_show.specs.declared.lines.Part.TheVariants as parts

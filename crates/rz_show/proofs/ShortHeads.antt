@@ -11,7 +11,8 @@ use Rattle.rz_lex.specs.declared.sign.Sign.TheVariants as signs
 use Rattle.rz_words.specs.Attribute.{bit_of, setting_word}
 use Rattle.rz_words.specs.declared.attribute.Attribute.{Attribute}
 use Rattle.rz_words.specs.declared.attribute.Attribute.TheVariants.{Changed, Locked, Preload, Protected, Purgeable, SystemHeap}
-use Rattle.rz_show.specs.Head.{attr_written, behind_comma, head_end, head_front, head_lines, name_lines, word_written}
+use Rattle.rz_show.specs.Head.{head_end, head_lines, name_lines}
+use Rattle.rz_show_lines.specs.Head.{attr_written, behind_comma, head_front, word_written}
 use Rattle.rz_show_lines.specs.Cut.{IsShort}
 use Rattle.rz_show_lines.specs.Pieces.{in_pieces, text_pieces}
 use Rattle.rz_show_lines.specs.Print.{signed_written}

@@ -14,7 +14,8 @@ use Rattle.rz_show.specs.declared.open_list.Item.{Item}
 use Rattle.rz_show.specs.declared.open_list.OpenList.{OpenList}
 use Rattle.rz_show_lines.specs.declared.text.Text.{Text}
 use Rattle.rz_show_lines.specs.Cut.{cut, IsShort}
-use Rattle.rz_show.specs.Head.{behind_comma, head_end, head_lines, name_lines}
+use Rattle.rz_show.specs.Head.{head_end, head_lines, name_lines}
+use Rattle.rz_show_lines.specs.Head.{behind_comma}
 use Rattle.rz_show_lines.specs.Print.{block, comma, list_lines, margin, named_block, print, single, text_lines, Print, Prints}
 use Rattle.rz_show.specs.Printable.{HasName, HasNames, HasWidth, HasWidths}
 use Rattle.rz_show.specs.Shown.{field_print, row_prints, rows_prints, text_print}

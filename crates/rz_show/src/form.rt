@@ -4,15 +4,15 @@
 ghost use Rattle.std.specs.Prelude.{◌≡◌, [], ◌∷◌, ◌++◌, option_map};
 ghost use Rattle.rz_lex.specs.declared.sign.Sign.TheVariants.{CloseBrace, Semicolon};
 ghost use Rattle.rz_show_lines.specs.Cut.{cut};
-ghost use Rattle.rz_show.specs.Head.{head_front};
+ghost use Rattle.rz_show.specs.Head.{head_end};
+ghost use Rattle.rz_show_lines.specs.Head.{head_front};
 ghost use Rattle.rz_show.specs.Lines.{comma_if, end_if, named, opening};
 ghost use Rattle.rz_show_lines.specs.Print.{margin, piece_written, single_written};
 ghost use Rattle.rz_show_lines.specs.Single.{single_of};
 ghost use Rattle.rz_show_lines.specs.Written.{a_sign, as_line, line_text};
 
-use crate::head::{head_end, head_front};
-use rz_core::Facts;
-use rz_show_lines::{Line, PIECE, Single};
+use rz_core::{Attr, Facts};
+use rz_show_lines::{Line, PIECE, Single, attributes, head_front};
 
 /// A line after its margin.
 fn at(depth: u8, line: &mut Line)
@@ -93,12 +93,12 @@ pub fn head_line(word: &[u8], facts: &Facts, line: &mut Line)
     ensures { line.new ≡ cut (as_line (head_front word.now facts.now.kind.code facts.now.id ++ named facts.now.name facts.now.attr)) }
 {
     front(word, facts, line);
-    head_name(facts.name.as_slice(), facts.attr.byte(), line);
+    head_name(facts.name.as_slice(), facts.attr, line);
     line.push(b'\n');
 }
 
 /// A piece of a name that stands on lines of its own, and the end of the head after the last.
-pub fn name_line(piece: &[u8], hex: bool, last: bool, attr: u8, line: &mut Line)
+pub fn name_line(piece: &[u8], hex: bool, last: bool, attr: Attr, line: &mut Line)
     ensures { line.new ≡ cut (as_line (margin 1 ++ piece_written hex piece.now ∷ end_if last attr)) }
 {
     at(1, line);
@@ -108,7 +108,7 @@ pub fn name_line(piece: &[u8], hex: bool, last: bool, attr: u8, line: &mut Line)
 }
 
 /// Writes a name of at most 64 bytes, where there is one, and the end of the head, or the comma before a longer name.
-fn head_name(name: &[u8], attr: u8, line: &mut Line)
+fn head_name(name: &[u8], attr: Attr, line: &mut Line)
     ensures { line.new ≡ cut (line.old ++ line_text (named name.now attr)) }
 {
     if name.is_empty() {
@@ -122,8 +122,17 @@ fn head_name(name: &[u8], attr: u8, line: &mut Line)
     }
 }
 
+/// Writes the attributes, and after a parenthesis the brace that the items stand in.
+#[tactic(auto, using(crate::proofs::Forms::forms), unfolding(crate::specs::Head::head_end))]
+fn head_end(attr: Attr, line: &mut Line)
+    ensures { line.new ≡ cut (line.old ++ line_text (head_end attr)) }
+{
+    attributes(attr, line);
+    line.append(b") {");
+}
+
 /// Writes the end of a head, where it stands there.
-fn end_if(last: bool, attr: u8, line: &mut Line)
+fn end_if(last: bool, attr: Attr, line: &mut Line)
     ensures { line.new ≡ cut (line.old ++ line_text (end_if last attr)) }
 {
     if last {

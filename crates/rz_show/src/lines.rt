@@ -160,7 +160,7 @@ impl<'a> Rest<'a> {
             front.piece,
             text.hex,
             front.rest.is_none(),
-            self.facts.attr.byte(),
+            self.facts.attr,
             line,
         );
     }

@@ -18,7 +18,8 @@ use Rattle.rz_stmt_data.specs.Head.{Attribute}
 use Rattle.rz_words.specs.Attribute.{bit_of, setting_word}
 use Rattle.rz_words.specs.declared.attribute.Attribute as words
 use Rattle.rz_words.specs.declared.attribute.Attribute.TheVariants.{Changed, Locked, Preload, Protected, Purgeable, SystemHeap}
-use Rattle.rz_show.specs.Head.{attr_written, behind_comma, head_end, head_front, head_lines, word_written}
+use Rattle.rz_show.specs.Head.{head_end, head_lines}
+use Rattle.rz_show_lines.specs.Head.{attr_written, behind_comma, head_front, word_written}
 use Rattle.rz_show_lines.specs.Pieces.{text_pieces}
 use Rattle.rz_show_lines.specs.Print.{signed_written}
 use Rattle.rz_show_lines.specs.Written.{a_blank, a_sign, a_text, line_shapes, lines_shapes, IsPut, Written}

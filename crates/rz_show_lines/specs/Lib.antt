@@ -4,3 +4,4 @@ pub mod Pieces
 pub mod Print
 pub mod Single
 pub mod Texts
+pub mod Head

@@ -10,7 +10,7 @@ ghost use Rattle.rz_stmt_data.specs.Steps.{rest_of, IsNamedRest};
 ghost use Rattle.rz_stmt_data.specs.declared.head.Subject.TheVariants.{New};
 
 use crate::texts::{begins_text, text_at};
-use rz_core::{Listing, NoMemory, Word};
+use rz_core::{Attr, Listing, NoMemory, Word};
 use rz_expr::{AttributeWord, Expr, attribute_word, one_expression, read_whole};
 use rz_lex::{Shape, Token};
 use rz_types_fields::{TextPlace, Texts, may_say};
@@ -29,9 +29,9 @@ pub enum Subject {
 #[derive(Drop)]
 pub enum AttrPart {
     /// A word that sets this bit.
-    Set(u8),
+    Set(Attr),
     /// A word that clears this bit.
-    Clear(u8),
+    Clear(Attr),
     /// A number that sets all eight bits.
     Value(Expr),
 }

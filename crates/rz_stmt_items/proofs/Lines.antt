@@ -8,7 +8,7 @@ use Rattle.rz_core.specs.declared.fault.Mark.{Mark}
 use Rattle.rz_stmt_items.specs.Item.{PlainItem}
 use Rattle.rz_stmt_items.specs.Fits.{NextFits}
 use Rattle.rz_stmt_items.specs.Matched.{next_matched, with_value, Line}
-use Rattle.rz_stmt_items.specs.Unfit.{too_few, NextUnfit}
+use Rattle.rz_stmt_items.specs.Unfit.{too_few, Asked, Listed, NextUnfit}
 use Rattle.rz_stmt_items.proofs.Results.{ok_err, same_err, same_ok, then_err, then_ok}
 use Rattle.rz_types_fields.specs.declared.tree.Tree.{Tree}
 
@@ -50,6 +50,12 @@ pub record RowSound (row : RowMatched) (IsRow : List PlainItem → List Tree →
 
 module _ (one : OneMatched) (IsOne : PlainItem → Tree → Type 0) (IsFault : ℕ → PlainItem → Fault → Type 0)
     (others : RowMatched) (IsOthers : List PlainItem → List Tree → Type 0) (IsOtherFault : ℕ → List PlainItem → Fault → Type 0) (place : Mark) (all : List PlainItem) where
+  abbrev asked : Bool → Asked
+  asked takes = record { takes = takes; IsOne = IsOne; IsFaultOf = IsFault }
+
+  abbrev list : Listed
+  list = record { place = place; all = all }
+
   abbrev behind_one : ℕ → List PlainItem → Tree → Result Line Fault
   behind_one before rest value = others (before + 1) rest >>= λ line. Ok (with_value value line)
 
@@ -73,7 +79,7 @@ module _ (one : OneMatched) (IsOne : PlainItem → Tree → Type 0) (IsFault : �
         })
 
     next_blamed : (takes : Bool) (before : ℕ) (items : List PlainItem) (fault : Fault) → next_matched takes one others place all before items ≡ Err fault
-        → NextUnfit takes IsOne IsFault IsOtherFault place all before items fault
+        → NextUnfit (asked takes) IsOtherFault list before items fault
     next_blamed false before items fault e = agree.blamed before items fault e
     next_blamed true before [] fault e = sym (same_err {X = Line} (too_few place all) fault e)
     next_blamed true before (item ∷ rest) fault e =
@@ -86,7 +92,7 @@ module _ (one : OneMatched) (IsOne : PlainItem → Tree → Type 0) (IsFault : �
               ]
         ]
 
-    pub next_sounds : (takes : Bool) → RowSound (next_matched takes one others place all) (NextFits takes IsOne IsOthers) (NextUnfit takes IsOne IsFault IsOtherFault place all)
+    pub next_sounds : (takes : Bool) → RowSound (next_matched takes one others place all) (NextFits takes IsOne IsOthers) (NextUnfit (asked takes) IsOtherFault list)
     next_sounds takes = record { sound = next_sound takes; blamed = next_blamed takes }
 
   module _ (agrees : OneGiven one IsOne IsFault) (agree : RowGiven others IsOthers IsOtherFault) where
@@ -101,7 +107,7 @@ module _ (one : OneMatched) (IsOne : PlainItem → Tree → Type 0) (IsFault : �
         ∙ (λ i. Ok (line_at (value ∷ more) (there i) rest))
         ∙ (λ i. Ok (line_at (sym has i) (before + length (sym are i)) rest))
 
-    next_blames : (takes : Bool) (before : ℕ) (items : List PlainItem) (fault : Fault) → NextUnfit takes IsOne IsFault IsOtherFault place all before items fault
+    next_blames : (takes : Bool) (before : ℕ) (items : List PlainItem) (fault : Fault) → NextUnfit (asked takes) IsOtherFault list before items fault
         → next_matched takes one others place all before items ≡ Err fault
     next_blames false before items fault is = agree.blames before items fault is
     next_blames true before [] fault is = λ i. Err (sym is i)
@@ -111,7 +117,7 @@ module _ (one : OneMatched) (IsOne : PlainItem → Tree → Type 0) (IsFault : �
         ap (λ (r : Result Tree Fault). r >>= behind_one before rest) (agrees.complete (before + 1) item value is)
         ∙ ap (λ (r : Result Line Fault). r >>= λ line. Ok (with_value value line)) (agree.blames (before + 1) rest fault broken)
 
-    pub next_given : (takes : Bool) → RowGiven (next_matched takes one others place all) (NextFits takes IsOne IsOthers) (NextUnfit takes IsOne IsFault IsOtherFault place all)
+    pub next_given : (takes : Bool) → RowGiven (next_matched takes one others place all) (NextFits takes IsOne IsOthers) (NextUnfit (asked takes) IsOtherFault list)
     next_given takes = record { complete = next_complete takes; blames = next_blames takes }
 
 -- No field more.

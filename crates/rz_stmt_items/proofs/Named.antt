@@ -192,7 +192,8 @@ module _ (files : ℕ) where
         → (place : Mark) → place.file < files → (all : List PlainItem)
         → ((before : ℕ) (items : List PlainItem) (fault : Fault) → AllByRecursion (IsItemWithin files) items → RowUnfit known others place all before items fault → IsNameable files fault)
         → (before : ℕ) (items : List PlainItem) (fault : Fault) → AllByRecursion (IsItemWithin files) items
-        → NextUnfit takes (IsItemOf known field) (IsItemFault known field) (RowUnfit known others place all) place all before items fault → IsNameable files fault
+        → NextUnfit (record { takes = takes; IsOne = IsItemOf known field; IsFaultOf = IsItemFault known field }) (RowUnfit known others place all)
+        (record { place = place; all = all }) before items fault → IsNameable files fault
     next_named true field others one place there all so before [] fault within is = kept_named 208 place _ fault refl there is
     next_named true field others one place there all so before (item ∷ rest) fault within (inl broken) = one (before + 1) item fault within.0 broken
     next_named true field others one place there all so before (item ∷ rest) fault within (inr (value, is, broken)) = so (before + 1) rest fault within.1 broken

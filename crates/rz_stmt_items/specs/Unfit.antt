@@ -125,13 +125,26 @@ IsGroupFault known position rect item fault = fault ≡ wrong_kind position (mar
 
 -- Rows.
 
--- the next item has this fault, or it fits and those after it have the fault; or there is none for the field
-abbrev pub NextUnfit : Bool → (PlainItem → Tree → Type 0) → (ℕ → PlainItem → Fault → Type 0) → (ℕ → List PlainItem → Fault → Type 0) → Mark → List PlainItem
-    → ℕ → List PlainItem → Fault → Type 0
-NextUnfit true IsOne IsFaultOf Others place all before [] fault = fault ≡ too_few place all
-NextUnfit true IsOne IsFaultOf Others place all before (item ∷ rest) fault =
-    IsFaultOf (before + 1) item fault ⊎ ((value : Tree) × IsOne item value × Others (before + 1) rest fault)
-NextUnfit false IsOne IsFaultOf Others place all before items fault = Others before items fault
+-- what a field asks for: whether it takes an item, which value an item gives it, and which fault an item has for it
+pub record Asked : Type 1 where
+  pub takes : Bool
+  pub IsOne : PlainItem → Tree → Type 0
+  pub IsFaultOf : (position : ℕ) → PlainItem → Fault → Type 0
+
+-- all items of a list, and where it stands
+pub record Listed : Type 0 where
+  pub place : Mark
+  pub all : List PlainItem
+
+-- the next item has a fault for a field that takes it, or it fits and those after it have the fault; or there is none for the field
+abbrev pub TakenUnfit : Asked → (ℕ → List PlainItem → Fault → Type 0) → Listed → (before : ℕ) → List PlainItem → Fault → Type 0
+TakenUnfit field Others list before [] fault = fault ≡ too_few list.place list.all
+TakenUnfit field Others list before (item ∷ rest) fault =
+    field.IsFaultOf (before + 1) item fault ⊎ ((value : Tree) × field.IsOne item value × Others (before + 1) rest fault)
+
+-- the same of any field: where it takes none, the items have the fault for the others
+abbrev pub NextUnfit : Asked → (ℕ → List PlainItem → Fault → Type 0) → Listed → (before : ℕ) → List PlainItem → Fault → Type 0
+NextUnfit field Others list before items fault = By field.takes (TakenUnfit field Others list before items fault) (Others before items fault)
 
 -- another number of rows than is stated
 abbrev pub IsOtherCount : Mark → Option ℤ → ℕ → Fault → Type 0
@@ -191,7 +204,8 @@ abbrev mutual
   pub RowUnfit : Facts → PlainBody → Mark → List PlainItem → (before : ℕ) → List PlainItem → Fault → Type 0
   RowUnfit known fields.no_fields place all before items fault = ⊥
   RowUnfit known (fields.field_and field others) place all before items fault =
-      NextUnfit (takes_value field) (IsItemOf known field) (IsItemFault known field) (RowUnfit known others place all) place all before items fault
+      NextUnfit (record { takes = takes_value field; IsOne = IsItemOf known field; IsFaultOf = IsItemFault known field }) (RowUnfit known others place all)
+      (record { place = place; all = all }) before items fault
 
 -- the first fault of the items of a statement at this place
 abbrev pub Unfit : Facts → Mark → PlainBody → List PlainItem → Fault → Type 0

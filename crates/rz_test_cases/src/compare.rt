@@ -41,9 +41,9 @@ fn add_differences<'a>(
     let added = add_files(case, ran, &names, found);
     drop(names);
     added?;
-    let out = Found::Bytes(ran.world.out.sink.bytes());
+    let out = Found::Bytes(ran.world.out.bytes());
     add_difference(found, What::Out, stream_of(&case.out), out)?;
-    let err = Found::Bytes(ran.world.err.sink.bytes());
+    let err = Found::Bytes(ran.world.err.bytes());
     add_difference(found, What::Err, stream_of(&case.err), err)?;
     add_calls(found, ran)
 }

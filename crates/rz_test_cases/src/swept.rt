@@ -125,8 +125,8 @@ fn add_unmet<'a>(
     let added = add_files(case, ran, demand.files, &names, found);
     drop(names);
     added?;
-    add_stream(found, What::Out, &demand.out, ran.world.out.sink.bytes())?;
-    add_stream(found, What::Err, &demand.err, ran.world.err.sink.bytes())?;
+    add_stream(found, What::Out, &demand.out, ran.world.out.bytes())?;
+    add_stream(found, What::Err, &demand.err, ran.world.err.bytes())?;
     add_calls(found, ran)
 }
 

@@ -1,8 +1,10 @@
-//! A folder and a stream in memory that count their calls; the folder also keeps the names of the files that are written.
+//! A folder and a stream in memory that count their calls; the folder also keeps the names of the files that are written,
+//! and the stream holds back what is put until a flush.
 
 ghost use Rattle.std.specs.Prelude.{Some};
+ghost use Rattle.rz_folder.specs.HeldSink.{stream_of};
 
-use rz_folder::{Folder, MemFolder, MemSink, Put, Read, Sink, Written};
+use rz_folder::{Folder, HeldSink, MemFolder, Put, Read, Sink, Written};
 use std::alloc::Global;
 
 /// A folder in memory whose calls are counted, and of which it is known which files were written.
@@ -36,6 +38,8 @@ impl Folder for WatchedFolder {
 
     ghost write_faults = { λ watched. watched.folder.write_faults };
 
+    ghost writes = { λ watched. watched.folder.writes };
+
     fn read(&mut self, alloc: Global, name: &str) -> Read {
         self.calls = self.calls.saturating_add(1);
         self.folder.read(alloc, name)
@@ -67,25 +71,34 @@ fn is_kept(names: &mut Vec<String>, name: &str) -> bool {
     }
 }
 
-/// A stream in memory whose pieces are counted.
+/// A stream in memory whose pieces are counted, and which holds them back until a flush.
 #[derive(Drop)]
 pub struct WatchedSink {
-    pub sink: MemSink,
+    pub sink: HeldSink,
     /// The number of pieces so far.
     pub calls: u64,
 }
 
 impl WatchedSink {
     /// The stream, before its first piece.
-    pub(crate) fn over(sink: MemSink) -> WatchedSink {
+    pub(crate) fn over(sink: HeldSink) -> WatchedSink {
         WatchedSink { sink, calls: 0 }
+    }
+
+    /// The bytes that are out, so that a text that wasn't flushed is missed; after a call that failed all that were put.
+    pub(crate) fn bytes(&self) -> &[u8] {
+        if self.sink.faults() == 0 {
+            self.sink.out()
+        } else {
+            self.sink.bytes()
+        }
     }
 }
 
 impl Sink for WatchedSink {
-    ghost written = { λ watched. Some watched.sink.written };
+    ghost stream = { λ watched. Some (stream_of watched.sink) };
 
-    ghost faults = { λ watched. watched.sink.faults };
+    ghost faults = { λ watched. watched.sink.sink.faults };
 
     fn put(&mut self, bytes: &[u8]) -> Put {
         self.calls = self.calls.saturating_add(1);

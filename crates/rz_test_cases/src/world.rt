@@ -4,7 +4,7 @@ use crate::case::{Case, Failures, FolderRoom, Piece, Target};
 use crate::trouble::Trouble;
 use crate::watched::{WatchedFolder, WatchedSink};
 use rz_core::Moment;
-use rz_folder::{MemFolder, MemSink};
+use rz_folder::{HeldSink, MemFolder, MemSink};
 use std::alloc::Global;
 
 /// The most bytes of a file.
@@ -107,7 +107,7 @@ fn sink_of(alloc: Global, room: u32, failing: Option<Piece>) -> Result<WatchedSi
     if let Some(piece) = failing {
         sink.fail_at(piece.call, piece.taken);
     }
-    Ok(WatchedSink::over(sink))
+    Ok(WatchedSink::over(HeldSink::over(sink)))
 }
 
 /// That the case can't be run as it is stated.

@@ -1,12 +1,11 @@
 //! What the expressions of the tests see.
 
-ghost use Rattle.std.specs.Prelude.{◌≡◌, ◌+◌, ◌^◌, ◌<◌, ◌≤◌, pos, ◌+ℤ◌, option_map};
-ghost use Rattle.std.specs.Str.{str_eq_ignore_ascii_case};
+ghost use Rattle.std.specs.Prelude.{◌≡◌, ◌+◌, ◌^◌, ◌<◌, ◌≤◌, pos, option_map};
+ghost use Rattle.std.specs.Str.{str_eq_ignore_ascii_case, str_to_ascii_lowercase};
 ghost use Rattle.std.proofs.Common.{rules};
-ghost use Rattle.rz_test_expr.specs.Fixed.{bits_of, fixed_bits, fixed_sight, natural_bits, place_in};
+ghost use Rattle.rz_test_expr.specs.Fixed.{bits_of, fixed_bits, fixed_sight, natural_bits, number_of_name, place_in, place_of_name, rows_of_label, rows_of_name};
 
-use rz_core::Word;
-use rz_expr::{Env, FactWord};
+use rz_expr::{Env, FactWord, Key};
 
 /// The bits that are there, the first of them highest: the bytes A5, 7F, 80 and 3C.
 const BITS: u64 = 0xA57F_803C;
@@ -20,75 +19,24 @@ impl Env for Fixed {
 
     ghost belongs = { λ _ finished. finished ≡ fixed_sight };
 
-    fn place(&self, name: &Word) -> Option<i32> {
-        let name = name.bytes.as_slice();
-        if is(b"start", name) {
-            Some(0)
-        } else if is(b"here", name) {
-            Some(8)
-        } else if is(b"far", name) {
-            Some(i32::MAX)
-        } else if is(b"low", name) {
-            Some(i32::MIN)
-        } else if is(b"true", name) {
-            Some(1)
-        } else if is(b"false", name) {
-            Some(0)
-        } else if is(b"locked", name) {
-            Some(16)
-        } else {
-            None
+    fn give(&self, key: Key<'_>) -> Option<i128> {
+        match key {
+            Key::Place(name) => place_of_name(name.bytes.as_slice()),
+            Key::Count(name) => rows_of_name(name.bytes.as_slice()),
+            Key::Rows(name) => rows_of_label(name.bytes.as_slice()),
+            Key::PlaceIn(name, row) => {
+                if is(b"cell", name.bytes.as_slice()) {
+                    place_in(row)
+                } else {
+                    None
+                }
+            }
+            Key::Row(name) => number_of_name(name.bytes.as_slice()),
         }
     }
 
-    fn count(&self, name: &Word) -> Option<i32> {
-        let name = name.bytes.as_slice();
-        if is(b"rows", name) {
-            Some(5)
-        } else if is(b"true", name) {
-            Some(7)
-        } else {
-            None
-        }
-    }
-
-    fn rows(&self, label: &Word) -> Option<u64> {
-        let label = label.bytes.as_slice();
-        if is(b"cell", label) {
-            Some(3)
-        } else if is(b"late", label) {
-            Some(2)
-        } else if is(b"empty", label) {
-            Some(0)
-        } else {
-            None
-        }
-    }
-
-    fn place_at(&self, label: &Word, row: i32) -> Option<i32> {
-        if is(b"cell", label.bytes.as_slice()) {
-            place_in(row)
-        } else {
-            None
-        }
-    }
-
-    fn row(&self, array: &Word) -> Option<i32> {
-        let array = array.bytes.as_slice();
-        if is(b"rows", array) {
-            Some(2)
-        } else if is(b"true", array) {
-            Some(9)
-        } else {
-            None
-        }
-    }
-
-    fn bits(&self, name: &Word, start: i32, width: i32) -> Option<u32> {
-        match self.place(name) {
-            Some(place) => bits_at(first_bit(place, start), width),
-            None => None,
-        }
+    fn bits(&self, first: i64, width: i32) -> Option<u32> {
+        bits_at(first, width)
     }
 
     fn fact(&self, which: FactWord) -> i32 {
@@ -109,21 +57,78 @@ impl Env for Fixed {
     ghost law = { Prim.search rules };
 }
 
+/// The value of a name by itself.
+fn place_of_name(name: &[u8]) -> Option<i128>
+    ensures { result ≡ place_of_name (str_to_ascii_lowercase name.now) }
+{
+    if is(b"start", name) {
+        Some(0)
+    } else if is(b"here", name) {
+        Some(8)
+    } else if is(b"far", name) {
+        Some(i128::from(i32::MAX))
+    } else if is(b"low", name) {
+        Some(i128::from(i32::MIN))
+    } else if is(b"true", name) {
+        Some(1)
+    } else if is(b"false", name) {
+        Some(0)
+    } else if is(b"locked", name) {
+        Some(16)
+    } else {
+        None
+    }
+}
+
+/// The number of rows of an array.
+fn rows_of_name(name: &[u8]) -> Option<i128>
+    ensures { result ≡ rows_of_name (str_to_ascii_lowercase name.now) }
+{
+    if is(b"rows", name) {
+        Some(5)
+    } else if is(b"true", name) {
+        Some(7)
+    } else {
+        None
+    }
+}
+
+/// The number of the rows in which a label stands.
+fn rows_of_label(name: &[u8]) -> Option<i128>
+    ensures { result ≡ rows_of_label (str_to_ascii_lowercase name.now) }
+{
+    if is(b"cell", name) {
+        Some(3)
+    } else if is(b"late", name) {
+        Some(2)
+    } else if is(b"empty", name) {
+        Some(0)
+    } else {
+        None
+    }
+}
+
+/// The number of the row around of an array.
+fn number_of_name(name: &[u8]) -> Option<i128>
+    ensures { result ≡ number_of_name (str_to_ascii_lowercase name.now) }
+{
+    if is(b"rows", name) {
+        Some(2)
+    } else if is(b"true", name) {
+        Some(9)
+    } else {
+        None
+    }
+}
+
 /// The place of `cell` in the row of this number: rows have 16 bits, and it stands after the first 8.
-fn place_in(row: i32) -> Option<i32>
+fn place_in(row: i32) -> Option<i128>
     ensures { result ≡ place_in row }
 {
     if row < 1 || row > 3 {
         return None;
     }
-    Some(16 * row - 8)
-}
-
-/// The first bit, so far after a place.
-fn first_bit(place: i32, start: i32) -> i64
-    ensures { result ≡ place +ℤ start }
-{
-    i64::from(place) + i64::from(start)
+    Some(i128::from(16 * row - 8))
 }
 
 /// The number in so many bits from a bit on, where they are there.

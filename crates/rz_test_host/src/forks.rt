@@ -1,7 +1,7 @@
 //! The layout of a fork.
 
 use rz_core::{Attr, Bytes, OsType, Resource, Resources};
-use rz_fork::{ForkView, ResView, write_fork};
+use rz_fork::{ForkView, MapAttributes, ResView, write_fork};
 use rz_test_tables::Text;
 use std::alloc::Global;
 
@@ -36,7 +36,7 @@ fn fork_of_one(alloc: Global) -> Option<Bytes> {
         bytes: Bytes::new(alloc),
     };
     list.push(resource).ok()?;
-    write_fork(alloc, &list, 0x0080, b"rez").ok()
+    write_fork(alloc, &list, MapAttributes::READ_ONLY, b"rez").ok()
 }
 
 /// Whether names, attributes and reserved bytes are as they are to be written.
@@ -66,7 +66,7 @@ fn is_lent(view: &ForkView<'_>) -> bool {
         return false;
     }
     let mut walk = view.walk();
-    view.attributes() == 0x0080
+    view.attributes() == MapAttributes::READ_ONLY
         && view.reserved().len() == 240
         && view.reserved().starts_with(b"rez\x00")
         && is_one(&view.resource(0))

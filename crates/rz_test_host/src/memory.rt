@@ -38,7 +38,7 @@ shelf write a other => Failed
 shelf write b new => Failed
 shelf read a => new
 shelf read b => Missing
-shelf faults  => 0 18446744073709551615
+shelf faults  => 0 2
 ";
 
 /// A stream in memory takes a front of the put that is named, and counts no flush.
@@ -53,7 +53,15 @@ sink put 123 => Failed
 sink put 12 => Done
 sink bytes  => abcd12
 sink faults  => 2
-text ab cd => Done Done Done 18446744073709551615 abcd
+text ab cd => Done Done Done 0 abcd
+";
+
+/// A stream in memory that holds bytes back puts them out at a flush, which is a call that may be named, too.
+pub const HELD: &str = "
+held 0 ab ! cd => Done Done Done 0 ab abcd
+held 2 ab ! cd ! => Done Failed Done Done 1 abcd abcd
+held 3 ab ! cde ! => Done Done Failed Done 1 abc abc
+held 0 abcdefg ab => Failed Done 1  ab
 ";
 
 /// A fork of one resource.

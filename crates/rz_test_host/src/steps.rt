@@ -7,7 +7,8 @@ use crate::files::{show_file_call, show_rewrite};
 use crate::forks::show_fork;
 use crate::streams::{show_over, show_unread};
 use rz_folder::{
-    Folder, MemFolder, MemSink, Put, Read, RealFolder, RealSink, Shelf, Sink, TextSink, Written,
+    Folder, HeldSink, MemFolder, MemSink, Put, Read, RealFolder, RealSink, Shelf, Sink, TextSink,
+    Written,
 };
 use rz_test_tables::Text;
 use std::alloc::Global;
@@ -56,6 +57,7 @@ pub fn show_call(world: &mut World, text: &str, came: &mut Text) {
         "over" => show_over(rt, call, came),
         "unread" => show_unread(rt, call, came),
         "text" => show_text(rt.alloc(), call, came),
+        "held" => show_held(rt.alloc(), call, came),
         "fork" => show_fork(rt.alloc(), call, came),
         _ => came.fail(),
     }
@@ -107,6 +109,29 @@ fn show_text(alloc: Global, pieces: &str, came: &mut Text) {
     came.number(sink.faults());
     came.put(b" ");
     show_bytes(sink.into_bytes().as_slice(), came);
+}
+
+/// Shows what calls give on a stream in memory that holds bytes back and has room for six, of which the call of a
+/// number fails: `!` is a flush, and each other word a piece. After them stand the faults, the bytes that are out,
+/// and all bytes.
+fn show_held(alloc: Global, call: &str, came: &mut Text) {
+    let (failing, calls) = in_two(call);
+    let mut memory = MemSink::new(alloc);
+    show_done(memory.reserve(6), came);
+    memory.fail_at(u64::from(number_in(failing, came)), 1);
+    let mut sink = HeldSink::over(memory);
+    for call in calls.split(' ') {
+        match call {
+            "!" => show_flush(&mut sink, came),
+            piece => show_put(&mut sink, piece, came),
+        }
+        came.put(b" ");
+    }
+    came.number(sink.faults());
+    came.put(b" ");
+    show_bytes(sink.out(), came);
+    came.put(b" ");
+    show_bytes(sink.bytes(), came);
 }
 
 /// A number of a call.

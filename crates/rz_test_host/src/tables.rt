@@ -5,12 +5,13 @@ use crate::{memory, replaced, streams};
 use rz_test_tables::{CaseFault, Text, add_if_wrong, cases_of, expanded};
 
 /// All tables.
-fn tables() -> [&'static str; 14] {
+fn tables() -> [&'static str; 15] {
     [
         memory::ROOM,
         memory::NAMED,
         memory::SHELF,
         memory::PUTS,
+        memory::HELD,
         memory::FORKS,
         replaced::HOST,
         replaced::NOWHERE,

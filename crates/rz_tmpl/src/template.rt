@@ -28,7 +28,7 @@ pub fn template_of(alloc: Global, bytes: &[u8]) -> Result<Template, Stop<TmplFau
         Err(stop) => return Err(stop),
     };
     let readable = part.closing.closed;
-    Ok(Template::of(part.into_body(), readable))
+    Ok(Template::of(alloc, part.into_body(), readable)?)
 }
 
 /// The fields of the entries of a body. They are read from the last to the first, so that a count is met after its list.

@@ -1,15 +1,15 @@
 -- A template's bytes are cut in one way.
 use Rattle.std.proofs.Common.{◌≡◌, ◌⊎◌, inl, inr, ℕ, ◌+◌, Bool, true, false, List, [], ◌∷◌, ◌++◌, length, map, take, drop, Option, Some, None, Ok, refl, sym, ap, subst, ◌∙◌, append_assoc, arith, length-append}
-use Rattle.std.specs.Prelude.{◌&&◌, ◌==◌, nat_lt, if◌then◌else◌, option_and_then}
+use Rattle.std.specs.Prelude.{◌&&◌, nat_lt, if◌then◌else◌, option_and_then}
 use Rattle.std.specs.List.{flat_map, AllByRecursion}
 use Rattle.std.specs.Option.{is_none}
 use Rattle.std.specs.declared.result.Result.{Result}
 use Rattle.std.proofs.lemmas.Bool.Decides.{nat_tests}
 use Rattle.std.proofs.lemmas.List.{drop_at, take_at}
 use Rattle.rz_tmpl_entries.specs.Bodies.{behind}
-use Rattle.rz_tmpl_entries.specs.Cut.{broken, code_fault, entry_bytes, entry_fault, fault_behind, most_open, next_fault, whole, IsCut, IsLabelled, Labelled, Stands}
+use Rattle.rz_tmpl_entries.specs.Cut.{broken, code_fault, entry_bytes, entry_fault, fault_behind, most_open, next_fault, standing_at, whole, IsCut, IsLabelled, Labelled, Standing, Stands}
 use Rattle.rz_tmpl_entries.specs.Entry.{entry_of}
-use Rattle.rz_tmpl_entries.specs.Items.{at, entries_before, has_value, innermost, is_place_kept, none, waiting_outside, waits, Items, Place}
+use Rattle.rz_tmpl_entries.specs.Items.{at, entries_before, is_place_kept, none, waits, Items, Place}
 use Rattle.rz_tmpl_entries.specs.declared.entry.Entry.{Entry}
 use Rattle.rz_tmpl_entries.specs.declared.fault.TmplFault.{TmplFault}
 use Rattle.rz_tmpl_entries.proofs.Faults.{kept_behind}
@@ -36,14 +36,13 @@ same_first a b x y of_a of_b is =
     )
 
 -- the fault of bytes with a whole entry in front of them is that of the entry
-pub first_fault : (lists : ℕ) (waiting valued : Bool) (a : Labelled) (more : List ℕ) (entry : Entry) → IsLabelled a → entry_of a.code ≡ Some entry
-    → next_fault lists waiting valued (entry_bytes a ++ more) ≡ entry_fault (lists == most_open) (lists == 0) waiting valued entry
-first_fault lists waiting valued a more entry is known =
+pub first_fault : (s : Standing) (a : Labelled) (more : List ℕ) (entry : Entry) → IsLabelled a → entry_of a.code ≡ Some entry → next_fault s (entry_bytes a ++ more) ≡ entry_fault s entry
+first_fault s a more entry is known =
     let fits : nat_lt (length ((a.label ++ a.code) ++ more)) (length a.label + 4) ≡ false =
     let size = length-append (a.label ++ a.code) more in let front = length-append a.label a.code in let four = is.code in grind (arith, nat_tests) in
-    ap (λ (t : Bool). if t then Some 451 else code_fault (lists == most_open) (lists == 0) waiting valued (entry_of (take 4 (drop (length a.label) ((a.label ++ a.code) ++ more))))) fits
-    ∙ ap (λ (code : List ℕ). code_fault (lists == most_open) (lists == 0) waiting valued (entry_of code)) (parted a.label a.code more (length a.label) refl is.code).0
-    ∙ ap (code_fault (lists == most_open) (lists == 0) waiting valued) known
+    ap (λ (t : Bool). if t then Some 451 else code_fault s (entry_of (take 4 (drop (length a.label) ((a.label ++ a.code) ++ more))))) fits
+    ∙ ap (λ (code : List ℕ). code_fault s (entry_of code)) (parted a.label a.code more (length a.label) refl is.code).0
+    ∙ ap (code_fault s) known
 
 -- Runs: from a place and bytes to a later place and fewer bytes.
 
@@ -117,7 +116,7 @@ goes start bytes first front (entry ∷ entries) place rest run =
       behind = next.1;
       more = more;
       cut = cut;
-      sound = ap (fault_behind start) cut ∙ first_fault (length (waiting_outside start)) (waits false (innermost start)) (has_value (innermost start)) first more entry run.whole.0 heads
+      sound = ap (fault_behind start) cut ∙ first_fault (standing_at start) first more entry run.whole.0 heads
           ∙ sym (fault_is most_open true start entry (front_true _ _ both)) ∙ none_is _ (back_true _ _ both);
       others = entries;
       run = record { whole = run.whole.1; cut = refl; known = tails; goes = next.2; kept = run.kept };

@@ -4,7 +4,7 @@ use Rattle.std.specs.Prelude.{◌==◌, nat_lt, if◌then◌else◌}
 use Rattle.std.specs.declared.result.Result.{Result}
 use Rattle.std.proofs.lemmas.Bool.Decides.{nat_tests}
 use Rattle.rz_tmpl_entries.specs.Bodies.{IsNext}
-use Rattle.rz_tmpl_entries.specs.Cut.{broken, code_fault, entry_fault, fault_behind, most_open, whole, IsCut, Stands}
+use Rattle.rz_tmpl_entries.specs.Cut.{broken, code_fault, entry_fault, fault_behind, most_open, standing_at, whole, IsCut, Standing, Stands}
 use Rattle.rz_tmpl_entries.specs.Entry.{entry_of}
 use Rattle.rz_tmpl_entries.specs.Items.{at, has_value, innermost, none, waiting_outside, waits, Items, Place}
 use Rattle.rz_tmpl_entries.specs.declared.entry.Entry.{Entry}
@@ -15,11 +15,11 @@ use Rattle.rz_tmpl_entries.proofs.Shown.{fault_is, place_behind}
 abbrev Cut : List ℕ → Type 0
 Cut bytes = (cut : Result Items TmplFault) × IsCut bytes cut
 
-sound_code : (torn full outermost waiting valued : Bool) (found : Option Entry) → (if torn then Some 451 else code_fault full outermost waiting valued found) ≡ None
-    → (torn ≡ false) × ((entry : Entry) × (found ≡ Some entry) × (entry_fault full outermost waiting valued entry ≡ None))
-sound_code true full outermost waiting valued found is = absurd cc
-sound_code false full outermost waiting valued None is = absurd cc
-sound_code false full outermost waiting valued (Some entry) is = (refl, (entry, refl, is))
+sound_code : (torn : Bool) (s : Standing) (found : Option Entry) → (if torn then Some 451 else code_fault s found) ≡ None
+    → (torn ≡ false) × ((entry : Entry) × (found ≡ Some entry) × (entry_fault s entry ≡ None))
+sound_code true s found is = absurd cc
+sound_code false s None is = absurd cc
+sound_code false s (Some entry) is = (refl, (entry, refl, is))
 
 -- where there is no fault, the place after the next entry
 record Next (bytes : List ℕ) (most : ℕ) : Type 0 where
@@ -30,13 +30,12 @@ record Next (bytes : List ℕ) (most : ℕ) : Type 0 where
 
 next : (bytes : List ℕ) (place : Place) (label : ℕ) (more : List ℕ) → Stands bytes place (label ∷ more) → fault_behind place (label ∷ more) ≡ None → Next bytes (length more)
 next bytes place label more stands sound =
-    let outside = length (waiting_outside place) in
-    let found = sound_code (nat_lt (length more) (label + 4)) (outside == most_open) (outside == 0) (waits false (innermost place)) (has_value (innermost place)) (entry_of (take 4 (drop label more))) sound in
+    let found = sound_code (nat_lt (length more) (label + 4)) (standing_at place) (entry_of (take 4 (drop label more))) sound in
     let entry = found.1.0 in
     let fits : label + 4 ≤ length more = let torn = found.0 in grind (arith, nat_tests) in
     let is : IsNext (label ∷ more) (record { entry = entry; length = label + 5 }) = record { label = label; more = more; whole = refl; fits = fits; known = found.1.1; length = refl } in
     let one = whole_next (label ∷ more) (record { entry = entry; length = label + 5 }) is in
-    let there = place_behind (outside == most_open) (waits false (innermost place)) (has_value (innermost place)) place entry found.1.2 in
+    let there = place_behind (length (waiting_outside place) == most_open) (waits false (innermost place)) (has_value (innermost place)) place entry found.1.2 in
     record {
       place = there.0;
       rest = drop (label + 5) (label ∷ more);

@@ -2,12 +2,15 @@
 use Rattle.std.proofs.Common.{◌≡◌, ℕ, zero, suc, Bool, true, false, Option, Some, None, refl, sym, ap, ◌∙◌}
 use Rattle.std.specs.Prelude.{◌&&◌, not, if◌then◌else◌, option_map}
 use Rattle.std.specs.Option.{is_none}
-use Rattle.rz_tmpl_entries.specs.Cut.{entry_fault}
+use Rattle.rz_tmpl_entries.specs.Cut.{entry_fault, Standing}
 use Rattle.rz_tmpl_entries.specs.Items.{at, count, has_value, inside, is_kept, is_place_kept, list, may_start, none, one, waits, waits_behind, Items, Place}
 use Rattle.rz_tmpl_entries.specs.Bodies.{append, behind}
 use Rattle.rz_tmpl_entries.specs.declared.entry.Entry.{Entry}
 use Rattle.rz_tmpl_entries.specs.declared.entry.Entry.TheVariants.{Count, End, One, Start}
 use Rattle.rz_tmpl_entries.specs.declared.entry.Plain.{Plain}
+
+abbrev pub four : (full outermost waiting valued : Bool) → Standing
+four full outermost waiting valued = record { full = full; outermost = outermost; waiting = waiting; valued = valued }
 
 -- no list more may be open
 abbrev pub none_left : ℕ → Bool
@@ -16,7 +19,7 @@ none_left (suc left) = false
 
 -- the fault of an entry at a place after which so many more lists may be open, in a list or in none
 abbrev pub place_fault : (left : ℕ) (outermost : Bool) → Place → Entry → Option ℕ
-place_fault left outermost (at items) entry = entry_fault (none_left left) outermost (waits false items) (has_value items) entry
+place_fault left outermost (at items) entry = entry_fault (four (none_left left) outermost (waits false items) (has_value items)) entry
 place_fault zero outermost (inside before counted place) entry = None
 place_fault (suc left) outermost (inside before counted place) entry = place_fault left false place entry
 
@@ -74,25 +77,25 @@ count_more left items less = kept_append left false items (count less none) ∙ 
 start_more : (left : ℕ) (outermost : Bool) (items : Items) (counted : Bool) → Kept left outermost (at items) (Start counted) (inside items counted (at none))
 start_more zero outermost items counted = turn (is_kept zero false items) (may_start counted (waits false items))
   where
-    turn : (k m : Bool) → false ≡ (k && is_none {T = ℕ} (if m then (if true then Some 456 else None) else Some 454))
+    turn : (k m : Bool) → false ≡ (k && is_none {T = ℕ} (if not m then Some 454 else if true then Some 456 else None))
     turn true true = refl
     turn true false = refl
     turn false m = refl
 start_more (suc left) outermost items counted = ap (λ t. is_kept (suc left) false items && t) (turn (may_start counted (waits false items)))
   where
-    turn : (m : Bool) → (m && true) ≡ is_none {T = ℕ} (if m then (if false then Some 456 else None) else Some 454)
+    turn : (m : Bool) → (m && true) ≡ is_none {T = ℕ} (if not m then Some 454 else if false then Some 456 else None)
     turn true = refl
     turn false = refl
 
 end_more : (left : ℕ) (before : Items) (counted : Bool) (items : Items)
     → is_kept (suc left) false (append before (list counted items none))
     ≡ ((is_kept (suc left) false before && (may_start counted (waits false before) && is_kept left false items))
-    && is_none {T = ℕ} (if waits false items then Some 454 else if has_value items then None else Some 455))
+    && is_none {T = ℕ} (if waits false items then Some 454 else if not (has_value items) then Some 455 else None))
 end_more left before counted items =
     kept_append (suc left) false before (list counted items none)
     ∙ turn (is_kept (suc left) false before) (may_start counted (waits false before)) (is_kept left false items) (waits false items) (has_value items)
   where
-    turn : (a m k w h : Bool) → (a && (m && (k && (not w && (h && true))))) ≡ ((a && (m && k)) && is_none {T = ℕ} (if w then Some 454 else if h then None else Some 455))
+    turn : (a m k w h : Bool) → (a && (m && (k && (not w && (h && true))))) ≡ ((a && (m && k)) && is_none {T = ℕ} (if w then Some 454 else if not h then Some 455 else None))
     turn false m k w h = refl
     turn true false k w h = refl
     turn true true false w h = refl

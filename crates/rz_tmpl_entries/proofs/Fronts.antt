@@ -6,13 +6,13 @@ use Rattle.std.specs.Option.{is_none}
 use Rattle.std.proofs.lemmas.List.{length-take-le}
 use Rattle.std.proofs.lemmas.List.Concat.{flat_map-append}
 use Rattle.rz_tmpl_entries.specs.Bodies.{behind, fault_at, fault_of, GoesOn, IsNext, Shows}
-use Rattle.rz_tmpl_entries.specs.Cut.{broken, end_fault, entry_bytes, entry_fault, fault_behind, most_open, next_fault, whole, IsLabelled, Labelled, Reads, Stands}
+use Rattle.rz_tmpl_entries.specs.Cut.{broken, end_fault, entry_bytes, entry_fault, fault_behind, most_open, next_fault, standing, standing_at, whole, IsLabelled, Labelled, Reads, Stands}
 use Rattle.rz_tmpl_entries.specs.Entry.{entry_of}
 use Rattle.rz_tmpl_entries.specs.Items.{at, entries_before, has_value, innermost, inside, none, waiting_outside, waits, Items, Place}
 use Rattle.rz_tmpl_entries.specs.declared.bodies.Bodies.{Bodies}
 use Rattle.rz_tmpl_entries.specs.declared.bodies.Next.{Next}
 use Rattle.rz_tmpl_entries.specs.declared.entry.Entry.{Entry}
-use Rattle.rz_tmpl_entries.proofs.Faults.{kept_behind, place_fault}
+use Rattle.rz_tmpl_entries.proofs.Faults.{four, kept_behind, place_fault}
 use Rattle.rz_tmpl_entries.proofs.Shown.{few_open, fault_is, not_none, one_more, place_behind}
 
 pub record Front (bytes rest : List ℕ) (bodies : Bodies) (made : List Entry) : Type 0 where
@@ -28,17 +28,16 @@ begins bytes bodies entries shows is = record { place = at none; stands = record
 
 fault_seen : (place : Place) (bodies : Bodies) (rest : List ℕ) → Shows place bodies → fault_at bodies rest ≡ fault_behind place rest
 fault_seen place bodies rest shows =
-    ap (λ (l : List Bool). next_fault (length l) bodies.waiting bodies.valued rest) shows.outside
-    ∙ ap (λ (w : Bool). next_fault (length (waiting_outside place)) w bodies.valued rest) shows.waiting
-    ∙ ap (λ (v : Bool). next_fault (length (waiting_outside place)) (waits false (innermost place)) v rest) shows.valued
+    ap (λ (l : List Bool). next_fault (standing (length l) bodies.waiting bodies.valued) rest) shows.outside
+    ∙ ap (λ (w : Bool). next_fault (standing (length (waiting_outside place)) w bodies.valued) rest) shows.waiting
+    ∙ ap (λ (v : Bool). next_fault (standing (length (waiting_outside place)) (waits false (innermost place)) v) rest) shows.valued
 
 entry_seen : (place : Place) (bodies : Bodies) (entry : Entry) → Shows place bodies
-    → fault_of bodies entry
-    ≡ entry_fault (length (waiting_outside place) == most_open) (length (waiting_outside place) == 0) (waits false (innermost place)) (has_value (innermost place)) entry
+    → fault_of bodies entry ≡ entry_fault (standing_at place) entry
 entry_seen place bodies entry shows =
-    ap (λ (l : List Bool). entry_fault (length l == most_open) (length l == 0) bodies.waiting bodies.valued entry) shows.outside
-    ∙ ap (λ (w : Bool). entry_fault (length (waiting_outside place) == most_open) (length (waiting_outside place) == 0) w bodies.valued entry) shows.waiting
-    ∙ ap (λ (v : Bool). entry_fault (length (waiting_outside place) == most_open) (length (waiting_outside place) == 0) (waits false (innermost place)) v entry) shows.valued
+    ap (λ (l : List Bool). entry_fault (standing (length l) bodies.waiting bodies.valued) entry) shows.outside
+    ∙ ap (λ (w : Bool). entry_fault (standing (length (waiting_outside place)) w bodies.valued) entry) shows.waiting
+    ∙ ap (λ (v : Bool). entry_fault (standing (length (waiting_outside place)) (waits false (innermost place)) v) entry) shows.valued
 
 pub breaks : (bytes rest : List ℕ) (bodies : Bodies) (entries : List Entry) (number : ℕ) → Front bytes rest bodies entries → fault_at bodies rest ≡ Some number
     → Reads bytes (Err (record { number = number; offset = length bytes - length rest }))
@@ -48,17 +47,19 @@ breaks bytes rest bodies entries number front fault = (
   refl,
 )
 
-not_waiting : (w : Bool) → end_fault true w ≡ None → w ≡ false
-not_waiting true is = absurd cc
-not_waiting false is = refl
+not_waiting : (full w valued : Bool) → end_fault (four full true w valued) ≡ None → w ≡ false
+not_waiting full true valued is = absurd cc
+not_waiting full false valued is = refl
 
-not_open : (w : Bool) {P : Type 0} → end_fault false w ≡ None → P
-not_open w is = absurd cc
+not_open : (full w valued : Bool) {P : Type 0} → end_fault (four full false w valued) ≡ None → P
+not_open full w valued is = absurd cc
 
 pub closed : (place : Place) → fault_behind place [] ≡ None → (items : Items) × (place ≡ at items) × (waits false items ≡ false)
-closed (at items) is = (items, refl, not_waiting (waits false items) is)
+closed (at items) is = (items, refl, not_waiting (0 == most_open) (waits false items) (has_value items) is)
 closed (inside before counted place) is =
-    not_open (waits false (innermost place)) (ap (λ (t : Bool). end_fault t (waits false (innermost place))) (sym (not_none (length (waiting_outside place)))) ∙ is)
+    let full = suc (length (waiting_outside place)) == most_open in
+    not_open full (waits false (innermost place)) (has_value (innermost place))
+    (ap (λ (t : Bool). end_fault (four full t (waits false (innermost place)) (has_value (innermost place)))) (sym (not_none (length (waiting_outside place)))) ∙ is)
 
 pub ends : (bytes rest : List ℕ) (bodies : Bodies) (entries : List Entry) → Front bytes rest bodies entries → GoesOn bodies rest None → Reads bytes (Ok entries)
 ends bytes rest bodies entries front on =

@@ -10,7 +10,7 @@ use Rattle.rz_tmpl_entries.specs.declared.entry.Entry.{Entry}
 use Rattle.rz_tmpl_entries.specs.declared.entry.Entry.TheVariants.{Count, End, One, Start}
 use Rattle.rz_tmpl_entries.specs.declared.entry.Plain.{Plain}
 use Rattle.rz_tmpl_entries.specs.declared.bodies.Bodies.{Bodies}
-use Rattle.rz_tmpl_entries.proofs.Faults.{behind_waits, place_fault, waits_append}
+use Rattle.rz_tmpl_entries.proofs.Faults.{behind_waits, four, place_fault, waits_append}
 use Rattle.rz_tmpl_entries.proofs.Places.{count_step, end_step, opened, plain_step, start_step, with}
 
 pub some_same : {A : Type 0} (x y : A) → Some x ≡ Some y → x ≡ y
@@ -107,7 +107,7 @@ one_more (inside before counted place) End next is =
     ∙ append_assoc (entries_before found.outer) (Start found.counted ∷ []) (entries_of found.row ++ End ∷ []))
 
 -- after an entry without a fault there is a place
-pub place_behind : (full waiting valued : Bool) (place : Place) (entry : Entry) → entry_fault full (length (waiting_outside place) == 0) waiting valued entry ≡ None
+pub place_behind : (full waiting valued : Bool) (place : Place) (entry : Entry) → entry_fault (four full (length (waiting_outside place) == 0) waiting valued) entry ≡ None
     → (next : Place) × (behind place entry ≡ Some next)
 place_behind full waiting valued place (One plain) sound = (with place (one plain none), plain_step place plain)
 place_behind full waiting valued place (Count less) sound = (with place (count less none), count_step place less)
@@ -141,17 +141,17 @@ back false b is = never is
 -- the fault at a place that is kept, in the words of what is open there
 pub fault_is : (left : ℕ) (outermost : Bool) (place : Place) (entry : Entry) → is_place_kept left place ≡ true
     → place_fault left outermost place entry
-    ≡ entry_fault (length (waiting_outside place) == left) (outermost && (length (waiting_outside place) == 0)) (waits false (innermost place)) (has_value (innermost place)) entry
+    ≡ entry_fault (four (length (waiting_outside place) == left) (outermost && (length (waiting_outside place) == 0)) (waits false (innermost place)) (has_value (innermost place))) entry
 fault_is zero true (at items) entry kept = refl
 fault_is zero false (at items) entry kept = refl
-fault_is (suc left) true (at items) entry kept = ap (λ (full : Bool). entry_fault full true (waits false items) (has_value items) entry) (sym (not_all left))
-fault_is (suc left) false (at items) entry kept = ap (λ (full : Bool). entry_fault full false (waits false items) (has_value items) entry) (sym (not_all left))
+fault_is (suc left) true (at items) entry kept = ap (λ (full : Bool). entry_fault (four full true (waits false items) (has_value items)) entry) (sym (not_all left))
+fault_is (suc left) false (at items) entry kept = ap (λ (full : Bool). entry_fault (four full false (waits false items) (has_value items)) entry) (sym (not_all left))
 fault_is zero outermost (inside before counted place) entry kept = never kept
 fault_is (suc left) outermost (inside before counted place) entry kept =
     let n = length (waiting_outside place) in
     fault_is left false place entry (back (may_start counted (waits false before)) _ (back (is_kept (suc left) false before) _ kept))
-    ∙ ap (λ (full : Bool). entry_fault full false (waits false (innermost place)) (has_value (innermost place)) entry) (sym (same_suc n left))
-    ∙ ap (λ (outer : Bool). entry_fault (suc n == suc left) outer (waits false (innermost place)) (has_value (innermost place)) entry) (sym (ap (λ (t : Bool). outermost && t) (not_none n) ∙ and_false outermost))
+    ∙ ap (λ (full : Bool). entry_fault (four full false (waits false (innermost place)) (has_value (innermost place))) entry) (sym (same_suc n left))
+    ∙ ap (λ (outer : Bool). entry_fault (four (suc n == suc left) outer (waits false (innermost place)) (has_value (innermost place))) entry) (sym (ap (λ (t : Bool). outermost && t) (not_none n) ∙ and_false outermost))
 
 -- no more lists are open than may be
 pub few_open : (left : ℕ) (place : Place) → is_place_kept left place ≡ true → length (waiting_outside place) ≤ left
@@ -160,7 +160,7 @@ few_open zero (inside before counted place) kept = never kept
 few_open (suc left) (inside before counted place) kept =
     omega (arith, few_open left place (back (may_start counted (waits false before)) _ (back (is_kept (suc left) false before) _ kept)))
 
-not_full : (full outermost waiting valued counted : Bool) → entry_fault full outermost waiting valued (Start counted) ≡ None → full ≡ false
+not_full : (full outermost waiting valued counted : Bool) → entry_fault (four full outermost waiting valued) (Start counted) ≡ None → full ≡ false
 not_full true outermost true valued true is = absurd cc
 not_full true outermost false valued true is = absurd cc
 not_full true outermost waiting valued false is = absurd cc

@@ -1,6 +1,6 @@
 -- The place after an entry, and what the code keeps of a place.
-use Rattle.std.specs.Prelude.{◌≡◌, ℕ, ◌≤◌, ◌+◌, ◌==◌, Bool, false, List, [], ◌∷◌, length, take, drop, Option, Some, None, option_map}
-use Rattle.rz_tmpl_entries.specs.Cut.{entry_fault, most_open, next_fault}
+use Rattle.std.specs.Prelude.{◌≡◌, ℕ, ◌≤◌, ◌+◌, Bool, false, List, [], ◌∷◌, length, take, drop, Option, Some, None, option_map}
+use Rattle.rz_tmpl_entries.specs.Cut.{entry_fault, next_fault, standing, Standing}
 use Rattle.rz_tmpl_entries.specs.Entry.{entry_of}
 use Rattle.rz_tmpl_entries.specs.Items.{at, count, has_value, innermost, inside, list, none, one, waiting_outside, waits, Items, Place}
 use Rattle.rz_tmpl_entries.specs.declared.entry.Entry.{Entry}
@@ -37,13 +37,16 @@ pub record Shows (place : Place) (bodies : Bodies) : Type 0 where
   pub valued : bodies.valued ≡ has_value (innermost place)
   pub outside : bodies.outside.items ≡ waiting_outside place
 
+abbrev pub standing_of : Bodies → Standing
+standing_of bodies = standing (length bodies.outside.items) bodies.waiting bodies.valued
+
 -- the fault of bytes with their first entry, or at their end, where so much stands open
 abbrev pub fault_at : Bodies → List ℕ → Option ℕ
-fault_at bodies bytes = next_fault (length bodies.outside.items) bodies.waiting bodies.valued bytes
+fault_at bodies bytes = next_fault (standing_of bodies) bytes
 
 -- that of an entry
 abbrev pub fault_of : Bodies → Entry → Option ℕ
-fault_of bodies entry = entry_fault (length bodies.outside.items == most_open) (length bodies.outside.items == 0) bodies.waiting bodies.valued entry
+fault_of bodies entry = entry_fault (standing_of bodies) entry
 
 -- the bytes begin with this entry
 pub record IsNext (bytes : List ℕ) (next : Next) : Type 0 where

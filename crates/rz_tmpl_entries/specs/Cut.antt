@@ -1,5 +1,5 @@
 -- How the bytes of a template are cut into entries, and where that ends at a fault.
-use Rattle.std.specs.Prelude.{◌≡◌, ℕ, ◌+◌, ◌-◌, ◌==◌, nat_lt, Bool, true, false, if◌then◌else◌, List, [], ◌∷◌, ◌++◌, length, map, take, drop, Option, Some, None, Ok, Err}
+use Rattle.std.specs.Prelude.{◌≡◌, ℕ, ◌+◌, ◌-◌, ◌==◌, nat_lt, Bool, true, false, not, if◌then◌else◌, List, [], ◌∷◌, ◌++◌, length, map, take, drop, Option, Some, None, Ok, Err}
 use Rattle.std.specs.List.{flat_map, AllByRecursion}
 use Rattle.std.specs.declared.result.Result.{Result}
 use Rattle.rz_tmpl_entries.specs.Entry.{entry_of}
@@ -25,34 +25,51 @@ entry_bytes entry = length entry.label ∷ (entry.label ++ entry.code)
 
 -- Faults.
 
--- the fault of an entry after which no list more may be open, or one may, in no list or in one, in a body where a count waits or
--- none does, and that has a value or none
-abbrev pub entry_fault : (full outermost waiting valued : Bool) → Entry → Option ℕ
-entry_fault full outermost waiting valued (One plain) = None
-entry_fault full outermost waiting valued (Count less) = if waiting then Some 454 else None
-entry_fault full outermost waiting valued (Start counted) = if may_start counted waiting then (if full then Some 456 else None) else Some 454
-entry_fault full outermost waiting valued End =
-    if outermost then Some 453 else if waiting then Some 454 else if valued then None else Some 455
+-- how it stands where an entry begins: no list more may be open, no list is open, a count waits in the innermost body, and a
+-- row of that body has a value
+pub record Standing : Type 0 where
+  pub full : Bool
+  pub outermost : Bool
+  pub waiting : Bool
+  pub valued : Bool
+
+-- the same of so many open lists
+abbrev pub standing : (lists : ℕ) (waiting valued : Bool) → Standing
+standing lists waiting valued = record { full = lists == most_open; outermost = lists == 0; waiting = waiting; valued = valued }
+
+abbrev pub standing_at : Place → Standing
+standing_at place = standing (length (waiting_outside place)) (waits false (innermost place)) (has_value (innermost place))
+
+-- the number beside the first test that holds
+abbrev pub first_where : List (Bool × ℕ) → Option ℕ
+first_where [] = None
+first_where (row ∷ rows) = if row.0 then Some row.1 else first_where rows
+
+-- the fault of an entry
+abbrev pub entry_fault : Standing → Entry → Option ℕ
+entry_fault s (One plain) = None
+entry_fault s (Count less) = first_where ((s.waiting, 454) ∷ [])
+entry_fault s (Start counted) = first_where ((not (may_start counted s.waiting), 454) ∷ (s.full, 456) ∷ [])
+entry_fault s End = first_where ((s.outermost, 453) ∷ (s.waiting, 454) ∷ (not s.valued, 455) ∷ [])
 
 -- the fault at the end of the bytes
-abbrev pub end_fault : (outermost waiting : Bool) → Option ℕ
-end_fault outermost waiting = if outermost then (if waiting then Some 454 else None) else Some 453
+abbrev pub end_fault : Standing → Option ℕ
+end_fault s = first_where ((not s.outermost, 453) ∷ (s.waiting, 454) ∷ [])
 
 -- that of an entry of this code
-abbrev pub code_fault : (full outermost waiting valued : Bool) → Option Entry → Option ℕ
-code_fault full outermost waiting valued None = Some 452
-code_fault full outermost waiting valued (Some entry) = entry_fault full outermost waiting valued entry
+abbrev pub code_fault : Standing → Option Entry → Option ℕ
+code_fault s None = Some 452
+code_fault s (Some entry) = entry_fault s entry
 
--- that of the next entry of these bytes, where so many lists are open
-abbrev pub next_fault : (lists : ℕ) (waiting valued : Bool) → List ℕ → Option ℕ
-next_fault lists waiting valued [] = end_fault (lists == 0) waiting
-next_fault lists waiting valued (label ∷ bytes) =
-    if nat_lt (length bytes) (label + 4) then Some 451
-    else code_fault (lists == most_open) (lists == 0) waiting valued (entry_of (take 4 (drop label bytes)))
+-- that of the next entry of these bytes
+abbrev pub next_fault : Standing → List ℕ → Option ℕ
+next_fault s [] = end_fault s
+next_fault s (label ∷ bytes) =
+    if nat_lt (length bytes) (label + 4) then Some 451 else code_fault s (entry_of (take 4 (drop label bytes)))
 
 -- the fault of the bytes after a place at their first entry, or at their end
 abbrev pub fault_behind : Place → List ℕ → Option ℕ
-fault_behind place bytes = next_fault (length (waiting_outside place)) (waits false (innermost place)) (has_value (innermost place)) bytes
+fault_behind place bytes = next_fault (standing_at place) bytes
 
 -- Cuts.
 

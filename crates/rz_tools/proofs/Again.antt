@@ -32,7 +32,8 @@ use Rattle.rz_pre.specs.declared.condition.Tool.TheVariants as tools
 use Rattle.rz_folder_paths.specs.Names.{file_of}
 use Rattle.rz_pre.specs.Program.{levels_below, IncludedGoes, State}
 use Rattle.rz_show.specs.Printable.{AreOfBytes, SparesTruth}
-use Rattle.rz_show.specs.Head.{head_front, head_lines}
+use Rattle.rz_show.specs.Head.{head_lines}
+use Rattle.rz_show_lines.specs.Head.{head_front}
 use Rattle.rz_show_lines.specs.Print.{list_lines}
 use Rattle.rz_show_laws.specs.Short.{AreShortTexts}
 use Rattle.rz_show.specs.Showing.{by_bytes, by_row, showing_text, showings_text, Showing}

@@ -1,11 +1,12 @@
 -- A run ends with the one answer to its words.
-use Rattle.std.proofs.Common.{◌≡◌, ◌⊎◌, inl, inr, ℕ, List, [], ◌++◌, Some, None, refl, sym, ap, subst, ◌∙◌}
+use Rattle.std.proofs.Common.{◌≡◌, ◌⊎◌, inl, inr, ℕ, List, [], Some, None, refl, sym, ap, subst, ◌∙◌}
 use Rattle.std.specs.Prelude.{IfSome}
 use Rattle.std.specs.declared.option.Option.{Option}
-use Rattle.std.proofs.lemmas.List.{append-nil}
 use Rattle.rz_core.specs.declared.moment.Moment.{Moment}
 use Rattle.rz_folder.specs.Folder.{Files}
-use Rattle.rz_tools_answer.specs.Answer.{files_after, Answer, Write}
+use Rattle.rz_folder.specs.Sink.{IsOut, Stream, Told}
+use Rattle.rz_tools_answer.proofs.Said.{out_so_far}
+use Rattle.rz_tools_answer.specs.Answer.{count_after, files_after, Answer, Write}
 use Rattle.rz_tools_answer.specs.Carried.{CarriesOut, EndsWith, IsAnswered, IsUnhindered, IsUntouched}
 use Rattle.rz_tools_answer.specs.WellFormed.{FitsOutcome, IsWellFormed}
 use Rattle.rz_tools_answer.specs.World.{ReadFailed, Says, World, WriteFailed}
@@ -23,10 +24,8 @@ none_written : (files left : Option Files) (writes : List Write) → writes ≡ 
 none_written None left writes none same = tt
 none_written (Some files) left writes none same = same ∙ ap (λ (ws : List Write). Some (files_after ws files)) (sym none)
 
-none_put : (out left : Option (List ℕ)) (text : List ℕ) → text ≡ [] → left ≡ out → IfSome out (λ out. left ≡ Some (out ++ text))
-none_put None left text none same = tt
-none_put (Some out) left text none same =
-    same ∙ ap (λ (bytes : List ℕ). Some bytes) (sym (append-nil out)) ∙ ap (λ (bytes : List ℕ). Some (out ++ bytes)) (sym none)
+none_put : (out left : Option Stream) (text : List ℕ) → text ≡ [] → left ≡ out → Told (IsOut text) out left
+none_put out left text none same = subst (Told (IsOut text) out) (sym same) (out_so_far text none out)
 
 -- The answer that was carried out.
 
@@ -36,12 +35,13 @@ module _ (done : Answer) (before after : World) where
     unwritten no_writes no_out says = record {
       outcome = sym ends;
       files = none_written before.files after.files done.writes no_writes left.files;
+      counted = left.counted ∙ ap (λ (ws : List Write). count_after ws before.writes) (sym no_writes);
       out = none_put before.out after.out done.out no_out left.out;
       err = says;
     }
 
   ends_with : (result : Outcome) → IsWellFormed done → IsUnhindered result → CarriesOut done before after result → EndsWith done before after result
-  ends_with Done fits free carried = record { outcome = sym carried.ends.0; files = carried.ends.1.files; out = carried.ends.1.out; err = carried.says }
+  ends_with Done fits free carried = record { outcome = sym carried.ends.0; files = carried.ends.1.files; counted = carried.ends.1.counted; out = carried.ends.1.out; err = carried.says }
   ends_with (Usage fault) fits free carried =
       let is = subst (λ (o : Outcome). FitsOutcome o done) carried.ends.0 fits in
       unwritten (Usage fault) carried.ends.0 carried.ends.1 (ap (λ (a : Answer). a.writes) is) (ap (λ (a : Answer). a.out) is) carried.says

@@ -22,6 +22,7 @@ use Rattle.rz_core.specs.declared.moment.Moment.{Moment}
 use Rattle.rz_core.specs.declared.resource.OsType.{OsType}
 use Rattle.rz_core.specs.declared.resource.Resource.{Resource}
 use Rattle.rz_folder.specs.Folder.{Files}
+use Rattle.rz_folder.specs.Sink.{IsOut, Told}
 use Rattle.rz_fork.specs.Admit.{admitted}
 use Rattle.rz_fork.specs.Contents.{Fork, FitsFork}
 use Rattle.rz_tools.proofs.OneAnswer.{OneCommand}
@@ -144,16 +145,15 @@ module _ (law : CataloguesArePutBack) (commands : OneCommand) (words : List (Lis
   pub lists_back : (result : Outcome) → result ≡ Done → CarriesOut done before after result → (asked : StringsAsked) → IsStrings words asked
       → IfSome before.files (λ files. Answers words files moment done)
       → IfSome before.files (λ files. IfSome (finite.get files asked.file) (λ bytes. done.outcome ≡ Done → HoldsFile asked.from bytes))
-      → IfSome before.files (λ files. IfSome before.out (λ out. ListsBack moment asked files out after.out))
+      → IfSome before.files (λ files. ListsBack moment asked files before.out after.out)
   lists_back result is carried asked as_asked answers held =
       let ends = (subst (λ r. CarriesOut done before after r) is carried).ends in
-      by before.files before.out ends.0 ends.1.out answers held
+      by before.files ends.0 ends.1.out answers held
     where
-      by : (b : Option Files) (o : Option (List ℕ)) → done.outcome ≡ Done → IfSome o (λ out. after.out ≡ Some (out ++ done.out)) → IfSome b (λ files. Answers words files moment done)
-          → IfSome b (λ files. IfSome (finite.get files asked.file) (λ bytes. done.outcome ≡ Done → HoldsFile asked.from bytes)) → IfSome b (λ files. IfSome o (λ out. ListsBack moment asked files out after.out))
-      by None o ended written answers held = tt
-      by (Some files) None ended written answers held = tt
-      by (Some files) (Some out) ended written answers held = λ bytes there fork admits.
+      by : (b : Option Files) → done.outcome ≡ Done → Told (IsOut done.out) before.out after.out → IfSome b (λ files. Answers words files moment done)
+          → IfSome b (λ files. IfSome (finite.get files asked.file) (λ bytes. done.outcome ≡ Done → HoldsFile asked.from bytes)) → IfSome b (λ files. ListsBack moment asked files before.out after.out)
+      by None ended written answers held = tt
+      by (Some files) ended written answers held = λ bytes there fork admits.
           let parts = fork_parts asked.from bytes fork admits in
           let listed = listed_answer moment asked files bytes fork done (strings_answered commands words asked as_asked files moment done answers) ended there admits in
           let file = at_some (λ bytes. done.outcome ≡ Done → HoldsFile asked.from bytes) (finite.get files asked.file) bytes there held ended parts.0 parts.1 in (
@@ -161,6 +161,6 @@ module _ (law : CataloguesArePutBack) (commands : OneCommand) (words : List (Lis
             listed.entries,
             listed.types,
             listed.is,
-            written ∙ ap (λ (text : List ℕ). Some (out ++ text)) listed.same,
+            subst (λ (text : List ℕ). Told (IsOut text) before.out after.out) listed.same written,
             law listed.compiled.work.types moment parts.0.res_fork file fork parts.2 listed.entries listed.is,
           )

@@ -1,13 +1,12 @@
 -- What is to be carried out, from what a command makes or is stopped by.
-use Rattle.std.proofs.Common.{◌≡◌, ◌⊎◌, inl, inr, ℕ, List, ◌++◌, Option, Some, None, Ok, Err, refl, sym, ap, subst, ◌∙◌}
+use Rattle.std.proofs.Common.{◌≡◌, ◌⊎◌, inl, inr, ℕ, List, Option, Some, None, Ok, Err, refl, sym, ap, subst, ◌∙◌}
 use Rattle.std.specs.Prelude.{IfOk, IfSome}
 use Rattle.std.specs.declared.result.Result.{Result}
 use Rattle.rz_core.specs.Stop.{seen}
 use Rattle.rz_core.specs.declared.stop.NoMemory.{NoMemory as NoMemoryAlone}
 use Rattle.rz_folder.specs.Counts.{Rose}
 use Rattle.rz_folder.specs.Folder.{Files}
-use Rattle.rz_folder.specs.OnlyReads.{OnlyReads}
-use Rattle.rz_folder.specs.Sink.{PutsFront}
+use Rattle.rz_folder.specs.Sink.{PutsOut}
 use Rattle.rz_folder.specs.declared.sink.Put.{Put}
 use Rattle.rz_folder.specs.declared.sink.Put.TheVariants as puts
 use Rattle.rz_tools_answer.specs.Answer.{shown, Answer, Answered, Making}
@@ -19,10 +18,10 @@ use Rattle.rz_tools_answer.specs.declared.outcome.Outcome.{Outcome}
 use Rattle.rz_tools_answer.specs.declared.outcome.Outcome.TheVariants.{Done, Usage, Refused, ReadFault, WriteFault, NoMemory}
 use Rattle.rz_tools_answer.specs.declared.plan.Plan.{Plan}
 use Rattle.rz_tools_answer.specs.World.{SaysText, World}
-use Rattle.rz_tools_text.proofs.Lists.{front_got}
+use Rattle.rz_tools_answer.proofs.Said.{is_out}
 use Rattle.rz_tools_text.specs.Put.{IsTextOf}
 use Rattle.rz_tools.specs.Held.{making_with}
-use Rattle.rz_tools.specs.Reply.{outcome_of, EachAnswer, IsReply, IsSound}
+use Rattle.rz_tools.specs.Reply.{outcome_of, EachAnswer, IsReply, IsSound, IsText}
 use Rattle.rz_tools.specs.declared.reply.ForkShown.{ForkShown}
 use Rattle.rz_tools.specs.declared.reply.Reply.{Reply}
 use Rattle.rz_tools.specs.declared.reply.Reply.TheVariants as replies
@@ -119,12 +118,6 @@ held_too (Some files) entry P Q held = by (entry files) held
     by None holds = tt
     by (Some bytes) holds = λ _. holds
 
--- a call that failed to read only where another did
-pub reads_as : {F A B : Type 0} (files : F → Option Files) (read_faults write_faults : F → ℕ) (old new : F) → (B → A) → OnlyReads files read_faults write_faults old new A
-    → OnlyReads files read_faults write_faults old new B
-reads_as files read_faults write_faults old new so reads =
-    record { unchanged = reads.unchanged; counted = reads.counted; other_count = reads.other_count; cause = λ failed. reads.cause (so failed) }
-
 -- The answers that it stands for.
 
 pub well_formed : (reply : Reply) → IsSound reply → (answer : Answer) → IsReply reply answer → IsWellFormed answer
@@ -147,24 +140,20 @@ files_kept : (files left : Option Files) → left ≡ files → IfSome files (λ
 files_kept None left same = tt
 files_kept (Some files) left same = same
 
-all_put : (text : List ℕ) (out left : Option (List ℕ)) → PutsFront text out left (Ok puts.Done) → IfSome out (λ out. left ≡ Some (out ++ text))
-all_put text None left told = tt
-all_put text (Some out) left told = told
-
-module _ (making : Making) (before after : World) (files : after.files ≡ before.files) where
-  text_carried : (put : Result Put NoMemoryAlone) → PutsFront making.bytes before.out after.out put → (put ≡ Ok puts.Failed → Rose before.out_faults after.out_faults)
+module _ (making : Making) (before after : World) (files : after.files ≡ before.files) (unwritten : after.writes ≡ before.writes) where
+  text_carried : (put : Result Put NoMemoryAlone) → PutsOut making.bytes before.out after.out put → (put ≡ Ok puts.Failed → Rose before.out_faults after.out_faults)
       → SaysText (said_behind put making.said) before after → CarriesOut (shown making) before after (end_of put)
   text_carried (Ok puts.Done) told cause says = record {
-    ends = (refl, record { files = files_kept before.files after.files files; out = all_put making.bytes before.out after.out told });
+    ends = (refl, record { files = files_kept before.files after.files files; counted = unwritten; out = is_out making.bytes before.out after.out told });
     says = says;
   }
   text_carried (Ok puts.Failed) told cause says = record {
-    ends = (refl, inr (cause refl), at_text (files_kept before.files after.files files) (front_got making.bytes before.out after.out (Ok puts.Failed) tt told));
+    ends = (refl, inr (cause refl), at_text (files_kept before.files after.files files) unwritten told);
     says = says;
   }
-  text_carried (Err refused) told cause says = record { ends = (files, front_got making.bytes before.out after.out (Err refused) tt told); says = inr (refl, says) }
+  text_carried (Err refused) told cause says = record { ends = record { files = files; counted = unwritten; out = inr told }; says = inr (refl, says) }
 
-  pub text_ends : (put : Result Put NoMemoryAlone) (said : List ℕ) (result : Outcome) → said ≡ making.said → result ≡ end_of put → PutsFront making.bytes before.out after.out put
+  pub text_ends : (put : Result Put NoMemoryAlone) (said : List ℕ) (result : Outcome) → said ≡ making.said → result ≡ end_of put → PutsOut making.bytes before.out after.out put
       → (put ≡ Ok puts.Failed → Rose before.out_faults after.out_faults) → SaysText (said_behind put said) before after → CarriesOut (shown making) before after result
   text_ends put said result same is told cause says =
       subst (CarriesOut (shown making) before after) (sym is) (text_carried put told cause (subst (λ (s : List ℕ). SaysText (said_behind put s) before after) same says))
@@ -176,10 +165,10 @@ module _ (reply : Reply) (fork : ForkShown) (same : reply ≡ replies.Text fork)
   text_replied text is before after carried =
       (shown (making_with text fork), subst (λ (r : Reply). IsReply r (shown (making_with text fork))) (sym same) (text, is, refl), carried)
 
-  pub text_ended : (put : Result Put NoMemoryAlone) → result ≡ end_of put → (result ≡ outcome_of reply) ⊎ (result ≡ WriteFault) ⊎ (result ≡ NoMemory)
-  text_ended put is = subst (λ (r : Reply). (result ≡ outcome_of r) ⊎ (result ≡ WriteFault) ⊎ (result ≡ NoMemory)) (sym same) (by put is)
+  pub text_ended : (put : Result Put NoMemoryAlone) → result ≡ end_of put → (result ≡ outcome_of reply) ⊎ (result ≡ WriteFault) ⊎ ((result ≡ NoMemory) × IsText reply)
+  text_ended put is = subst (λ (r : Reply). (result ≡ outcome_of r) ⊎ (result ≡ WriteFault) ⊎ ((result ≡ NoMemory) × IsText r)) (sym same) (by put is)
     where
-      by : (p : Result Put NoMemoryAlone) → result ≡ end_of p → (result ≡ Done) ⊎ (result ≡ WriteFault) ⊎ (result ≡ NoMemory)
+      by : (p : Result Put NoMemoryAlone) → result ≡ end_of p → (result ≡ Done) ⊎ (result ≡ WriteFault) ⊎ ((result ≡ NoMemory) × IsText (replies.Text fork))
       by (Ok puts.Done) is = inl is
       by (Ok puts.Failed) is = inr (inl is)
-      by (Err refused) is = inr (inr is)
+      by (Err refused) is = inr (inr (is, tt))

@@ -1,5 +1,5 @@
 -- A sample, from its steps.
-use Rattle.std.proofs.Common.{◌≡◌, ◌<◌, ◌^◌, ℕ, List, [], ◌∷◌, ◌++◌, Option, Some, Ok, Err, inl, refl, ap, sym, subst, ◌∙◌, length}
+use Rattle.std.proofs.Common.{◌≡◌, ◌<◌, ◌^◌, ℕ, List, [], ◌∷◌, ◌++◌, Some, Ok, Err, inl, refl, ap, sym, subst, ◌∙◌, length}
 use Rattle.std.specs.Prelude.{codes, IfOk, IsErrAnd}
 use Rattle.std.specs.FinMap as finite
 use Rattle.std.specs.declared.result.Result.{Result}
@@ -10,7 +10,7 @@ use Rattle.rz_core.specs.declared.moment.Moment.{Moment}
 use Rattle.rz_core.specs.declared.stop.Halt.{Halt}
 use Rattle.rz_core.specs.declared.stop.Halt.TheVariants as halts
 use Rattle.rz_folder.specs.Folder.{Files}
-use Rattle.rz_folder.specs.Sink.{PutsFront}
+use Rattle.rz_folder.specs.Sink.{all_out, PutsOut, Stream}
 use Rattle.rz_folder.specs.declared.sink.Put.{Put}
 use Rattle.rz_folder.specs.declared.sink.Put.TheVariants.{Done}
 use Rattle.rz_tools_answer.specs.Answer.{shown, Answer, Making}
@@ -55,12 +55,11 @@ shows_so moment asked other files others same are end yields =
     subst (λ (held : Files). Yields end (Shows moment other held)) are (subst (λ (one : DeRezAsked). Yields end (Shows moment one files)) same yields)
 
 -- a text that was put on a sink of its own
-pub collected : (held after bytes text : List ℕ) (put : Put) → held ≡ [] → bytes ≡ after → put ≡ Done → PutsFront text (Some held) (Some after) (Ok put) → bytes ≡ text
+pub collected : (held after bytes text : List ℕ) (put : Put) → held ≡ [] → bytes ≡ after → put ≡ Done → PutsOut text (Some (all_out held)) (Some (all_out after)) (Ok put)
+    → bytes ≡ text
 collected held after bytes text put empty are is told =
-    are ∙ same_some (subst (λ (p : Put). PutsFront text (Some held) (Some after) (Ok p)) is told ∙ ap (λ (l : List ℕ). Some (l ++ text)) empty)
-  where
-    same_some : ◌≡◌ {A = Option (List ℕ)} (Some after) (Some text) → after ≡ text
-    same_some is = cc is
+    are ∙ ap (λ (s : Stream). s.out) (subst (λ (p : Put). PutsOut text (Some (all_out held)) (Some (all_out after)) (Ok p)) is told)
+    ∙ ap (λ (l : List ℕ). (l ++ []) ++ text) empty
 
 -- The steps.
 

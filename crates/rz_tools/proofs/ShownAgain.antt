@@ -1,5 +1,5 @@
 -- What derez answers for a fork means again the resources that are shown.
-use Rattle.std.proofs.Common.{◌≡◌, ◌++◌, inl, inr, ℕ, List, [], Option, Some, None, Ok, Err, refl, sym, ap, subst, ◌∙◌}
+use Rattle.std.proofs.Common.{◌≡◌, inl, inr, ℕ, List, [], Option, Some, None, Ok, Err, refl, sym, ap, subst, ◌∙◌}
 use Rattle.std.specs.Prelude.{IfSome}
 use Rattle.std.specs.FinMap as finite
 use Rattle.std.specs.declared.result.Result.{Result}
@@ -7,6 +7,7 @@ use Rattle.rz_core.specs.declared.fault.Fault.{Fault}
 use Rattle.rz_core.specs.declared.moment.Moment.{Moment}
 use Rattle.rz_core.specs.declared.resource.OsType.{OsType}
 use Rattle.rz_folder.specs.Folder.{Files}
+use Rattle.rz_folder.specs.Sink.{IsOut, Told}
 use Rattle.rz_bridge.specs.declared.file.MacFile.{MacFile}
 use Rattle.rz_core.specs.Stop.{◌>>=◌}
 use Rattle.rz_bridge_files.specs.Contents.{admit_fork, file_in, fork_in, IsFile}
@@ -113,16 +114,15 @@ module _ (commands : OneCommand) (law : ForksAreReadAgain) (spared : WordsAreSpa
   pub shows_again : (result : Outcome) → result ≡ Done → CarriesOut done before after result → (asked : DeRezAsked) → IsDeRez words asked → AreFree asked.types.defs
       → IfSome before.files (λ files. Answers words files moment done)
       → IfSome before.files (λ files. IfSome (finite.get files asked.file) (λ bytes. done.outcome ≡ Done → HoldsFile asked.from bytes))
-      → IfSome before.files (λ files. IfSome before.out (λ out. ShowsAgain moment asked files out after.out))
+      → IfSome before.files (λ files. ShowsAgain moment asked files before.out after.out)
   shows_again result is carried asked as_asked free answers held =
       let ends = (subst (λ r. CarriesOut done before after r) is carried).ends in
-      by before.files before.out ends.0 ends.1.out answers held
+      by before.files ends.0 ends.1.out answers held
     where
-      by : (b : Option Files) (o : Option (List ℕ)) → done.outcome ≡ Done → IfSome o (λ out. after.out ≡ Some (out ++ done.out)) → IfSome b (λ files. Answers words files moment done)
-          → IfSome b (λ files. IfSome (finite.get files asked.file) (λ bytes. done.outcome ≡ Done → HoldsFile asked.from bytes)) → IfSome b (λ files. IfSome o (λ out. ShowsAgain moment asked files out after.out))
-      by None o ended written answers held = tt
-      by (Some files) None ended written answers held = tt
-      by (Some files) (Some out) ended written answers held = λ bytes there fork admits short.
+      by : (b : Option Files) → done.outcome ≡ Done → Told (IsOut done.out) before.out after.out → IfSome b (λ files. Answers words files moment done)
+          → IfSome b (λ files. IfSome (finite.get files asked.file) (λ bytes. done.outcome ≡ Done → HoldsFile asked.from bytes)) → IfSome b (λ files. ShowsAgain moment asked files before.out after.out)
+      by None ended written answers held = tt
+      by (Some files) ended written answers held = λ bytes there fork admits short.
           let parts = fork_parts asked.from bytes fork admits in
           let shows = text_of_answer moment asked files bytes fork done (derez_answered commands words asked as_asked files moment done answers) ended there admits in (
             shows.0,

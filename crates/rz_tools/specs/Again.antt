@@ -8,6 +8,7 @@ use Rattle.rz_core.specs.declared.fault.Fault.{Fault}
 use Rattle.rz_core.specs.declared.moment.Moment.{Moment}
 use Rattle.rz_core.specs.declared.resource.Resource.{Resource}
 use Rattle.rz_folder.specs.Folder.{Files}
+use Rattle.rz_folder.specs.Sink.{IsOut, Stream, Told}
 use Rattle.rz_bridge.specs.declared.file.MacFile.{MacFile}
 use Rattle.rz_bridge_files.specs.Contents.{file_in, fork_in, IsFile}
 use Rattle.rz_bridge_form.specs.declared.form.Form.{Form}
@@ -77,11 +78,11 @@ CompilesAlone text list =
 abbrev pub HoldsFile : Option Form → List ℕ → Type 0
 HoldsFile form bytes = (file : MacFile) → file_in None form bytes [] ≡ Ok file → IsFile file.res_fork
 
--- where the fork's file holds such a fork, the type files mean something, and after what the output had stands a text
--- that under it means again the resources that are shown
-abbrev pub ShowsAgain : Moment → DeRezAsked → Files → List ℕ → Option (List ℕ) → Type 0
+-- where the fork's file holds such a fork, the type files mean something, and a text is out that under it means again the
+-- resources that are shown
+abbrev pub ShowsAgain : Moment → DeRezAsked → Files → Option Stream → Option Stream → Type 0
 ShowsAgain moment asked files before after =
     (bytes : List ℕ) → finite.get files asked.file ≡ Some bytes → (fork : Fork) → fork_in None asked.from bytes ≡ Ok fork
     → AreShort (chosen asked.only asked.skip fork.list)
-    → (compiled : Compiled) × (text : List ℕ) × TypesAre moment asked.types files (Ok compiled) × (after ≡ Some (before ++ text))
+    → (compiled : Compiled) × (text : List ℕ) × TypesAre moment asked.types files (Ok compiled) × Told (IsOut text) before after
     × MeansAgain (known_by moment compiled) text (chosen asked.only asked.skip fork.list)

@@ -1,5 +1,5 @@
 -- What `strings` lists is put back by `restring`, and what `restring` leaves as it is.
-use Rattle.std.specs.Prelude.{◌≡◌, ℕ, Bool, List, ◌++◌, length, map, Option, Some, None, Ok}
+use Rattle.std.specs.Prelude.{◌≡◌, ℕ, Bool, List, length, map, Option, Some, None, Ok}
 use Rattle.std.specs.FinMap as finite
 use Rattle.rz_bridge_files.specs.Contents.{fork_in}
 use Rattle.rz_catalog.specs.Apply.{Applied}
@@ -12,6 +12,7 @@ use Rattle.rz_catalog_text.specs.Text.{entries_text}
 use Rattle.rz_core.specs.declared.moment.Moment.{Moment}
 use Rattle.rz_core.specs.declared.resource.Resource.{Resource}
 use Rattle.rz_folder.specs.Folder.{Files}
+use Rattle.rz_folder.specs.Sink.{IsOut, Stream, Told}
 use Rattle.rz_fork.specs.Contents.{Fork}
 use Rattle.rz_tools.specs.Restring.{target_named, HasCatalogueFile, RestringAsked}
 use Rattle.rz_tools.specs.Sources.{Compiled}
@@ -27,13 +28,13 @@ abbrev pub IsPutBack : List Declaration → Moment → List Resource → List �
 IsPutBack types moment list text =
     (file : ℕ) → (entries : List Entry) × HasEntries file text (Ok entries) × ((over : Bool) → Applied types moment over list entries (own_answer over list entries))
 
--- where the fork's file holds a fork, the type files mean something, and after what the output had stands the text of exactly the
--- catalogue that the fork's resources have under them, which gives these resources again
-abbrev pub ListsBack : Moment → StringsAsked → Files → List ℕ → Option (List ℕ) → Type 0
+-- where the fork's file holds a fork, the type files mean something, and the text of exactly the catalogue is out that the
+-- fork's resources have under them, which gives these resources again
+abbrev pub ListsBack : Moment → StringsAsked → Files → Option Stream → Option Stream → Type 0
 ListsBack moment asked files before after =
     (bytes : List ℕ) → finite.get files asked.file ≡ Some bytes → (fork : Fork) → fork_in None asked.from bytes ≡ Ok fork
     → (compiled : Compiled) × (entries : List Entry) × TypesAre moment asked.types files (Ok compiled)
-    × IsCatalogue compiled.work.types moment fork.list entries × (after ≡ Some (before ++ entries_text entries))
+    × IsCatalogue compiled.work.types moment fork.list entries × Told (IsOut (entries_text entries)) before after
     × IsPutBack compiled.work.types moment fork.list (entries_text entries)
 
 -- The file that is written is that of the fork's resources with the texts of the catalogue's entries in place: no entry is refused,

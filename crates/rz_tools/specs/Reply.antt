@@ -26,6 +26,11 @@ abbrev pub outcome_of : Reply → Outcome
 outcome_of (replies.Plan plan) = plan.outcome
 outcome_of (replies.Text fork) = Done
 
+-- it is the text of a fork, which is put line by line
+abbrev pub IsText : Reply → Type 0
+IsText (replies.Plan plan) = ⊥
+IsText (replies.Text fork) = Unit {0}
+
 -- it can be carried out
 abbrev pub IsSound : Reply → Type 0
 IsSound (replies.Plan plan) = IsWellFormed (answer_of plan) × AreWritable (answer_of plan).writes

@@ -49,7 +49,7 @@ pub fn answer<F: Folder>(
         → IfSome (F.files folder.old) (λ files. IfSome (finite.get files asked.file) (λ bytes. IfOk result (λ reply. outcome_of reply ≡ Outcome.Done → HoldsFile asked.from bytes))) }
     ensures listed { (asked : StringsAsked) → IsStrings (map string_bytes words.now) asked
         → IfSome (F.files folder.old) (λ files. IfSome (finite.get files asked.file) (λ bytes. IfOk result (λ reply. outcome_of reply ≡ Outcome.Done → HoldsFile asked.from bytes))) }
-    ensures reads { OnlyReads F.files F.read_faults F.write_faults folder.old folder.new (result ≡ Err ReadFault) }
+    ensures reads { OnlyReads F.Folder folder.old folder.new (result ≡ Err ReadFault) }
 {
     one_command();
     definitions_are_lexed();
@@ -76,7 +76,7 @@ fn answer_command<F: Folder>(
         IfOk result (λ reply. outcome_of reply ≡ Outcome.Done → HoldsFile (derez_asked (items_of command.entry)).from bytes))) }
     ensures listed { command.entry.name ≡ Strings → IfSome (F.files folder.old) (λ files. IfSome (finite.get files (strings_asked (items_of command.entry)).file) (λ bytes.
         IfOk result (λ reply. outcome_of reply ≡ Outcome.Done → HoldsFile (strings_asked (items_of command.entry)).from bytes))) }
-    ensures reads { OnlyReads F.files F.read_faults F.write_faults folder.old folder.new (result ≡ Err ReadFault) }
+    ensures reads { OnlyReads F.Folder folder.old folder.new (result ≡ Err ReadFault) }
 {
     match command.name {
         CommandName::Rez => {

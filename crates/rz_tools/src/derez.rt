@@ -88,7 +88,7 @@ pub fn answer_derez<F: Folder>(
     ensures no_usage { IfOk result (λ reply. IsNoUsage (outcome_of reply)) }
     ensures held { IfSome (F.files folder.old) (λ files. IfSome (map.get files (string_bytes words.entry.file)) (λ bytes.
         IfOk result (λ reply. outcome_of reply ≡ Outcome.Done → HoldsFile words.entry.from bytes))) }
-    ensures reads { OnlyReads F.files F.read_faults F.write_faults folder.old folder.new (result ≡ Err ReadFault) }
+    ensures reads { OnlyReads F.Folder folder.old folder.new (result ≡ Err ReadFault) }
 {
     match read_and_show(alloc, folder, words, moment) {
         Ok(shown) => Ok(Reply::Text(shown)),
@@ -110,7 +110,7 @@ pub fn read_and_show<F: Folder>(
     ensures fork { IfOk result (λ shown. IsFork shown.text.fork) }
     ensures sayable { OnRefusal result IsSayable }
     ensures warned { IfOk result (λ shown. IsWarningText shown.said) }
-    ensures reads { OnlyReads F.files F.read_faults F.write_faults folder.old folder.new (result ≡ Err ReadFault) }
+    ensures reads { OnlyReads F.Folder folder.old folder.new (result ≡ Err ReadFault) }
 {
     match compile_types(alloc, folder, &words.types, moment) {
         Ok(compiled) => show_under(alloc, folder, words, compiled, moment),
@@ -133,7 +133,7 @@ fn show_under<F: Folder>(
     ensures fork { IfOk result (λ shown. IsFork shown.text.fork) }
     ensures sayable { OnRefusal result IsSayable }
     ensures warned { IfOk result (λ shown. IsWarningText shown.said) }
-    ensures reads { OnlyReads F.files F.read_faults F.write_faults folder.old folder.new (result ≡ Err ReadFault) }
+    ensures reads { OnlyReads F.Folder folder.old folder.new (result ≡ Err ReadFault) }
 {
     let Compiled {
         work,
@@ -180,7 +180,7 @@ fn show_file<F: Folder>(
     ensures fork { IfOk result (λ shown. IsFork shown.text.fork) }
     ensures sayable { OnRefusal result IsSayable }
     ensures warned { IfOk result (λ shown. IsWarningText shown.said) }
-    ensures reads { OnlyReads F.files F.read_faults F.write_faults folder.old folder.new (result ≡ Err ReadFault) }
+    ensures reads { OnlyReads F.Folder folder.old folder.new (result ≡ Err ReadFault) }
 {
     let DeRezWords {
         file,
@@ -228,7 +228,7 @@ fn read_fork<F: Folder>(
     ensures admitted { IfOk result (λ made. IsFork made.bytes) }
     ensures sayable { OnRefusal result IsSayable }
     ensures warned { IfOk result (λ made. IsWarningText made.said) }
-    ensures reads { OnlyReads F.files F.read_faults F.write_faults folder.old folder.new (result ≡ Err ReadFault) }
+    ensures reads { OnlyReads F.Folder folder.old folder.new (result ≡ Err ReadFault) }
 {
     match folder.read(alloc, name) {
         Read::Bytes(bytes) => say_beside(alloc, fork_of(alloc, bytes, from), warnings, files),

@@ -9,7 +9,7 @@ ghost use Rattle.rz_tools.specs.Strings.{IsStrings, StringsAsked};
 ghost use Rattle.rz_tools_answer.specs.Answer.{Answer};
 ghost use Rattle.rz_tools.specs.Program.{Answers, IsOnlyAnswer};
 ghost use Rattle.rz_tools_answer.specs.Carried.{CarriesOut, EndsWith, IsAnswered, IsUnhindered};
-ghost use Rattle.rz_tools_answer.specs.World.{world, ReadFailed, WriteFailed};
+ghost use Rattle.rz_tools_answer.specs.World.{ReadFailed, Runs, WriteFailed};
 ghost use Rattle.rz_tools_answer.specs.WellFormed.{IsWellFormed};
 ghost use Rattle.rz_tools.specs.DeRez.{DeRezAsked, IsDeRez};
 ghost use Rattle.rz_tools_args.specs.Command.{IsMisplaced};
@@ -30,16 +30,18 @@ use std::alloc::Global;
 /// `words` are the arguments after the program's name. They have exactly one answer, if the folder tells its files
 /// ([`every_answer`], [`one_answer`]).
 ///
-/// Usage comes exactly where the words are no command, and, if the folder tells its files, Refused only with the first
-/// fault. ReadFault and WriteFault come only where a read, or a write of the folder or of `out`, failed in this call.
-/// After Usage, Refused and ReadFault the folder is as before and `out` has got nothing; after NoMemory the folder is as
-/// before, and `out` has got a front of its text; after WriteFault the writes before the one that failed are done, and but
-/// for that one's file and a front of `out` all else is as before.
-/// After `derez` of a fork, where the resources that are shown have at most 16,777,212 bytes each, the text on `out`
-/// means these resources again to `rez`. After `strings` the catalogue on `out`, put back under the same types, gives the
-/// resources of its fork again, or 219 where a protected one has a text and may not be changed. After `restring` the row of each
-/// resource has the catalogue's texts in place of its own, counts and labels are solved again, and all else of the resources
-/// stays. What `err` does changes no outcome. NoMemory may come in place of any other answer.
+/// Usage comes exactly where the words are no command, and, if the folder tells its files, Refused only with the
+/// first fault. ReadFault and WriteFault come only where a read, or a write of the folder or of `out`, failed in this
+/// call. After Done the text is out, after all that `out` held back before, and `out` holds nothing back; an empty
+/// text needs no flush. After Usage, Refused and ReadFault the folder is as before and `out` has got nothing; after
+/// NoMemory the folder is as before, and `out` has got nothing, or a front of its text and not the whole text; after
+/// WriteFault the writes before the one that failed are done, and but for that one's file and a front of `out` all
+/// else is as before. No byte that was out is taken back. After `derez` of a fork, where the resources that are shown
+/// have at most 16,777,212 bytes each, the text on `out` means these resources again to `rez`. After `strings` the
+/// catalogue on `out`, put back under the same types, gives the resources of its fork again, or 219 where a protected
+/// one has a text and may not be changed. After `restring` the row of each resource has the catalogue's texts in
+/// place of its own, counts and labels are solved again, and all else of the resources stays. What `err` does changes
+/// no outcome. NoMemory may come in place of any other answer.
 pub fn run<F: Folder, O: Sink, E: Sink>(
     alloc: Global,
     words: &[String],
@@ -49,30 +51,24 @@ pub fn run<F: Folder, O: Sink, E: Sink>(
     moment: Moment,
 ) -> Outcome
     // Whatever the folder tells, an answer is carried out; where it tells its files, this is the answer to the words.
-    ensures carried { (done : Answer) × IsWellFormed done
-        × CarriesOut done (world F.files F.read_faults F.write_faults O.written O.faults E.written E.faults folder.old out.old err.old)
-        (world F.files F.read_faults F.write_faults O.written O.faults E.written E.faults folder.new out.new err.new) result
-        × (IsAnswered result → IfSome (F.files folder.old) (λ files. Answers (map string_bytes words.now) files moment done)) }
-    ensures every { IfSome (F.files folder.old) (λ files. (wanted : Answer) → Answers (map string_bytes words.now) files moment wanted
-        → CarriesOut wanted (world F.files F.read_faults F.write_faults O.written O.faults E.written E.faults folder.old out.old err.old)
-        (world F.files F.read_faults F.write_faults O.written O.faults E.written E.faults folder.new out.new err.new) result) }
+    ensures carried { Runs F.Folder O.Sink E.Sink folder.old folder.new out.old out.new err.old err.new
+        (λ before after. (done : Answer) × IsWellFormed done × CarriesOut done before after result
+        × (IsAnswered result → IfSome before.files (λ files. Answers (map string_bytes words.now) files moment done))) }
+    ensures every { Runs F.Folder O.Sink E.Sink folder.old folder.new out.old out.new err.old err.new
+        (λ before after. IfSome before.files (λ files. (wanted : Answer) → Answers (map string_bytes words.now) files moment wanted
+        → CarriesOut wanted before after result)) }
 
     // Where the folder tells its files, the words have exactly one answer, and a run that meets neither want of memory nor a
     // failed read or write ends with it.
-    ensures complete { IfSome (F.files folder.old) (λ files. (answer : Answer) × IsOnlyAnswer (map string_bytes words.now) files moment answer
-        × (IsUnhindered result → EndsWith answer
-        (world F.files F.read_faults F.write_faults O.written O.faults E.written E.faults folder.old out.old err.old)
-        (world F.files F.read_faults F.write_faults O.written O.faults E.written E.faults folder.new out.new err.new) result)) }
+    ensures complete { Runs F.Folder O.Sink E.Sink folder.old folder.new out.old out.new err.old err.new
+        (λ before after. IfSome before.files (λ files. (answer : Answer) × IsOnlyAnswer (map string_bytes words.now) files moment answer
+        × (IsUnhindered result → EndsWith answer before after result))) }
 
     // The same by the counts of faults: where none of them rose, the run ends with its answer, or for want of memory.
-    ensures whole { IfSome (F.files folder.old) (λ files. (answer : Answer) × IsOnlyAnswer (map string_bytes words.now) files moment answer
-        × ((ReadFailed (world F.files F.read_faults F.write_faults O.written O.faults E.written E.faults folder.old out.old err.old)
-        (world F.files F.read_faults F.write_faults O.written O.faults E.written E.faults folder.new out.new err.new) → ⊥)
-        → (WriteFailed (world F.files F.read_faults F.write_faults O.written O.faults E.written E.faults folder.old out.old err.old)
-        (world F.files F.read_faults F.write_faults O.written O.faults E.written E.faults folder.new out.new err.new) → ⊥)
-        → (result ≡ Outcome.NoMemory) ⊎ EndsWith answer
-        (world F.files F.read_faults F.write_faults O.written O.faults E.written E.faults folder.old out.old err.old)
-        (world F.files F.read_faults F.write_faults O.written O.faults E.written E.faults folder.new out.new err.new) result)) }
+    ensures whole { Runs F.Folder O.Sink E.Sink folder.old folder.new out.old out.new err.old err.new
+        (λ before after. IfSome before.files (λ files. (answer : Answer) × IsOnlyAnswer (map string_bytes words.now) files moment answer
+        × ((ReadFailed before after → ⊥) → (WriteFailed before after → ⊥)
+        → (result ≡ Outcome.NoMemory) ⊎ EndsWith answer before after result))) }
 
     // Usage comes exactly where the words are no command.
     ensures usage { (position : ℕ) → result ≡ Outcome.Usage (record { position = position }) → IsMisplaced (map string_bytes words.now) position }
@@ -81,11 +77,11 @@ pub fn run<F: Folder, O: Sink, E: Sink>(
 
     // What is shown of a fork means the resources again that are shown, when rez reads it after the same declarations.
     ensures again { result ≡ Outcome.Done → (asked : DeRezAsked) → IsDeRez (map string_bytes words.now) asked
-        → IfSome (F.files folder.old) (λ files. IfSome (O.written out.old) (λ before. ShowsAgain moment asked files before (O.written out.new))) }
+        → IfSome (F.files folder.old) (λ files. ShowsAgain moment asked files (O.stream out.old) (O.stream out.new)) }
 
     // What is listed of a fork is exactly its catalogue, and gives its resources again, put back under the same types.
     ensures back { result ≡ Outcome.Done → (asked : StringsAsked) → IsStrings (map string_bytes words.now) asked
-        → IfSome (F.files folder.old) (λ files. IfSome (O.written out.old) (λ before. ListsBack moment asked files before (O.written out.new))) }
+        → IfSome (F.files folder.old) (λ files. ListsBack moment asked files (O.stream out.old) (O.stream out.new)) }
 
     // What is written of a fork and a catalogue has all texts of the catalogue in their places, and all else of the fork stays.
     ensures others { result ≡ Outcome.Done → (asked : RestringAsked) → IsRestring (map string_bytes words.now) asked

@@ -3,10 +3,10 @@
 
 ghost use Rattle.std.specs.Prelude.{◌≡◌, ◌⊎◌};
 ghost use Rattle.rz_core.specs.Stop.{seen};
-ghost use Rattle.rz_tools.specs.Reply.{outcome_of, IsReply, IsSound};
+ghost use Rattle.rz_tools.specs.Reply.{outcome_of, IsReply, IsSound, IsText};
 ghost use Rattle.rz_tools_answer.specs.Answer.{Answer};
 ghost use Rattle.rz_tools_answer.specs.Carried.{CarriesOut};
-ghost use Rattle.rz_tools_answer.specs.World.{world};
+ghost use Rattle.rz_tools_answer.specs.World.{Runs};
 
 use rz_core::{Bytes, Halt};
 use rz_folder::{Folder, Sink};
@@ -34,8 +34,9 @@ pub enum Reply {
 }
 
 impl Reply {
-    /// Carries it out: a plan as [`carry_out`] does; of a fork the text is put line by line, and then what is to be said is
-    /// said, after it the line of what went wrong. NoMemory comes for a text alone.
+    /// Carries it out: a plan as [`carry_out`] does; of a fork the text is put line by line, and then what is to be
+    /// said is said, after it the line of what went wrong. NoMemory comes for a text alone, and before the whole text
+    /// is put: what `err` does changes no outcome.
     pub fn carry_out<F: Folder, O: Sink, E: Sink>(
         self,
         alloc: Global,
@@ -44,10 +45,10 @@ impl Reply {
         err: &mut E,
     ) -> Outcome
         requires { IsSound self }
-        ensures carried { (done : Answer) × IsReply self done
-            × CarriesOut done (world F.files F.read_faults F.write_faults O.written O.faults E.written E.faults folder.old out.old err.old)
-            (world F.files F.read_faults F.write_faults O.written O.faults E.written E.faults folder.new out.new err.new) result }
-        ensures ended { (result ≡ outcome_of self) ⊎ (result ≡ Outcome.WriteFault) ⊎ (result ≡ Outcome.NoMemory) }
+        ensures carried { Runs F.Folder O.Sink E.Sink folder.old folder.new out.old out.new err.old err.new
+            (λ before after. (done : Answer) × IsReply self done × CarriesOut done before after result) }
+        ensures ended { (result ≡ outcome_of self) ⊎ (result ≡ Outcome.WriteFault)
+            ⊎ ((result ≡ Outcome.NoMemory) × IsText self) }
     {
         every_list_is_shown();
         match self {

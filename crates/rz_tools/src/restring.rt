@@ -92,7 +92,7 @@ pub fn plan_restring<F: Folder>(
     ensures well_formed { IfOk result (λ plan. IsWellFormed (answer_of plan)) }
     ensures writable { IfOk result (λ plan. AreWritable (answer_of plan).writes) }
     ensures no_usage { IfOk result (λ plan. IsNoUsage plan.outcome) }
-    ensures reads { OnlyReads F.files F.read_faults F.write_faults folder.old folder.new (result ≡ Err ReadFault) }
+    ensures reads { OnlyReads F.Folder folder.old folder.new (result ≡ Err ReadFault) }
 {
     match restring_fork(alloc, folder, words, moment) {
         Ok(made) => Ok(Plan::written(alloc, words.output, made)?),
@@ -112,7 +112,7 @@ fn restring_fork<F: Folder>(
     ensures sayable { OnRefusal result IsSayable }
     ensures warned { IfOk result (λ made. IsWarningText made.said) }
     ensures short { IfOk result (λ made. length made.bytes < 2 ^ 32) }
-    ensures reads { OnlyReads F.files F.read_faults F.write_faults folder.old folder.new (result ≡ Err ReadFault) }
+    ensures reads { OnlyReads F.Folder folder.old folder.new (result ≡ Err ReadFault) }
 {
     match compile_types(alloc, folder, &words.types, moment) {
         Ok(compiled) => restring_under(alloc, folder, words, compiled, moment),
@@ -133,7 +133,7 @@ fn restring_under<F: Folder>(
     ensures sayable { OnRefusal result IsSayable }
     ensures warned { IfOk result (λ made. IsWarningText made.said) }
     ensures short { IfOk result (λ made. length made.bytes < 2 ^ 32) }
-    ensures reads { OnlyReads F.files F.read_faults F.write_faults folder.old folder.new (result ≡ Err ReadFault) }
+    ensures reads { OnlyReads F.Folder folder.old folder.new (result ≡ Err ReadFault) }
 {
     let Compiled {
         work,
@@ -176,7 +176,7 @@ fn restrung<F: Folder>(
     ensures output { IfSome (F.files folder.old) (λ files. Yields result (IsRestrungUnder moment (table_of types.now) file (restring words.now) files)) }
     ensures nameable { OnRefusal result (IsNameable (file + 1)) }
     ensures short { IfOk result (λ bytes. length bytes < 2 ^ 32) }
-    ensures reads { OnlyReads F.files F.read_faults F.write_faults folder.old folder.new (IsReadFault result) }
+    ensures reads { OnlyReads F.Folder folder.old folder.new (IsReadFault result) }
 {
     match read_held(alloc, folder, words.from, words.file.as_str()) {
         Ok(begun) => restrung_by(alloc, folder, words, types, file, begun, moment),
@@ -201,7 +201,7 @@ fn restrung_by<F: Folder>(
         (IsChangedBy moment (table_of types.now) (restring words.now) (begun_of begun)))) }
     ensures nameable { OnRefusal result (IsNameable (file + 1)) }
     ensures short { IfOk result (λ bytes. length bytes < 2 ^ 32) }
-    ensures reads { OnlyReads F.files F.read_faults F.write_faults folder.old folder.new (IsReadFault result) }
+    ensures reads { OnlyReads F.Folder folder.old folder.new (IsReadFault result) }
 {
     match read_catalogue(alloc, folder, words.catalogue.as_str(), file) {
         Ok(entries) => changed_by(alloc, words, types, begun, &entries, moment),
@@ -219,7 +219,7 @@ fn read_catalogue<F: Folder>(
     ensures entries { IfSome (F.files folder.old) (λ files. Yields result (HasCatalogueFile file name.now (map.get files name.now))) }
     ensures placed { IfOk result (AreEntriesIn (file + 1)) }
     ensures nameable { OnRefusal result (IsNameable (file + 1)) }
-    ensures reads { OnlyReads F.files F.read_faults F.write_faults folder.old folder.new (IsReadFault result) }
+    ensures reads { OnlyReads F.Folder folder.old folder.new (IsReadFault result) }
 {
     match folder.read(alloc, name) {
         Read::Bytes(source) => match entries_in(alloc, source, file) {

@@ -106,7 +106,7 @@ pub fn plan_rez<F: Folder>(
     ensures well_formed { IfOk result (λ plan. IsWellFormed (answer_of plan)) }
     ensures writable { IfOk result (λ plan. AreWritable (answer_of plan).writes) }
     ensures no_usage { IfOk result (λ plan. IsNoUsage plan.outcome) }
-    ensures reads { OnlyReads F.files F.read_faults F.write_faults folder.old folder.new (result ≡ Err ReadFault) }
+    ensures reads { OnlyReads F.Folder folder.old folder.new (result ≡ Err ReadFault) }
 {
     match compile(alloc, folder, words, moment) {
         Ok(made) => Ok(Plan::written(alloc, words.target.name, made)?),
@@ -126,7 +126,7 @@ pub fn compile<F: Folder>(
     ensures sayable { OnRefusal result IsSayable }
     ensures warned { IfOk result (λ made. IsWarningText made.said) }
     ensures short { IfOk result (λ made. length made.bytes < 2 ^ 32) }
-    ensures reads { OnlyReads F.files F.read_faults F.write_faults folder.old folder.new (result ≡ Err ReadFault) }
+    ensures reads { OnlyReads F.Folder folder.old folder.new (result ≡ Err ReadFault) }
 {
     match read_program(
         alloc,
@@ -155,7 +155,7 @@ fn compile_under<F: Folder>(
     ensures sayable { OnRefusal result IsSayable }
     ensures warned { IfOk result (λ made. IsWarningText made.said) }
     ensures short { IfOk result (λ made. length made.bytes < 2 ^ 32) }
-    ensures reads { OnlyReads F.files F.read_faults F.write_faults folder.old folder.new (result ≡ Err ReadFault) }
+    ensures reads { OnlyReads F.Folder folder.old folder.new (result ≡ Err ReadFault) }
 {
     match read_templates(alloc, folder, words.tmpl) {
         Ok(types) => compile_from_base(alloc, folder, words, program, types, moment),
@@ -178,7 +178,7 @@ fn compile_from_base<F: Folder>(
     ensures sayable { OnRefusal result IsSayable }
     ensures warned { IfOk result (λ made. IsWarningText made.said) }
     ensures short { IfOk result (λ made. length made.bytes < 2 ^ 32) }
-    ensures reads { OnlyReads F.files F.read_faults F.write_faults folder.old folder.new (result ≡ Err ReadFault) }
+    ensures reads { OnlyReads F.Folder folder.old folder.new (result ≡ Err ReadFault) }
 {
     match read_base(alloc, folder, words.append, words.target.name) {
         Ok(begun) => compile_behind(alloc, folder, words, program, types, begun, moment),
@@ -205,7 +205,7 @@ fn compile_behind<F: Folder>(
     ensures sayable { OnRefusal result IsSayable }
     ensures warned { IfOk result (λ made. IsWarningText made.said) }
     ensures short { IfOk result (λ made. length made.bytes < 2 ^ 32) }
-    ensures reads { OnlyReads F.files F.read_faults F.write_faults folder.old folder.new (result ≡ Err ReadFault) }
+    ensures reads { OnlyReads F.Folder folder.old folder.new (result ≡ Err ReadFault) }
 {
     let setting = Setting {
         tool: Tool::Rez,

@@ -129,7 +129,7 @@ fn compile_text_on(
     text: &Bytes,
     moment: Moment,
 ) -> Result<Made, Halt<Failing>>
-    requires { shelf.old ≡ finite.empty }
+    requires { shelf.old.files ≡ finite.empty }
     ensures made { Yields (seen making_of result) (CompilesAgain moment text.now) }
     ensures sayable { OnRefusal result IsSayable }
     ensures quiet { result ≡ Err ReadFault → ⊥ }
@@ -147,7 +147,7 @@ fn compile_text_on(
 
 /// Puts a file on a shelf, which takes fewer than 2^32 bytes, as each folder.
 fn hold(shelf: &mut Shelf, name: &str, bytes: &[u8]) -> Result<(), NoMemory>
-    ensures { OnOk result (shelf.new ≡ finite.insert shelf.old name.now bytes.now) }
+    ensures { OnOk result (shelf.new.files ≡ finite.insert shelf.old.files name.now bytes.now) }
 {
     if bytes.len() > u32::MAX as usize {
         return Err(NoMemory);

@@ -66,7 +66,7 @@ pub fn read_program<F: Folder>(
     ensures sayable { OnRefusal result IsSayable }
     ensures within { IfOk result (λ program. AreWithin (length program.files) program.tokens) }
     ensures lexed { IfOk result (λ program. AreLexed program.tokens) }
-    ensures reads { OnlyReads F.files F.read_faults F.write_faults folder.old folder.new (result ≡ Err ReadFault) }
+    ensures reads { OnlyReads F.Folder folder.old folder.new (result ≡ Err ReadFault) }
 {
     match preprocess(alloc, folder, tool, names, paths, defs) {
         Ok(program) => Ok(program),
@@ -99,7 +99,7 @@ pub fn compile_program<F: Folder>(
     ensures compiled { IfSome (F.files folder.old) (λ files. (s : State) → IsProgram program s → Yields (seen compiled_of result) (HasWork (around setting paths.now files) (work_of start) s)) }
     ensures warned { IfOk result (λ compiled. AreWarnings (length compiled.files) compiled.work.warnings) }
     ensures sayable { OnRefusal result IsSayable }
-    ensures reads { OnlyReads F.files F.read_faults F.write_faults folder.old folder.new (result ≡ Err ReadFault) }
+    ensures reads { OnlyReads F.Folder folder.old folder.new (result ≡ Err ReadFault) }
 {
     all_tokens_are_statements();
     let Program {

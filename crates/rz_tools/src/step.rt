@@ -51,7 +51,7 @@ pub fn compile_statements<F: Folder>(
         → Yields (with_work (work_of work.new) result) (Means (around setting paths.now files) (work_of work.old) statements)) }
     ensures nameable { (files : ℕ) → AreWithin files tokens → OnRefusal result (IsNameable files) }
     ensures warned { (files : ℕ) → AreWithin files tokens → AreWarnings files work.old.warnings → AreWarnings files work.new.warnings }
-    ensures reads { OnlyReads F.files F.read_faults F.write_faults folder.old folder.new (IsReadFault result) }
+    ensures reads { OnlyReads F.Folder folder.old folder.new (IsReadFault result) }
 {
     let mut reader = tokens.into_reader();
     while let Some(statement) = next_statement(alloc, &mut reader)? {
@@ -77,7 +77,7 @@ fn step<F: Folder>(
     ensures stepped { IfSome (F.files folder.old) (λ files. Yields (with_work (work_of work.new) result) (Steps (around setting paths.now files) (work_of work.old) (map (numbered setting.tool) statement))) }
     ensures nameable { (files : ℕ) → AreWithin files statement → OnRefusal result (IsNameable files) }
     ensures warned { (files : ℕ) → AreWithin files statement → AreWarnings files work.old.warnings → AreWarnings files work.new.warnings }
-    ensures reads { OnlyReads F.files F.read_faults F.write_faults folder.old folder.new (IsReadFault result) }
+    ensures reads { OnlyReads F.Folder folder.old folder.new (IsReadFault result) }
 {
     let tokens = number_tool_words(setting.tool, statement);
     let span = Span {
@@ -102,7 +102,7 @@ fn step_at<F: Folder>(
     ensures stepped { IfSome (F.files folder.old) (λ files. Yields (with_work (work_of work.new) result) (Steps (around setting paths.now files) (work_of work.old) (tokens_at tokens span))) }
     ensures nameable { (files : ℕ) → AreWithin files tokens → OnRefusal result (IsNameable files) }
     ensures warned { (files : ℕ) → AreWithin files tokens → AreWarnings files work.old.warnings → AreWarnings files work.new.warnings }
-    ensures reads { OnlyReads F.files F.read_faults F.write_faults folder.old folder.new (IsReadFault result) }
+    ensures reads { OnlyReads F.Folder folder.old folder.new (IsReadFault result) }
 {
     let mark = tokens.at(span.start).mark;
     match statement_at(alloc, tokens, span) {

@@ -78,7 +78,7 @@ pub fn plan_strings<F: Folder>(
     ensures writable { IfOk result (λ plan. AreWritable (answer_of plan).writes) }
     ensures no_usage { IfOk result (λ plan. IsNoUsage plan.outcome) }
     ensures held { IfSome (F.files folder.old) (λ files. IfSome (map.get files (string_bytes words.now.file)) (λ bytes. IfOk result (λ plan. plan.outcome ≡ Outcome.Done → HoldsFile words.now.from bytes))) }
-    ensures reads { OnlyReads F.files F.read_faults F.write_faults folder.old folder.new (result ≡ Err ReadFault) }
+    ensures reads { OnlyReads F.Folder folder.old folder.new (result ≡ Err ReadFault) }
 {
     match list_fork(alloc, folder, words, moment) {
         Ok(made) => Ok(Plan::shown(alloc, made)),
@@ -98,7 +98,7 @@ fn list_fork<F: Folder>(
     ensures held { IfSome (F.files folder.old) (λ files. IfSome (map.get files (string_bytes words.now.file)) (λ bytes. IfOk result (λ _. HoldsFile words.now.from bytes))) }
     ensures sayable { OnRefusal result IsSayable }
     ensures warned { IfOk result (λ made. IsWarningText made.said) }
-    ensures reads { OnlyReads F.files F.read_faults F.write_faults folder.old folder.new (result ≡ Err ReadFault) }
+    ensures reads { OnlyReads F.Folder folder.old folder.new (result ≡ Err ReadFault) }
 {
     match compile_types(alloc, folder, &words.types, moment) {
         Ok(compiled) => list_under(alloc, folder, words, compiled, moment),
@@ -119,7 +119,7 @@ fn list_under<F: Folder>(
     ensures held { IfSome (F.files folder.old) (λ files. IfSome (map.get files (string_bytes words.now.file)) (λ bytes. IfOk result (λ _. HoldsFile words.now.from bytes))) }
     ensures sayable { OnRefusal result IsSayable }
     ensures warned { IfOk result (λ made. IsWarningText made.said) }
-    ensures reads { OnlyReads F.files F.read_faults F.write_faults folder.old folder.new (result ≡ Err ReadFault) }
+    ensures reads { OnlyReads F.Folder folder.old folder.new (result ≡ Err ReadFault) }
 {
     let Compiled { work, files, .. } = compiled;
     let Work {
@@ -143,7 +143,7 @@ fn catalogue_of<F: Folder>(
         (HasFileCatalogue moment (table_of types.now) (strings words.now) (map.get files (strings words.now).file))) }
     ensures held { IfSome (F.files folder.old) (λ files. IfSome (map.get files (string_bytes words.now.file)) (λ bytes. IfOk result (λ _. HoldsFile words.now.from bytes))) }
     ensures nameable { (files : ℕ) → OnRefusal result (IsNameable files) }
-    ensures reads { OnlyReads F.files F.read_faults F.write_faults folder.old folder.new (IsReadFault result) }
+    ensures reads { OnlyReads F.Folder folder.old folder.new (IsReadFault result) }
 {
     match folder.read(alloc, words.file.as_str()) {
         Read::Bytes(bytes) => match catalogue_in(alloc, words.from, bytes, types, moment) {

@@ -87,7 +87,7 @@ pub fn compile_types<F: Folder>(
     ensures compiled { IfSome (F.files folder.old) (λ files. Yields (seen compiled_of result) (TypesAre moment (types_asked words.now) files)) }
     ensures warned { IfOk result (λ compiled. AreWarnings (length compiled.files) compiled.work.warnings) }
     ensures sayable { OnRefusal result IsSayable }
-    ensures reads { OnlyReads F.files F.read_faults F.write_faults folder.old folder.new (result ≡ Err ReadFault) }
+    ensures reads { OnlyReads F.Folder folder.old folder.new (result ≡ Err ReadFault) }
 {
     match read_program(
         alloc,
@@ -115,7 +115,7 @@ fn compile_under<F: Folder>(
     ensures compiled { IfSome (F.files folder.old) (λ files. (s : State) → IsProgram program s → Yields (seen compiled_of result) (AreTyped moment (types_asked words.now) files s)) }
     ensures warned { IfOk result (λ compiled. AreWarnings (length compiled.files) compiled.work.warnings) }
     ensures sayable { OnRefusal result IsSayable }
-    ensures reads { OnlyReads F.files F.read_faults F.write_faults folder.old folder.new (result ≡ Err ReadFault) }
+    ensures reads { OnlyReads F.Folder folder.old folder.new (result ≡ Err ReadFault) }
 {
     let setting = Setting {
         tool: Tool::DeRez,

@@ -4,12 +4,12 @@ use Rattle.std.specs.Prelude.{IfSome}
 use Rattle.std.specs.declared.option.Option.{Option}
 use Rattle.std.specs.FinMap as finite
 use Rattle.std.proofs.lemmas.List.{drop_more, map-append, take_more, take-append-drop}
-use Rattle.rz_folder.specs.Counts.{Rose}
+use Rattle.rz_folder.specs.Counts.{next, Rose}
 use Rattle.rz_folder.specs.Folder.{Files, Writes}
-use Rattle.rz_folder.specs.Sink.{Puts}
+use Rattle.rz_folder.specs.Sink.{GotFront, IsOut, Told}
 use Rattle.rz_folder.specs.declared.folder.Written.TheVariants as ends
 use Rattle.rz_folder.specs.declared.sink.Put.TheVariants as puts
-use Rattle.rz_tools_answer.specs.Answer.{files_after, Answer, Write}
+use Rattle.rz_tools_answer.specs.Answer.{count_after, files_after, Answer, Write}
 use Rattle.rz_tools_answer.specs.Message.{write_fault_line}
 use Rattle.rz_tools_answer.specs.Plan.{FailsAt, WritesEach}
 use Rattle.rz_tools_answer.specs.Carried.{at_file, at_text, CarriesOut, IsUntouched}
@@ -21,31 +21,25 @@ use Rattle.rz_tools_answer.specs.declared.outcome.Outcome.TheVariants.{Done, Usa
 -- How an answer is carried out.
 
 module _ (answer : Answer) (before after : World) where
-  untouched : answer.writes ≡ [] → answer.out ≡ [] → (answer.writes ≡ [] → after.files ≡ before.files) → (answer.out ≡ [] → after.out ≡ before.out) → IsUntouched before after
-  untouched no_writes no_text files out = record { files = files no_writes; out = out no_text }
-
-  all_put : (out left : Option (List ℕ)) → Puts answer.out out left puts.Done → IfSome out (λ out. left ≡ Some (out ++ answer.out))
-  all_put None left told = tt
-  all_put (Some out) left told = told
-
-  front_put : (out left : Option (List ℕ)) → Puts answer.out out left puts.Failed → IfSome out (λ out. (count : ℕ) × (left ≡ Some (out ++ take count answer.out)))
-  front_put None left told = tt
-  front_put (Some out) left told = told
+  untouched : answer.writes ≡ [] → answer.out ≡ [] → (answer.writes ≡ [] → after.files ≡ before.files) → after.writes ≡ count_after answer.writes before.writes
+      → (answer.out ≡ [] → after.out ≡ before.out) → IsUntouched before after
+  untouched no_writes no_text files counted out =
+      record { files = files no_writes; counted = counted ∙ ap (λ (ws : List Write). count_after ws before.writes) no_writes; out = out no_text }
 
   pub all_done : (outcome : Outcome) → answer.outcome ≡ outcome → FitsOutcome outcome answer
-      → WritesEach answer.writes before.files after.files ends.Done → (answer.writes ≡ [] → after.files ≡ before.files)
-      → Puts answer.out before.out after.out puts.Done → (answer.out ≡ [] → after.out ≡ before.out)
+      → WritesEach answer.writes before.files after.files before.writes after.writes ends.Done → (answer.writes ≡ [] → after.files ≡ before.files)
+      → Told (IsOut answer.out) before.out after.out → (answer.out ≡ [] → after.out ≡ before.out)
       → Says answer.err before.err after.err before.err_faults after.err_faults → CarriesOut answer before after outcome
   all_done Done is fits told files text out says = record {
-    ends = (is, record { files = told; out = all_put before.out after.out text });
+    ends = (is, record { files = told.0; counted = told.1; out = text });
     says = says;
   }
   all_done (Usage fault) is fits told files text out says = record {
-    ends = (is, untouched (ap (λ (a : Answer). a.writes) fits) (ap (λ (a : Answer). a.out) fits) files out);
+    ends = (is, untouched (ap (λ (a : Answer). a.writes) fits) (ap (λ (a : Answer). a.out) fits) files told.1 out);
     says = says;
   }
   all_done (Refused fault) is fits told files text out says = record {
-    ends = (is, untouched (ap (λ (a : Answer). a.writes) fits.1) (ap (λ (a : Answer). a.out) fits.1) files out);
+    ends = (is, untouched (ap (λ (a : Answer). a.writes) fits.1) (ap (λ (a : Answer). a.out) fits.1) files told.1 out);
     says = says;
   }
   all_done ReadFault is fits told files text out says = absurd fits
@@ -73,7 +67,7 @@ module _ (answer : Answer) (before after : World) where
       → Says (answer.err ++ line) before.err after.err before.err_faults after.err_faults
   says_so text line is says = subst (λ (x : List ℕ). Says (x ++ line) before.err after.err before.err_faults after.err_faults) is says
 
-  pub write_failed : FitsOutcome answer.outcome answer → WritesEach answer.writes before.files after.files ends.Failed
+  pub write_failed : FitsOutcome answer.outcome answer → WritesEach answer.writes before.files after.files before.writes after.writes ends.Failed
       → (answer.writes ≡ [] → (ends.Failed ≡ ends.Done) × (after.files ≡ before.files)) → Rose before.write_faults after.write_faults → after.out ≡ before.out
       → (text : List ℕ) → text ≡ answer.err → Says (text ++ write_fault_line) before.err after.err before.err_faults after.err_faults
       → CarriesOut answer before after WriteFault
@@ -81,13 +75,13 @@ module _ (answer : Answer) (before after : World) where
     ends = (
       writes_done answer.outcome refl fits (λ no_writes. let e = (none no_writes).0 in cc),
       inl rose,
-      at_file told.0 told.1 told.2 told.3 (record { files = told.4; out = out }),
+      at_file told.0 told.1 told.2 told.3 (record { files = told.4; counted = told.5; out = out }),
     );
     says = says_so text write_fault_line is says;
   }
 
-  pub put_failed : FitsOutcome answer.outcome answer → WritesEach answer.writes before.files after.files ends.Done
-      → (piece : List ℕ) → piece ≡ answer.out → Puts piece before.out after.out puts.Failed → (piece ≡ [] → (puts.Failed ≡ puts.Done) × (after.out ≡ before.out))
+  pub put_failed : FitsOutcome answer.outcome answer → WritesEach answer.writes before.files after.files before.writes after.writes ends.Done
+      → (piece : List ℕ) → piece ≡ answer.out → Told (GotFront piece) before.out after.out → (piece ≡ [] → (puts.Failed ≡ puts.Done) × (after.out ≡ before.out))
       → Rose before.out_faults after.out_faults
       → (text : List ℕ) → text ≡ answer.err → Says (text ++ write_fault_line) before.err after.err before.err_faults after.err_faults
       → CarriesOut answer before after WriteFault
@@ -95,18 +89,18 @@ module _ (answer : Answer) (before after : World) where
     ends = (
       shows_done answer.outcome refl fits (λ no_text. let e = (none (same ∙ no_text)).0 in cc),
       inr rose,
-      at_text told (front_put before.out after.out (subst (λ (x : List ℕ). Puts x before.out after.out puts.Failed) same put)),
+      at_text told.0 told.1 (subst (λ (x : List ℕ). Told (GotFront x) before.out after.out) same put),
     );
     says = says_so text write_fault_line is says;
   }
 
-  pub carried_done : FitsOutcome answer.outcome answer → WritesEach answer.writes before.files after.files ends.Done
+  pub carried_done : FitsOutcome answer.outcome answer → WritesEach answer.writes before.files after.files before.writes after.writes ends.Done
       → (answer.writes ≡ [] → (ends.Done ≡ ends.Done) × (after.files ≡ before.files))
-      → (piece : List ℕ) → piece ≡ answer.out → Puts piece before.out after.out puts.Done → (piece ≡ [] → (puts.Done ≡ puts.Done) × (after.out ≡ before.out))
+      → (piece : List ℕ) → piece ≡ answer.out → Told (IsOut piece) before.out after.out → (piece ≡ [] → (puts.Done ≡ puts.Done) × (after.out ≡ before.out))
       → (text : List ℕ) → text ≡ answer.err → Says text before.err after.err before.err_faults after.err_faults
       → CarriesOut answer before after answer.outcome
   carried_done fits told files piece same put out text is says =
-      all_done answer.outcome refl fits told (λ none. (files none).1) (subst (λ (x : List ℕ). Puts x before.out after.out puts.Done) same put)
+      all_done answer.outcome refl fits told (λ none. (files none).1) (subst (λ (x : List ℕ). Told (IsOut x) before.out after.out) same put)
       (λ none. (out (same ∙ none)).1) (subst (λ (x : List ℕ). Says x before.err after.err before.err_faults after.err_faults) is says)
 
 -- Files that are written one after the other.
@@ -114,6 +108,15 @@ module _ (answer : Answer) (before after : World) where
 pub one_more : (front : List Write) (write : Write) (files : Files) → files_after (front ++ write ∷ []) files ≡ finite.insert (files_after front files) write.name write.bytes
 one_more [] write files = refl
 one_more (first ∷ front) write files = one_more front write (finite.insert files first.name first.bytes)
+
+pub one_write_more : (front : List Write) (write : Write) (count : ℕ) → count_after (front ++ write ∷ []) count ≡ next (count_after front count)
+one_write_more [] write count = refl
+one_write_more (first ∷ front) write count = one_write_more front write (next count)
+
+-- the count after the writes so far and one more
+pub counted_more : (front : List Write) (write : Write) (before now after : ℕ) → now ≡ count_after front before → after ≡ next now
+    → after ≡ count_after (front ++ write ∷ []) before
+counted_more front write before now after so is = is ∙ ap next so ∙ sym (one_write_more front write before)
 
 -- so far so many are written
 abbrev pub AreSoFar : List Write → Option Files → Option Files → Type 0

@@ -3,6 +3,7 @@ use Rattle.std.specs.Prelude.{◌≡◌, ℕ, List, [], ◌∷◌, ◌++◌, Ok,
 use Rattle.std.specs.declared.result.Result.{Result}
 use Rattle.std.specs.FinMap as map
 use Rattle.rz_core.specs.Message.{fault_line}
+use Rattle.rz_folder.specs.Counts.{next}
 use Rattle.rz_folder.specs.Folder.{Files}
 use Rattle.rz_tools_answer.specs.Message.{usage_line}
 use Rattle.rz_tools_answer.specs.declared.made.Failing.{Failing}
@@ -26,6 +27,11 @@ pub record Answer : Type 0 where
 abbrev pub files_after : List Write → Files → Files
 files_after [] files = files
 files_after (write ∷ writes) files = files_after writes (map.insert files write.name write.bytes)
+
+-- the count of a folder's writes after one of each of these
+abbrev pub count_after : List Write → ℕ → ℕ
+count_after [] count = count
+count_after (write ∷ writes) count = count_after writes (next count)
 
 -- what a command makes: bytes, and what is said beside them
 pub record Making : Type 0 where

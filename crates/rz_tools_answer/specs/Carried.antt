@@ -1,13 +1,13 @@
 -- How a run ends that carries out an answer, and what it leaves.
-use Rattle.std.specs.Prelude.{◌≡◌, ◌⊎◌, ℕ, ◌++◌, List, ◌∷◌, IfSome, IsSomeAnd, Ok, Err}
+use Rattle.std.specs.Prelude.{◌≡◌, ◌⊎◌, ℕ, ◌++◌, List, [], ◌∷◌, IfSome, IsSomeAnd, Ok, Err}
 use Rattle.std.specs.declared.option.Option.TheVariants.{Some}
 use Rattle.std.specs.declared.result.Result.{Result}
 use Rattle.std.specs.FinMap as map
 use Rattle.rz_core.specs.declared.stop.NoMemory.{NoMemory as NoMemoryAlone}
-use Rattle.rz_folder.specs.Sink.{GotFront}
+use Rattle.rz_folder.specs.Sink.{GotFront, GotPart, IsOut, Told}
 use Rattle.rz_folder.specs.declared.sink.Put.{Put}
 use Rattle.rz_folder.specs.declared.sink.Put.TheVariants as puts
-use Rattle.rz_tools_answer.specs.Answer.{files_after, Answer, Write}
+use Rattle.rz_tools_answer.specs.Answer.{count_after, files_after, Answer, Write}
 use Rattle.rz_tools_answer.specs.Message.{no_memory_line, read_fault_line, write_fault_line}
 use Rattle.rz_tools_answer.specs.World.{ReadFailed, Says, SaysText, World, WriteFailed}
 use Rattle.rz_tools_answer.specs.declared.outcome.Outcome.{Outcome}
@@ -15,27 +15,37 @@ use Rattle.rz_tools_answer.specs.declared.outcome.Outcome.TheVariants.{Done, Usa
 
 -- What an outcome leaves.
 
--- nothing is written
+-- nothing is written, and no write was tried
 pub record IsUntouched (before after : World) : Type 0 where
   pub files : after.files ≡ before.files
+  pub counted : after.writes ≡ before.writes
   pub out : after.out ≡ before.out
 
--- each file is written, and the text
+-- each file is written, in one write, and the text is out
 pub record IsWritten (writes : List Write) (text : List ℕ) (before after : World) : Type 0 where
   pub files : IfSome before.files (λ files. after.files ≡ Some (files_after writes files))
-  pub out : IfSome before.out (λ out. after.out ≡ Some (out ++ text))
+  pub counted : after.writes ≡ count_after writes before.writes
+  pub out : Told (IsOut text) before.out after.out
 
--- the write of one file failed: those before it are written, its name may hold anything, and all else is as before
+-- The write of one file failed: those before it are written, its name may hold anything, and all else is as before. There was
+-- one write of each of them, and none after the one that failed.
 pub record IsCutAt (done : List Write) (one : Write) (before after : World) : Type 0 where
   pub files : IfSome before.files (λ files. IsSomeAnd after.files (λ left. map.remove left one.name ≡ map.remove (files_after done files) one.name))
+  pub counted : after.writes ≡ count_after (done ++ one ∷ []) before.writes
   pub out : after.out ≡ before.out
 
--- a write failed: of one of the files, or, after all of them, of the text, of which the output then has a front
+-- a write failed: of one of the files, or, after one write of each of them, of the text, of which a front was put then
 pub data IsPartlyWritten (writes : List Write) (text : List ℕ) (before after : World) : Type 0 where
   at_file : (done : List Write) (one : Write) (rest : List Write) → writes ≡ done ++ one ∷ rest → IsCutAt done one before after
       → IsPartlyWritten writes text before after
-  at_text : IfSome before.files (λ files. after.files ≡ Some (files_after writes files)) → IfSome before.out (λ out. GotFront text out after.out)
-      → IsPartlyWritten writes text before after
+  at_text : IfSome before.files (λ files. after.files ≡ Some (files_after writes files)) → after.writes ≡ count_after writes before.writes
+      → Told (GotFront text) before.out after.out → IsPartlyWritten writes text before after
+
+-- memory was refused: before anything was put, or while this text was put, of which a front was put then and not the whole text
+pub record IsCutShort (text : List ℕ) (before after : World) : Type 0 where
+  pub files : after.files ≡ before.files
+  pub counted : after.writes ≡ before.writes
+  pub out : (after.out ≡ before.out) ⊎ Told (GotPart text) before.out after.out
 
 -- How a run ends that carries out this answer, why, and what it leaves.
 abbrev pub Ends : Answer → World → World → Outcome → Type 0
@@ -44,7 +54,7 @@ Ends answer before after (Usage fault) = (answer.outcome ≡ Usage fault) × IsU
 Ends answer before after (Refused fault) = (answer.outcome ≡ Refused fault) × IsUntouched before after
 Ends answer before after ReadFault = ReadFailed before after × IsUntouched before after
 Ends answer before after WriteFault = (answer.outcome ≡ Done) × WriteFailed before after × IsPartlyWritten answer.writes answer.out before after
-Ends answer before after NoMemory = (after.files ≡ before.files) × IfSome before.out (λ out. GotFront answer.out out after.out)
+Ends answer before after NoMemory = IsCutShort answer.out before after
 
 -- What is said: the answer's text, after it the line of a write fault; or the line of a read fault alone. Where memory was
 -- refused, it is the line of that alone if nothing of the text was put; if the text was being put, the answer's text comes
@@ -90,9 +100,11 @@ IsUnhindered (Usage fault) = Unit {0}
 IsUnhindered (Refused fault) = Unit {0}
 IsUnhindered other = ⊥
 
--- it ends exactly with its answer: with this outcome, these files written and no others changed, and these texts
+-- it ends exactly with its answer: with this outcome, these files written, each in one write, and no others changed, and these
+-- texts out
 pub record EndsWith (answer : Answer) (before after : World) (result : Outcome) : Type 0 where
   pub outcome : result ≡ answer.outcome
   pub files : IfSome before.files (λ files. after.files ≡ Some (files_after answer.writes files))
-  pub out : IfSome before.out (λ out. after.out ≡ Some (out ++ answer.out))
+  pub counted : after.writes ≡ count_after answer.writes before.writes
+  pub out : Told (IsOut answer.out) before.out after.out
   pub err : Says answer.err before.err after.err before.err_faults after.err_faults

@@ -1,5 +1,5 @@
 -- The answer that the code holds, and what its calls leave while they carry it out.
-use Rattle.std.specs.Prelude.{◌≡◌, ◌++◌, List, ◌∷◌, map, IfSome, IsSomeAnd}
+use Rattle.std.specs.Prelude.{◌≡◌, ℕ, ◌++◌, List, [], ◌∷◌, map, IfSome, IsSomeAnd}
 use Rattle.std.specs.String.{string_bytes}
 use Rattle.std.specs.declared.option.Option.{Option}
 use Rattle.std.specs.declared.option.Option.TheVariants.{Some}
@@ -10,7 +10,7 @@ use Rattle.rz_folder.specs.declared.folder.Written.TheVariants as ends
 use Rattle.rz_tools_answer.specs.Answer as answer
 use Rattle.rz_core.specs.declared.stop.Halt.{Halt}
 use Rattle.rz_core.specs.declared.stop.Halt.TheVariants as halts
-use Rattle.rz_tools_answer.specs.Answer.{files_after, refused, Answer}
+use Rattle.rz_tools_answer.specs.Answer.{count_after, files_after, refused, Answer}
 use Rattle.rz_tools_answer.specs.declared.made.Failing.{Failing}
 use Rattle.rz_tools_answer.specs.declared.outcome.Outcome.{Outcome}
 use Rattle.rz_tools_answer.specs.declared.outcome.Outcome.TheVariants.{Done, Refused}
@@ -28,11 +28,13 @@ abbrev pub FailsAt : List answer.Write → answer.Write → Option Files → Opt
 FailsAt done one before after =
     IfSome before (λ files. IsSomeAnd after (λ left. finite.remove left one.name ≡ finite.remove (files_after done files) one.name))
 
--- the files are written one after the other, or up to one of them, whose write failed
-abbrev pub WritesEach : List answer.Write → Option Files → Option Files → Written → Type 0
-WritesEach writes before after ends.Done = IfSome before (λ files. after ≡ Some (files_after writes files))
-WritesEach writes before after ends.Failed =
+-- the files are written one after the other, or up to one of them, whose write failed; each in one write, by these counts of
+-- them before and after
+abbrev pub WritesEach : List answer.Write → Option Files → Option Files → ℕ → ℕ → Written → Type 0
+WritesEach writes before after count left ends.Done = IfSome before (λ files. after ≡ Some (files_after writes files)) × (left ≡ count_after writes count)
+WritesEach writes before after count left ends.Failed =
     (done : List answer.Write) × (one : answer.Write) × (rest : List answer.Write) × (writes ≡ done ++ one ∷ rest) × FailsAt done one before after
+    × (left ≡ count_after (done ++ one ∷ []) count)
 
 -- the answer that a command has that was stopped by this, where it has one
 abbrev pub EndsIn : Halt Failing → Answer → Type 0

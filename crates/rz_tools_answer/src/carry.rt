@@ -1,11 +1,11 @@
 //! An answer is carried out: files, output, messages. What a run then leaves is in `specs/Carried`.
 
-ghost use Rattle.std.specs.Prelude.{◌≡◌, ◌≤◌, ◌⊎◌, ◌++◌, [], map, take};
+ghost use Rattle.std.specs.Prelude.{◌≡◌, ◌≤◌, ◌⊎◌, ◌++◌, [], map, Ok};
 ghost use Rattle.rz_folder.specs.Counts.{Rose};
-ghost use Rattle.rz_folder.specs.Sink.{Puts};
+ghost use Rattle.rz_folder.specs.Sink.{GotFront, IsOut, PutsOut, Told};
 ghost use Rattle.rz_tools_answer.specs.Plan.{answer_of, write_of, WritesEach};
 ghost use Rattle.rz_tools_answer.specs.Carried.{end_of, said_behind, CarriesOut};
-ghost use Rattle.rz_tools_answer.specs.World.{world, Says};
+ghost use Rattle.rz_tools_answer.specs.World.{Runs, Says};
 ghost use Rattle.rz_tools_answer.specs.Message.{write_fault_line};
 ghost use Rattle.rz_tools_answer.specs.WellFormed.{AreWritable, IsWellFormed};
 
@@ -25,8 +25,8 @@ pub fn carry_out<F: Folder, O: Sink, E: Sink>(
 ) -> Outcome
     requires well_formed { IsWellFormed (answer_of plan) }
     requires writable { AreWritable (answer_of plan).writes }
-    ensures carried { CarriesOut (answer_of plan) (world F.files F.read_faults F.write_faults O.written O.faults E.written E.faults folder.old out.old err.old)
-        (world F.files F.read_faults F.write_faults O.written O.faults E.written E.faults folder.new out.new err.new) result }
+    ensures carried { Runs F.Folder O.Sink E.Sink folder.old folder.new out.old out.new err.old err.new
+        (λ before after. CarriesOut (answer_of plan) before after result) }
     ensures ended { (result ≡ plan.outcome) ⊎ (result ≡ Outcome.WriteFault) }
 {
     let Plan {
@@ -51,7 +51,7 @@ pub fn carry_out<F: Folder, O: Sink, E: Sink>(
 /// output is put by then, or a front of it.
 pub fn say_end<E: Sink>(put: Result<Put, NoMemory>, said: &[u8], err: &mut E) -> Outcome
     ensures outcome { result ≡ end_of put }
-    ensures says { Says (said_behind put said.now) (E.written err.old) (E.written err.new) (E.faults err.old) (E.faults err.new) }
+    ensures says { Says (said_behind put said.now) (E.stream err.old) (E.stream err.new) (E.faults err.old) (E.faults err.new) }
 {
     match put {
         Ok(Put::Done) => {
@@ -69,16 +69,16 @@ pub fn say_end<E: Sink>(put: Result<Put, NoMemory>, said: &[u8], err: &mut E) ->
 /// Says that a write failed, after what is said in any case.
 fn say_write_fault<E: Sink>(said: &[u8], err: &mut E) -> Outcome
     ensures outcome { result ≡ Outcome.WriteFault }
-    ensures says { Says (said.now ++ write_fault_line) (E.written err.old) (E.written err.new) (E.faults err.old) (E.faults err.new) }
+    ensures says { Says (said.now ++ write_fault_line) (E.stream err.old) (E.stream err.new) (E.faults err.old) (E.faults err.new) }
 {
     put_lines(said, WRITE_FAULT, err);
     Outcome::WriteFault
 }
 
-/// Writes files one after the other, up to one whose write fails.
+/// Writes files one after the other, each in one write, up to one whose write fails.
 fn write_all<F: Folder>(writes: &Writes, folder: &mut F) -> Written
     requires { AreWritable (map write_of writes.now) }
-    ensures told { WritesEach (map write_of writes.now) (F.files folder.old) (F.files folder.new) result }
+    ensures told { WritesEach (map write_of writes.now) (F.files folder.old) (F.files folder.new) (F.writes folder.old) (F.writes folder.new) result }
     ensures nothing { map write_of writes.now ≡ [] → (result ≡ Written.Done) × (F.files folder.new ≡ F.files folder.old) }
     ensures counted { F.write_faults folder.old ≤ F.write_faults folder.new }
     ensures cause { result ≡ Written.Failed → Rose (F.write_faults folder.old) (F.write_faults folder.new) }
@@ -93,10 +93,11 @@ fn write_all<F: Folder>(writes: &Writes, folder: &mut F) -> Written
     Written::Done
 }
 
-/// Puts the text of the output, where it isn't empty.
+/// Puts the text of the output, where it isn't empty, and sees to it that it is out.
 fn put_text<O: Sink>(text: &[u8], out: &mut O) -> Put
-    ensures told { Puts text.now (O.written out.old) (O.written out.new) result }
-    ensures nothing { text.now ≡ [] → (result ≡ Put.Done) × (O.written out.new ≡ O.written out.old) }
+    ensures done { result ≡ Put.Done → Told (IsOut text.now) (O.stream out.old) (O.stream out.new) }
+    ensures failed { result ≡ Put.Failed → Told (GotFront text.now) (O.stream out.old) (O.stream out.new) }
+    ensures nothing { text.now ≡ [] → (result ≡ Put.Done) × (O.stream out.new ≡ O.stream out.old) }
     ensures cause { result ≡ Put.Failed → Rose (O.faults out.old) (O.faults out.new) }
 {
     if text.is_empty() {
@@ -108,7 +109,7 @@ fn put_text<O: Sink>(text: &[u8], out: &mut O) -> Put
 
 /// Puts a text, and sees to it that it is out.
 fn put_out<S: Sink>(text: &[u8], sink: &mut S) -> Put
-    ensures told { Puts text.now (S.written sink.old) (S.written sink.new) result }
+    ensures told { PutsOut text.now (S.stream sink.old) (S.stream sink.new) (Ok result) }
     ensures cause { result ≡ Put.Failed → Rose (S.faults sink.old) (S.faults sink.new) }
 {
     match sink.put(text) {
@@ -117,16 +118,18 @@ fn put_out<S: Sink>(text: &[u8], sink: &mut S) -> Put
     }
 }
 
-/// Puts lines and then a line. A failure changes nothing here, for there is no other place to report it to; after
-/// it nothing more is put.
+/// Puts lines and then a line, and sees to it that both are out. A failure changes nothing here, for there is no other
+/// place to report it to; after it nothing more is put.
 fn put_lines<E: Sink>(lines: &[u8], line: &[u8], err: &mut E)
-    ensures { Says (lines.now ++ line.now) (E.written err.old) (E.written err.new) (E.faults err.old) (E.faults err.new) }
+    ensures { Says (lines.now ++ line.now) (E.stream err.old) (E.stream err.new) (E.faults err.old) (E.faults err.new) }
 {
     if lines.is_empty() {
         put_line(line, err);
     } else {
         match err.put(lines) {
-            Put::Done => put_line(line, err),
+            Put::Done => {
+                let _ = put_out(line, err);
+            }
             Put::Failed => {}
         }
     }
@@ -134,7 +137,7 @@ fn put_lines<E: Sink>(lines: &[u8], line: &[u8], err: &mut E)
 
 /// Puts a line, where it isn't empty, and sees to it that it is out.
 pub fn put_line<E: Sink>(line: &[u8], err: &mut E)
-    ensures { Says line.now (E.written err.old) (E.written err.new) (E.faults err.old) (E.faults err.new) }
+    ensures { Says line.now (E.stream err.old) (E.stream err.new) (E.faults err.old) (E.faults err.new) }
 {
     if !line.is_empty() {
         let _ = put_out(line, err);

@@ -18,7 +18,7 @@ mod warning;
 
 pub use carry::{carry_out, put_line, say_end};
 pub use help::{help_text, version_text};
-pub use laws::{answers_are_carried_out, no_warning_refuses};
+pub use laws::{answers_are_carried_out, no_warning_refuses, texts_stand_after_what_was_out};
 pub use made::{Failing, Made};
 pub use message::{NO_MEMORY, READ_FAULT, WRITE_FAULT, usage_line};
 pub use outcome::Outcome;

@@ -61,6 +61,12 @@ pub named_writes : (asked : BridgeAsked) (file named : MacFile) → Named asked.
     → (writes : List Write) → AreWrites asked named bytes writes → Then (Named asked.to asked.output file) (IsWrittenAs asked) (Ok writes)
 named_writes asked file named is_named bytes is writes are = inl (named, is_named, inl (bytes, sym is, (writes, are, refl)))
 
+-- a raw file is the resource fork
+pub raw_writes : (asked : BridgeAsked) (file named : MacFile) → Named asked.to asked.output file (Ok named) → asked.to ≡ forms.Raw
+    → (writes : List Write) → AreWrites asked named named.res_fork writes → Then (Named asked.to asked.output file) (IsWrittenAs asked) (Ok writes)
+raw_writes asked file named is_named raw writes are =
+    named_writes asked file named is_named named.res_fork (ap (λ (form : Form). written_as form named) raw) writes are
+
 pub two_writes : (asked : BridgeAsked) (file : MacFile) (data_file header : code.Write) (none first writes : List code.Write)
     → none ≡ [] → first ≡ none ++ data_file ∷ [] → writes ≡ first ++ header ∷ []
     → asked.to ≡ forms.AppleDouble → file.data_fork ≢ [] → IsDataFile asked.output (string_bytes data_file.name) → data_file.bytes ≡ file.data_fork

@@ -12,17 +12,15 @@ ghost use Rattle.rz_bridge_files.specs.Contents.{form_or};
 ghost use Rattle.rz_set.specs.ResSet.{AreNamed};
 ghost use Rattle.rz_tools_output.specs.Base.{base_held, base_in, base_of, begun_of, limited, new_base, read_only};
 
+use bitflags::Flags;
 use rz_bridge::{Finder, MacFile};
 use rz_bridge_files::{admit_fork, file_in};
 use rz_bridge_form::{Form, form_of};
 use rz_core::{Bytes, Fault, Halt, Kept, OsType, Resources, Stop};
 use rz_folder::{Folder, Read};
 use rz_folder_paths::missing_file;
-use rz_fork::ForkView;
+use rz_fork::{ForkView, MapAttributes};
 use std::alloc::Global;
-
-/// The attribute bit of a map that may be read only.
-pub const READ_ONLY: u16 = 0x80;
 
 /// The most bytes of a resource that may be told as values.
 const MOST_BYTES: usize = 16_777_212;
@@ -41,7 +39,7 @@ pub struct Base {
     /// The fields of the file.
     pub file: MacFile,
     /// The attributes of the fork's map.
-    pub attributes: u16,
+    pub attributes: MapAttributes,
     /// The reserved bytes of the fork.
     pub reserved: Bytes,
 }
@@ -69,7 +67,7 @@ pub fn read_base<F: Folder>(
     ensures named { IfOk result (λ begun. AreNamed begun.list) }
     ensures room { IfOk result (λ begun. length begun.base.reserved ≤ 240) }
     ensures nameable { (files : ℕ) → OnRefusal result (IsNameable files) }
-    ensures reads { OnlyReads F.files F.read_faults F.write_faults folder.old folder.new (IsReadFault result) }
+    ensures reads { OnlyReads F.Folder folder.old folder.new (IsReadFault result) }
 {
     if !append {
         return Ok(new_file(alloc));
@@ -107,7 +105,7 @@ fn new_file(alloc: Global) -> Beginning
                 data_fork: Bytes::new(alloc),
                 res_fork: Bytes::new(alloc),
             },
-            attributes: 0,
+            attributes: MapAttributes::empty(),
             reserved: Bytes::new(alloc),
         },
         list: Resources::new(alloc),
@@ -129,7 +127,7 @@ pub fn read_held<F: Folder>(
     ensures short { IfOk result (λ begun. AllByRecursion (λ r. length r.bytes ≤ 16777212) begun.list) }
     ensures room { IfOk result (λ begun. length begun.base.reserved ≤ 240) }
     ensures nameable { (files : ℕ) → OnRefusal result (IsNameable files) }
-    ensures reads { OnlyReads F.files F.read_faults F.write_faults folder.old folder.new (IsReadFault result) }
+    ensures reads { OnlyReads F.Folder folder.old folder.new (IsReadFault result) }
 {
     match folder.read(alloc, name) {
         Read::Bytes(bytes) => begin_in(alloc, true, form, bytes),
@@ -187,8 +185,8 @@ fn base_in(
         all_short(&fork)?;
     }
     let attributes = fork.attributes();
-    if attributes & READ_ONLY != 0 {
-        return Err(Stop::Refused(read_only(attributes)));
+    if attributes.intersects(MapAttributes::READ_ONLY) {
+        return Err(Stop::Refused(read_only(attributes.bits())));
     }
     let list = fork.copy_all(alloc)?;
     let reserved = Bytes::of(alloc, fork.reserved())?;

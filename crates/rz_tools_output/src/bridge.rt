@@ -83,7 +83,7 @@ pub fn plan_bridge<F: Folder>(
     ensures well_formed { IfOk result (λ plan. IsWellFormed (answer_of plan)) }
     ensures writable { IfOk result (λ plan. AreWritable (answer_of plan).writes) }
     ensures no_usage { IfOk result (λ plan. IsNoUsage plan.outcome) }
-    ensures reads { OnlyReads F.files F.read_faults F.write_faults folder.old folder.new (result ≡ Err ReadFault) }
+    ensures reads { OnlyReads F.Folder folder.old folder.new (result ≡ Err ReadFault) }
 {
     match bridge_file(alloc, folder, words) {
         Ok(writes) => Ok(Plan::writing(alloc, writes)),
@@ -100,7 +100,7 @@ fn bridge_file<F: Folder>(
     ensures writes { IfSome (F.files folder.old) (λ files. Yields (writes_of result) (Bridges (bridge words.now) files)) }
     ensures writable { IfOk result (λ writes. AreWritable (map write_of writes)) }
     ensures nameable { (files : ℕ) → OnRefusal result (IsNameable files) }
-    ensures reads { OnlyReads F.files F.read_faults F.write_faults folder.old folder.new (IsReadFault result) }
+    ensures reads { OnlyReads F.Folder folder.old folder.new (IsReadFault result) }
 {
     match read_whole(alloc, folder, words) {
         Ok(file) => Ok(written_as(alloc, words, file)?),
@@ -117,7 +117,7 @@ fn read_whole<F: Folder>(
     ensures file { IfSome (F.files folder.old) (λ files. Yields result (IsRead (bridge words.now) files (finite.get files (string_bytes words.now.file)))) }
     ensures short { IfOk result (λ file. length file.res_fork < 2 ^ 32) }
     ensures nameable { (files : ℕ) → OnRefusal result (IsNameable files) }
-    ensures reads { OnlyReads F.files F.read_faults F.write_faults folder.old folder.new (IsReadFault result) }
+    ensures reads { OnlyReads F.Folder folder.old folder.new (IsReadFault result) }
 {
     let name = words.file.as_str();
     match folder.read(alloc, name) {
@@ -139,7 +139,7 @@ fn read_held<F: Folder>(
     ensures file { IfSome (F.files folder.old) (λ files. Yields result (IsHeld (bridge words.now) files bytes)) }
     ensures short { IfOk result (λ file. length file.res_fork < 2 ^ 32) }
     ensures nameable { (files : ℕ) → OnRefusal result (IsNameable files) }
-    ensures reads { OnlyReads F.files F.read_faults F.write_faults folder.old folder.new (IsReadFault result) }
+    ensures reads { OnlyReads F.Folder folder.old folder.new (IsReadFault result) }
 {
     let form = form_or(words.from, bytes.as_slice());
     match read_beside(alloc, folder, form, words.file.as_str()) {
@@ -157,7 +157,7 @@ fn read_beside<F: Folder>(
 ) -> Result<Bytes, Halt<Fault>>
     ensures data_file { IfSome (F.files folder.old) (λ files. IfOk result (HasBeside form header.now files)) }
     ensures unrefused { OnRefusal result (λ _. ⊥) }
-    ensures reads { OnlyReads F.files F.read_faults F.write_faults folder.old folder.new (IsReadFault result) }
+    ensures reads { OnlyReads F.Folder folder.old folder.new (IsReadFault result) }
 {
     if !matches!(form, Form::AppleDouble) {
         return Ok(Bytes::new(alloc));
@@ -179,8 +179,27 @@ fn written_as(alloc: Global, words: &BridgeWords<'_>, file: MacFile) -> Result<W
     ensures nameable { (files : ℕ) → OnFault result (IsNameable files) }
 {
     let file = named(alloc, words.to, words.output, file)?;
-    let bytes = write_as(alloc, words.to, &file)?;
-    Ok(listed(alloc, words, file, bytes)?)
+    match words.to {
+        Form::Raw => Ok(raw_alone(alloc, words, file)?),
+        form => {
+            let bytes = write_as(alloc, form, &file)?;
+            Ok(listed(alloc, words, file, bytes)?)
+        }
+    }
+}
+
+/// The write of a raw file, which is the resource fork itself.
+fn raw_alone(alloc: Global, words: &BridgeWords<'_>, file: MacFile) -> Result<Writes, NoMemory>
+    requires short { length file.res_fork < 2 ^ 32 }
+    requires raw { words.now.to ≡ Form.Raw }
+    ensures writes { IfOk result (λ writes. AreWrites (bridge words.now) file file.res_fork (map write_of writes)) }
+    ensures writable { IfOk result (λ writes. AreWritable (map write_of writes)) }
+{
+    let bytes = res_fork_of(file);
+    let name = words.output.to_string(alloc)?;
+    let mut writes = Writes::new(alloc);
+    writes.push(Write { name, bytes })?;
+    Ok(writes)
 }
 
 /// The writes of a file and of the bytes of its form: of AppleDouble the data file comes first, where the data fork isn't
@@ -214,6 +233,21 @@ fn listed(
     writes.push(data_file)?;
     writes.push(header)?;
     Ok(writes)
+}
+
+/// The resource fork of a file of which nothing else is needed.
+fn res_fork_of(file: MacFile) -> Bytes
+    ensures { result ≡ file.res_fork }
+{
+    let MacFile {
+        name,
+        data_fork,
+        res_fork,
+        ..
+    } = file;
+    drop(name);
+    drop(data_fork);
+    res_fork
 }
 
 /// The data fork of a file of which nothing else is needed.

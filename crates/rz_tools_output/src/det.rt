@@ -62,7 +62,7 @@ pub fn plan_det<F: Folder>(
     ensures well_formed { IfOk result (λ plan. IsWellFormed (answer_of plan)) }
     ensures writable { IfOk result (λ plan. AreWritable (answer_of plan).writes) }
     ensures no_usage { IfOk result (λ plan. IsNoUsage plan.outcome) }
-    ensures reads { OnlyReads F.files F.read_faults F.write_faults folder.old folder.new (result ≡ Err ReadFault) }
+    ensures reads { OnlyReads F.Folder folder.old folder.new (result ≡ Err ReadFault) }
 {
     match read_breaks(alloc, folder, words) {
         Ok(bytes) => {
@@ -81,7 +81,7 @@ fn read_breaks<F: Folder>(
 ) -> Result<Bytes, Halt<Fault>>
     ensures text { IfSome (F.files folder.old) (λ files. Yields result (λ answer. breaks_of (det words.now) (finite.get files (string_bytes words.now.file)) ≡ answer)) }
     ensures nameable { (files : ℕ) → OnRefusal result (IsNameable files) }
-    ensures reads { OnlyReads F.files F.read_faults F.write_faults folder.old folder.new (IsReadFault result) }
+    ensures reads { OnlyReads F.Folder folder.old folder.new (IsReadFault result) }
 {
     let name = words.file.as_str();
     match folder.read(alloc, name) {

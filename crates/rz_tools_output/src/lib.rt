@@ -5,7 +5,7 @@
 //! tells each rule that the fork of a file breaks, as its `DetWords` ask for it. Each gives exactly what its definition
 //! says, or the first fault.
 //! It rests on `rz_core`, `rz_folder`, `rz_fork`, `rz_det`, `rz_set`, `rz_bridge`, `rz_bridge_form`, `rz_bridge_files`,
-//! `rz_folder_paths`, `rz_tools_args`, whose commands it asks, and `rz_tools_answer`, whose plans it makes.
+//! `rz_folder_paths`, `rz_tools_args`, whose commands it asks, `rz_tools_answer`, whose plans it makes, and `bitflags`.
 //! `rez`, `strings`, `restring` and `answer` of `rz_tools` call it.
 //! A new option of the output is one more field of `Target` and of its definition; another file beside the output is one
 //! more write in `bridge`; another look at a file is a module beside `det`.

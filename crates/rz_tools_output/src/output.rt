@@ -10,13 +10,14 @@ ghost use Rattle.rz_fork.specs.Image.{AreNamed};
 ghost use Rattle.rz_tools_output.specs.Base.{attributes_asked, base_with};
 ghost use Rattle.rz_tools_output.specs.Output.{file_of, list_fork, mac_time, past_limit, target, IsFileOf, IsLimit, IsOutput};
 
-use crate::base::{Base, READ_ONLY};
+use crate::base::Base;
 use crate::target::Target;
+use bitflags::Flags;
 use rz_bridge::{Finder, MacFile};
 use rz_bridge_files::{named, write_as};
 use rz_bridge_form::Form;
 use rz_core::{Bytes, Fault, Kept, Moment, Resources, Stop};
-use rz_fork::{LimitFault, write_fork};
+use rz_fork::{LimitFault, MapAttributes, write_fork};
 use std::alloc::Global;
 
 /// The file that is written of the resources: their fork with the attributes and the reserved bytes to begin with, read only
@@ -45,11 +46,11 @@ pub fn write_output(
 }
 
 /// The attributes of the map that is written.
-fn attributes_asked(read_only: bool, base: &Base) -> u16
+fn attributes_asked(read_only: bool, base: &Base) -> MapAttributes
     ensures { (others : List ResourceOf) → result ≡ attributes_asked read_only (base_with base.now others) }
 {
     if read_only {
-        base.attributes | READ_ONLY
+        base.attributes.union(MapAttributes::READ_ONLY)
     } else {
         base.attributes
     }
@@ -117,7 +118,7 @@ fn now_of(moment: Moment) -> u32
 fn write_list(
     alloc: Global,
     list: &Resources,
-    attributes: u16,
+    attributes: MapAttributes,
     reserved: &[u8],
 ) -> Result<Bytes, Stop<Fault>>
     requires keys { KeysDiffer [] list.now }

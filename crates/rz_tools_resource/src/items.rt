@@ -29,7 +29,7 @@ pub fn with_files<F: Folder>(
         Yields result (λ answer. items_given answer ≡ items_read paths.now files mark known.now (plain_items items))) }
     ensures within { (files : ℕ) → AreItemsWithin files (plain_items items) → IfOk result (λ made. AreItemsWithin files (plain_items made)) }
     ensures nameable { (files : ℕ) → mark.file < files → OnRefusal result (IsNameable files) }
-    ensures reads { OnlyReads F.files F.read_faults F.write_faults folder.old folder.new (IsReadFault result) }
+    ensures reads { OnlyReads F.Folder folder.old folder.new (IsReadFault result) }
 {
     if items_name(items.as_slice()) {
         return read_items(alloc, folder, paths, items, mark, known);
@@ -53,7 +53,7 @@ fn read_items<F: Folder>(
         Yields result (λ answer. items_given answer ≡ items_read paths.now files mark known.now (plain_items items))) }
     ensures within { (files : ℕ) → AreItemsWithin files (plain_items items) → IfOk result (λ made. AreItemsWithin files (plain_items made)) }
     ensures nameable { (files : ℕ) → mark.file < files → OnRefusal result (IsNameable files) }
-    ensures reads { OnlyReads F.files F.read_faults F.write_faults folder.old folder.new (IsReadFault result) }
+    ensures reads { OnlyReads F.Folder folder.old folder.new (IsReadFault result) }
 {
     let mut made = Items::new(alloc);
     for item in items.into_vec() {
@@ -78,7 +78,7 @@ fn read_item<F: Folder>(
     ensures read { IfSome (F.files folder.old) (λ files. Yields result (λ answer. item_given answer ≡ item_read paths.now files mark known.now (plain_item item))) }
     ensures within { (files : ℕ) → IsItemWithin files (plain_item item) → IfOk result (λ made. IsItemWithin files (plain_item made)) }
     ensures nameable { (files : ℕ) → mark.file < files → OnRefusal result (IsNameable files) }
-    ensures reads { OnlyReads F.files F.read_faults F.write_faults folder.old folder.new (IsReadFault result) }
+    ensures reads { OnlyReads F.Folder folder.old folder.new (IsReadFault result) }
 {
     match item {
         Item::Number(expr, place) => Ok(Item::Number(expr, place)),

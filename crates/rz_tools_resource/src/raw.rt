@@ -34,7 +34,7 @@ pub fn resource_of<F: Folder>(
     ensures resource { IfSome (F.files folder.old) (λ files. Yields result (λ answer. answer ≡ resource_of (around setting paths.now files) mark (raw_of raw))) }
     ensures named { IfOk result (λ resource. length resource.name < 256) }
     ensures nameable { (files : ℕ) → mark.file < files → OnRefusal result (IsNameable files) }
-    ensures reads { OnlyReads F.files F.read_faults F.write_faults folder.old folder.new (IsReadFault result) }
+    ensures reads { OnlyReads F.Folder folder.old folder.new (IsReadFault result) }
 {
     let RawStmt { kind, head, texts } = raw;
     let said = facts_of(alloc, kind, &head, mark, setting);
@@ -61,7 +61,7 @@ fn with_text<F: Folder>(
     ensures resource { IfSome (F.files folder.old) (λ files. Yields result (λ answer. answer ≡ with_text paths.now files mark (plain_parts texts) known)) }
     ensures named { IfOk result (λ resource. length resource.name < 256) }
     ensures nameable { (files : ℕ) → mark.file < files → OnRefusal result (IsNameable files) }
-    ensures reads { OnlyReads F.files F.read_faults F.write_faults folder.old folder.new (IsReadFault result) }
+    ensures reads { OnlyReads F.Folder folder.old folder.new (IsReadFault result) }
 {
     match contents_read(alloc, folder, paths, texts, mark, &known) {
         Ok(bytes) => Ok(with_bytes(known, bytes)),
@@ -81,7 +81,7 @@ fn contents_read<F: Folder>(
     ensures contents { IfSome (F.files folder.old) (λ files.
         Yields result (λ answer. answer ≡ contents_read paths.now files mark known.now (plain_parts texts))) }
     ensures nameable { (files : ℕ) → mark.file < files → OnRefusal result (IsNameable files) }
-    ensures reads { OnlyReads F.files F.read_faults F.write_faults folder.old folder.new (IsReadFault result) }
+    ensures reads { OnlyReads F.Folder folder.old folder.new (IsReadFault result) }
 {
     match with_files(alloc, folder, paths, texts, mark, known) {
         Ok(texts) => bytes_halted(contents_of(alloc, &texts, mark, known)),
@@ -101,7 +101,7 @@ fn with_files<F: Folder>(
     ensures read { IfSome (F.files folder.old) (λ files.
         Yields result (λ answer. texts_given answer ≡ texts_read paths.now files mark known.now (plain_parts texts))) }
     ensures nameable { (files : ℕ) → mark.file < files → OnRefusal result (IsNameable files) }
-    ensures reads { OnlyReads F.files F.read_faults F.write_faults folder.old folder.new (IsReadFault result) }
+    ensures reads { OnlyReads F.Folder folder.old folder.new (IsReadFault result) }
 {
     if names_file(&texts) {
         return read_texts(alloc, folder, paths, texts, mark, known);

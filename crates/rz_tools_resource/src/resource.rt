@@ -43,7 +43,7 @@ pub fn resource_of_items<F: Folder>(
     ensures resource { IfSome (F.files folder.old) (λ files. Yields result (IsResource (around setting paths.now files) mark (table_of types.now) (compile_of stmt))) }
     ensures named { IfOk result (λ resource. length resource.name < 256) }
     ensures nameable { (files : ℕ) → mark.file < files → AreItemsWithin files (plain_items stmt.items) → OnRefusal result (IsNameable files) }
-    ensures reads { OnlyReads F.files F.read_faults F.write_faults folder.old folder.new (IsReadFault result) }
+    ensures reads { OnlyReads F.Folder folder.old folder.new (IsReadFault result) }
 {
     let CompileStmt { kind, head, items } = stmt;
     let said = facts_of(alloc, kind, &head, mark, setting);
@@ -67,7 +67,7 @@ fn bytes_of<F: Folder>(
 ) -> Result<Bytes, Halt<Fault>>
     ensures bytes { IfSome (F.files folder.old) (λ files. Yields result (AreBytes paths.now files mark (table_of types.now) (plain_items items) known.now)) }
     ensures nameable { (files : ℕ) → mark.file < files → AreItemsWithin files (plain_items items) → OnRefusal result (IsNameable files) }
-    ensures reads { OnlyReads F.files F.read_faults F.write_faults folder.old folder.new (IsReadFault result) }
+    ensures reads { OnlyReads F.Folder folder.old folder.new (IsReadFault result) }
 {
     match template_for(types, known) {
         Some(template) => bytes_read(alloc, folder, paths, items, mark, known, template),
@@ -95,7 +95,7 @@ fn bytes_read<F: Folder>(
 ) -> Result<Bytes, Halt<Fault>>
     ensures bytes { IfSome (F.files folder.old) (λ files. Yields result (AreReadBytes paths.now files mark known.now (plain_items items) (template_of template.now))) }
     ensures nameable { (files : ℕ) → mark.file < files → AreItemsWithin files (plain_items items) → OnRefusal result (IsNameable files) }
-    ensures reads { OnlyReads F.files F.read_faults F.write_faults folder.old folder.new (IsReadFault result) }
+    ensures reads { OnlyReads F.Folder folder.old folder.new (IsReadFault result) }
 {
     match with_files(alloc, folder, paths, items, mark, known) {
         Ok(items) => Ok(bytes_under(alloc, &items, mark, known, template)?),

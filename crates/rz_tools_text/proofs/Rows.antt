@@ -1,6 +1,6 @@
 -- How a resource is put: by the row that its bytes tell, or by its bytes.
-use Rattle.std.proofs.Common.{◌≡◌, ◌++◌, ℕ, Bool, true, false, if◌then◌else◌, List, [], ◌∷◌, map, Option, Some, None, Ok, Err, refl, sym, ap, subst, ◌∙◌, append_assoc, append-nil}
-use Rattle.std.specs.Prelude.{◌||◌, IfOk}
+use Rattle.std.proofs.Common.{◌≡◌, ◌++◌, ℕ, Bool, true, false, if◌then◌else◌, List, [], ◌∷◌, map, Option, Some, None, Ok, Err, refl, sym, ap, subst, ◌∙◌, append_assoc}
+use Rattle.std.specs.Prelude.{◌||◌, ℤ, codes, IfOk}
 use Rattle.std.specs.List.{concat, list_any}
 use Rattle.std.specs.Str.{bytes_eq, str_to_ascii_lowercase}
 use Rattle.std.specs.declared.result.Result.{Result}
@@ -13,17 +13,19 @@ use Rattle.rz_core.specs.declared.resource.Resource.{Resource}
 use Rattle.rz_core.specs.declared.resource.Word.{Word}
 use Rattle.rz_core.specs.declared.stop.NoMemory.{NoMemory}
 use Rattle.rz_types_fields.specs.declared.tree.Tree.{Tree}
-use Rattle.rz_folder.specs.Sink.{Puts, PutsFront}
+use Rattle.rz_folder.proofs.Streams.{got_none, told_same}
+use Rattle.rz_folder.specs.Sink.{GotPart, Puts, PutsFront, Stream}
 use Rattle.rz_folder.specs.declared.sink.Put.{Put}
 use Rattle.rz_pre.specs.Reading.{is_among}
 use Rattle.rz_show.specs.Hidden.{hides}
 use Rattle.rz_show.specs.Shown.{row_uses}
 use Rattle.rz_show.specs.declared.hidden.Hidden.{Hidden}
-use Rattle.rz_show.specs.Showing.{by_bytes, by_row, showing_text, Showing}
-use Rattle.rz_show.specs.Statement.{data_lines, row_lines}
+use Rattle.rz_show.specs.Head.{head_lines}
+use Rattle.rz_show.specs.Showing.{by_bytes, by_row, showing_lines, showing_text, Showing}
+use Rattle.rz_show.specs.Statement.{close_lines, data_items, data_lines, row_items, row_lines, statement_lines}
+use Rattle.rz_show_lines.specs.Print.{list_lines, Prints}
 use Rattle.rz_show_lines.specs.Written.{as_line, line_text, lines_text, Written}
 use Rattle.rz_tools_text.specs.Held.{macros_held}
-use Rattle.rz_tools_text.proofs.Lists.{text_put}
 use Rattle.rz_types_table.specs.Table.{declared_for}
 use Rattle.rz_tools_text.specs.Shown.{its_bytes, its_row, IsShownBy, Known, Shown, TellsRow}
 use Rattle.rz_types.specs.Field.{PlainBody}
@@ -63,20 +65,39 @@ lines_bytes (line ∷ lines) = append_assoc (line_text line) (10 ∷ []) (concat
 abbrev pub OneShowing : Type 0
 OneShowing = (known : Known) (r : Resource) (one other : Showing) → IsShownBy known r one → IsShownBy known r other → one ≡ other
 
+-- A resource has a line at least.
+
+some_behind : {A : Type 0} (xs ys : List A) → (ys ≡ [] → ⊥) → xs ++ ys ≡ [] → ⊥
+some_behind [] ys some = some
+some_behind (x ∷ xs) ys some = λ e. cc e
+
+statement_some : (word : List ℕ) (code : ℕ) (id : ℤ) (name : List ℕ) (attr : ℕ) (items : Prints) → statement_lines word code id name attr items ≡ [] → ⊥
+unfolding statement_lines
+statement_some word code id name attr items =
+    some_behind (head_lines word code id name attr) (list_lines 1 items ++ close_lines) (some_behind (list_lines 1 items) close_lines (λ e. cc e))
+
+some_lines : (lines : List (List Written)) → (lines ≡ [] → ⊥) → lines_text lines ≡ [] → ⊥
+some_lines [] some = λ e. some refl
+some_lines (line ∷ lines) some = some_behind (line_text line) (10 ∷ lines_text lines) (λ e. cc e)
+
+showing_some : (hidden : List ℕ → Bool) (showing : Showing) → showing_text hidden showing ≡ [] → ⊥
+showing_some hidden (by_bytes r) =
+    some_lines (showing_lines hidden (by_bytes r)) (statement_some (codes "data") r.kind.code r.id r.name r.attr (data_items r.bytes))
+showing_some hidden (by_row r body row) =
+    some_lines (showing_lines hidden (by_row r body row)) (statement_some (codes "resource") r.kind.code r.id r.name r.attr (row_items hidden body row))
+
 -- memory was refused before anything was put
-pub nothing_put : (text : List ℕ) (before : Option (List ℕ)) (refused : NoMemory) → PutsFront text before before (Err refused)
-nothing_put text None refused = tt
-nothing_put text (Some before) refused = (0, ap Some (sym (append-nil before)))
+pub nothing_put : (known : Known) (r : Resource) (text : List ℕ) → Shown known r text → (before : Option Stream) (refused : NoMemory) → PutsFront text before before (Err refused)
+nothing_put known r text (showing, by, is) before refused =
+    told_same (GotPart text) (λ s. (text, λ none. showing_some known.is_macro showing (sym is ∙ none), got_none text s)) before
 
 module _ (one : OneShowing) (known : Known) (r : Resource) (facts : Facts) (are : facts ≡ facts_of known.moment r)
-    (before after : Option (List ℕ)) (result : Put) (text : List ℕ) (shown : Shown known r text) where
+    (before after : Option Stream) (result : Put) (text : List ℕ) (shown : Shown known r text) where
   -- the lines of a resource are its text, in which way ever it is shown
   showing_put : (showing : Showing) → IsShownBy known r showing → (lines : List (List ℕ)) → concat lines ≡ showing_text known.is_macro showing
       → Puts (concat lines) before after result → PutsFront text before after (Ok result)
   showing_put showing by lines same told =
-      text_put text before after result (
-      subst (λ (t : List ℕ). Puts t before after result)
-      (same ∙ ap (showing_text known.is_macro) (one known r showing shown.0 by shown.1) ∙ sym shown.2) told)
+      subst (λ (t : List ℕ). Puts t before after result) (same ∙ ap (showing_text known.is_macro) (one known r showing shown.0 by shown.1) ∙ sym shown.2) told
 
   bytes_put : IsShownBy known r (by_bytes r) → (lines : List (List ℕ)) → lines ≡ map as_line (data_lines facts r.bytes)
       → Puts (concat lines) before after result → PutsFront text before after (Ok result)

@@ -74,7 +74,7 @@ pub fn put_resource<O: Sink>(
     known: &Known,
     out: &mut O,
 ) -> Result<Put, NoMemory>
-    ensures told { (text : List ℕ) → Shown (known_of known.now) (lent view.now) text → PutsFront text (O.written out.old) (O.written out.new) result }
+    ensures told { (text : List ℕ) → Shown (known_of known.now) (lent view.now) text → PutsFront text (O.stream out.old) (O.stream out.new) result }
     ensures counted { O.faults out.old ≤ O.faults out.new }
     ensures cause { result ≡ Ok Put.Failed → Rose (O.faults out.old) (O.faults out.new) }
 {
@@ -88,7 +88,7 @@ pub fn put_resource<O: Sink>(
 
 /// Puts lines, up to one whose put fails.
 fn put_lines<O: Sink>(lines: ShowLines<'_>, out: &mut O) -> Put
-    ensures told { Puts (concat lines.entry) (O.written out.old) (O.written out.new) result }
+    ensures told { Puts (concat lines.entry) (O.stream out.old) (O.stream out.new) result }
     ensures counted { O.faults out.old ≤ O.faults out.new }
     ensures cause { result ≡ Put.Failed → Rose (O.faults out.old) (O.faults out.new) }
 {
@@ -126,7 +126,7 @@ fn put_under<O: Sink>(
 ) -> Result<Put, NoMemory>
     requires facts { facts.now ≡ facts_of known.now.moment (lent view.now) }
     requires declared { declared_for (table_of known.now.types) (lent view.now) ≡ Some (template_of template.now) }
-    ensures told { (text : List ℕ) → Shown (known_of known.now) (lent view.now) text → PutsFront text (O.written out.old) (O.written out.new) result }
+    ensures told { (text : List ℕ) → Shown (known_of known.now) (lent view.now) text → PutsFront text (O.stream out.old) (O.stream out.new) result }
     ensures counted { O.faults out.old ≤ O.faults out.new }
     ensures cause { result ≡ Ok Put.Failed → Rose (O.faults out.old) (O.faults out.new) }
 {

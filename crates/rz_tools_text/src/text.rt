@@ -2,7 +2,7 @@
 
 ghost use Rattle.std.specs.Prelude.{◌≡◌, ◌≤◌, ◌<◌, ◌^◌, ◌∷◌, [], ℕ, List, length, Ok};
 ghost use Rattle.rz_folder.specs.Counts.{Rose};
-ghost use Rattle.rz_folder.specs.Sink.{PutsFront};
+ghost use Rattle.rz_folder.specs.Sink.{PutsFront, PutsOut};
 ghost use Rattle.rz_fork.specs.Admit.{admitted};
 ghost use Rattle.rz_fork.specs.Contents.{Fork};
 ghost use Rattle.rz_fork.specs.View.{lent};
@@ -33,14 +33,15 @@ pub struct ForkText {
 }
 
 impl ForkText {
-    /// Puts the text, one line after the other, and flushes the sink. Beside the bytes of the fork it holds, of one resource
-    /// at a time, the name and, under a template, the row. `Failed` is that of the first put that failed, or of the flush:
-    /// nothing is put after a put that failed. Every fork can be shown: `NoMemory` is the only refusal, and what was put
-    /// till then stays. (MPW DeRez.)
+    /// Puts the text, one line after the other, and flushes the sink: after `Done` the whole text is out, and nothing
+    /// is held back. Beside the bytes of the fork it holds, of one resource at a time, the name and, under a
+    /// template, the row. `Failed` is that of the first put that failed, or of the flush: nothing is put after a put
+    /// that failed. Every fork can be shown: `NoMemory` is the only refusal, and comes before the whole text is put;
+    /// what was put till then stays. (MPW DeRez.)
     pub fn put<O: Sink>(&self, alloc: Global, out: &mut O) -> Result<Put, NoMemory>
         requires short { length self.now.fork < 2 ^ 32 }
         requires admitted { (fork : Fork) × (admitted self.now.fork ≡ Ok fork) }
-        ensures told { (text : List ℕ) → IsTextOf self.now text → PutsFront text (O.written out.old) (O.written out.new) result }
+        ensures told { (text : List ℕ) → IsTextOf self.now text → PutsOut text (O.stream out.old) (O.stream out.new) result }
         ensures counted { O.faults out.old ≤ O.faults out.new }
         ensures cause { result ≡ Ok Put.Failed → Rose (O.faults out.old) (O.faults out.new) }
     {
@@ -61,7 +62,7 @@ impl ForkText {
         out: &mut O,
     ) -> Result<Put, NoMemory>
         ensures told { (text : List ℕ) → ShowsEach (known_of self.now.known) (chosen self.now.only self.now.skip fork.now.list) text
-            → PutsFront text (O.written out.old) (O.written out.new) result }
+            → PutsFront text (O.stream out.old) (O.stream out.new) result }
         ensures counted { O.faults out.old ≤ O.faults out.new }
         ensures cause { result ≡ Ok Put.Failed → Rose (O.faults out.old) (O.faults out.new) }
     {
@@ -83,7 +84,7 @@ impl ForkText {
         out: &mut O,
     ) -> Result<Put, NoMemory>
         ensures told { (text : List ℕ) → ShowsEach (known_of self.now.known) (chosen self.now.only self.now.skip (lent view.now ∷ [])) text
-            → PutsFront text (O.written out.old) (O.written out.new) result }
+            → PutsFront text (O.stream out.old) (O.stream out.new) result }
         ensures counted { O.faults out.old ≤ O.faults out.new }
         ensures cause { result ≡ Ok Put.Failed → Rose (O.faults out.old) (O.faults out.new) }
     {

@@ -36,7 +36,7 @@ pub fn read_templates<F: Folder>(
 ) -> Result<TypeTable, Halt<Fault>>
     ensures types { IfSome (F.files folder.old) (λ files. Yields (seen table_of result) (TypesOf (option_map (λ name. name.now) name.entry) files)) }
     ensures nameable { (files : ℕ) → OnRefusal result (IsNameable files) }
-    ensures reads { OnlyReads F.files F.read_faults F.write_faults folder.old folder.new (IsReadFault result) }
+    ensures reads { OnlyReads F.Folder folder.old folder.new (IsReadFault result) }
 {
     match name {
         Some(name) => templates_at(alloc, folder, name),
@@ -52,7 +52,7 @@ fn templates_at<F: Folder>(
 ) -> Result<TypeTable, Halt<Fault>>
     ensures types { IfSome (F.files folder.old) (λ files. Yields (seen table_of result) (TypesAt name.now (finite.get files name.now))) }
     ensures nameable { (files : ℕ) → OnRefusal result (IsNameable files) }
-    ensures reads { OnlyReads F.files F.read_faults F.write_faults folder.old folder.new (IsReadFault result) }
+    ensures reads { OnlyReads F.Folder folder.old folder.new (IsReadFault result) }
 {
     match folder.read(alloc, name) {
         Read::Bytes(bytes) => templates_in(alloc, bytes),

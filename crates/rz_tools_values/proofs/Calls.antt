@@ -1,12 +1,13 @@
 -- Calls one after the other: a call that stops stops all, and one that gives a value goes on with it.
-use Rattle.std.proofs.Common.{◌≡◌, ℕ, Ok, Err, refl, sym, ap, subst, arith}
-use Rattle.std.specs.declared.option.Option.{Option}
+use Rattle.std.proofs.Common.{◌≡◌, Ok, Err, sym, ap, subst}
 use Rattle.std.specs.declared.result.Result.{Result}
 use Rattle.rz_core.specs.Stop.{Gives, OnFault, ◌>>=◌, halt_of, IsReadFault, OnRefusal, Yields}
 use Rattle.rz_core.specs.declared.fault.Fault.{Fault}
 use Rattle.rz_core.specs.declared.stop.Stop.{Stop}
-use Rattle.rz_folder.specs.Folder.{Files}
+use Rattle.rz_folder.proofs.Reading as reading
+use Rattle.rz_folder.proofs.Reading.{reads_as}
 use Rattle.rz_folder.specs.OnlyReads.{OnlyReads}
+use Rattle.rz_folder.specs.declared.folder.Folder.{Ghosts}
 use Rattle.rz_core.specs.declared.stop.Halt.{Halt}
 use Rattle.rz_core.specs.declared.stop.Halt.TheVariants.{NoMemory, ReadFault, Refused}
 use Rattle.rz_core.specs.declared.stop.Stop.TheVariants as stops
@@ -58,11 +59,11 @@ stop_unread X stop halt is failed = by stop (subst (λ (h : Halt Fault). IsReadF
     by (stops.Refused fault) failed = failed
     by stops.NoMemory failed = failed
 
-module _ {F : Type 0} (files : F → Option Files) (read_faults write_faults : F → ℕ) where
+module _ {F : Type 0} (g : Ghosts F) where
   -- a call that reads nothing
-  pub reads_nothing : (folder : F) (Failed : Type 0) → (Failed → ⊥) → OnlyReads files read_faults write_faults folder folder Failed
-  reads_nothing folder Failed never = record { unchanged = refl; counted = omega arith; other_count = refl; cause = λ failed. absurd (never failed) }
+  pub reads_nothing : (folder : F) (Failed : Type 0) → (Failed → ⊥) → OnlyReads g folder folder Failed
+  reads_nothing folder Failed never = reads_as g folder folder never (reading.reads_nothing g folder)
 
   -- a call that reads, and after it one that doesn't
-  pub reads_first : (old new : F) (Failed : Type 0) → (Failed → ⊥) → OnlyReads files read_faults write_faults old new ⊥ → OnlyReads files read_faults write_faults old new Failed
-  reads_first old new Failed never reads = record { unchanged = reads.unchanged; counted = reads.counted; other_count = reads.other_count; cause = λ failed. absurd (never failed) }
+  pub reads_first : (old new : F) (Failed : Type 0) → (Failed → ⊥) → OnlyReads g old new ⊥ → OnlyReads g old new Failed
+  reads_first old new Failed never reads = reads_as g old new never reads

@@ -26,7 +26,7 @@ pub fn file_named<F: Folder>(
     ensures read { IfSome (F.files folder.old) (λ files. Yields result (λ answer. answer ≡ file_named paths.now files mark name.now)) }
     ensures short { IfOk result (λ bytes. length bytes < 2 ^ 32) }
     ensures nameable { (files : ℕ) → mark.file < files → OnRefusal result (IsNameable files) }
-    ensures reads { OnlyReads F.files F.read_faults F.write_faults folder.old folder.new (IsReadFault result) }
+    ensures reads { OnlyReads F.Folder folder.old folder.new (IsReadFault result) }
 {
     let names = names_of(alloc, paths, name)?;
     read_file(alloc, folder, &names, mark, name)
@@ -55,7 +55,7 @@ pub fn file_of_name<F: Folder>(
     ensures file { IfSome (F.files folder.old) (λ files. Yields result (λ answer. answer ≡ file_of_name paths.now files mark name.now)) }
     ensures res_fork { IfOk result (λ file. length file.res_fork < 2 ^ 32) }
     ensures nameable { (files : ℕ) → mark.file < files → OnRefusal result (IsNameable files) }
-    ensures reads { OnlyReads F.files F.read_faults F.write_faults folder.old folder.new (IsReadFault result) }
+    ensures reads { OnlyReads F.Folder folder.old folder.new (IsReadFault result) }
 {
     match file_named(alloc, folder, paths, name, mark) {
         Ok(bytes) => file_told(alloc, bytes, mark),

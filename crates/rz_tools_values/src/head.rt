@@ -8,6 +8,7 @@ ghost use Rattle.rz_tools_values.specs.Head.{bits_behind, bits_behind_all, byte_
 ghost use Rattle.rz_types.specs.Text.{plain_parts};
 
 use crate::setting::Setting;
+use bitflags::Flags;
 use rz_core::{Attr, Bytes, Facts, Fault, Kept, Mark, OsType, Stop};
 use rz_stmt_data::{AttrPart, AttrParts, HeadExpr};
 use rz_types::{Texts, number_of, text_of};
@@ -53,7 +54,7 @@ fn known_by_head(
         kind: begun.kind,
         id,
         name,
-        attr: Attr::of(attr),
+        attr,
         moment: begun.moment,
     })
 }
@@ -66,7 +67,7 @@ pub fn head_facts(alloc: Global, kind: OsType, setting: Setting) -> Facts
         kind,
         id: 0,
         name: Bytes::new(alloc),
-        attr: Attr::of(0),
+        attr: Attr::empty(),
         moment: setting.moment,
     }
 }
@@ -111,42 +112,42 @@ pub fn bits_of(
     attributes: &AttrParts,
     mark: Mark,
     facts: &Facts,
-) -> Result<u8, Stop<Fault>>
+) -> Result<Attr, Stop<Fault>>
     ensures bits { Gives (bits_behind_all mark facts.now 0 (map attribute_of attributes.now)) result }
     ensures nameable { (files : ℕ) → mark.file < files → OnFault result (IsNameable files) }
 {
-    let mut byte = 0;
+    let mut attr = Attr::empty();
     for attribute in attributes.as_slice() {
-        byte = bits_behind(alloc, byte, attribute, mark, facts)?;
+        attr = bits_behind(alloc, attr, attribute, mark, facts)?;
     }
-    Ok(byte)
+    Ok(attr)
 }
 
 /// The bits after an attribute.
 fn bits_behind(
     alloc: Global,
-    byte: u8,
+    attr: Attr,
     attribute: &AttrPart,
     mark: Mark,
     facts: &Facts,
-) -> Result<u8, Stop<Fault>>
-    ensures bits { Gives (bits_behind mark facts.now byte (attribute_of attribute.now)) result }
+) -> Result<Attr, Stop<Fault>>
+    ensures bits { Gives (bits_behind mark facts.now attr (attribute_of attribute.now)) result }
     ensures nameable { (files : ℕ) → mark.file < files → OnFault result (IsNameable files) }
 {
     match attribute {
-        AttrPart::Set(bit) => Ok(byte | *bit),
-        AttrPart::Clear(bit) => Ok(byte & (0xFF - *bit)),
+        AttrPart::Set(bit) => Ok(attr.union(*bit)),
+        AttrPart::Clear(bit) => Ok(attr.difference(*bit)),
         AttrPart::Value(expr) => byte_of(number_of(alloc, expr, mark, facts)?, mark),
     }
 }
 
-/// The byte that a value is.
-fn byte_of(value: i32, mark: Mark) -> Result<u8, Stop<Fault>>
+/// The attributes whose byte a value is.
+fn byte_of(value: i32, mark: Mark) -> Result<Attr, Stop<Fault>>
     ensures byte { Gives (byte_of mark value) result }
     ensures nameable { (files : ℕ) → mark.file < files → OnFault result (IsNameable files) }
 {
     if 0 <= value && value <= 255 {
-        Ok(value as u8)
+        Ok(Attr::of(value as u8))
     } else {
         Err(Stop::Refused(keeps_number(207, mark, i64::from(value))))
     }

@@ -35,7 +35,7 @@ pub fn read_texts<F: Folder>(
     ensures read { IfSome (F.files folder.old) (λ files.
         Yields result (λ answer. texts_given answer ≡ texts_read paths.now files mark known.now (plain_parts texts))) }
     ensures nameable { (files : ℕ) → mark.file < files → OnRefusal result (IsNameable files) }
-    ensures reads { OnlyReads F.files F.read_faults F.write_faults folder.old folder.new (IsReadFault result) }
+    ensures reads { OnlyReads F.Folder folder.old folder.new (IsReadFault result) }
 {
     let mut made = Texts::new(alloc);
     for part in texts.into_vec() {
@@ -60,7 +60,7 @@ fn read_part<F: Folder>(
     ensures read { IfSome (F.files folder.old) (λ files.
         Yields result (λ answer. part_given answer ≡ part_read paths.now files mark known.now (plain_part part))) }
     ensures nameable { (files : ℕ) → mark.file < files → OnRefusal result (IsNameable files) }
-    ensures reads { OnlyReads F.files F.read_faults F.write_faults folder.old folder.new (IsReadFault result) }
+    ensures reads { OnlyReads F.Folder folder.old folder.new (IsReadFault result) }
 {
     match part {
         TextPart::Plain(bytes) => Ok(TextPart::Plain(bytes)),
@@ -114,7 +114,7 @@ fn read_arguments<F: Folder>(
     ensures read { IfSome (F.files folder.old) (λ files.
         Yields result (λ answer. arguments_given answer ≡ arguments_read paths.now files mark known.now (arguments_of (plain_arguments arguments)))) }
     ensures nameable { (files : ℕ) → mark.file < files → OnRefusal result (IsNameable files) }
-    ensures reads { OnlyReads F.files F.read_faults F.write_faults folder.old folder.new (IsReadFault result) }
+    ensures reads { OnlyReads F.Folder folder.old folder.new (IsReadFault result) }
 {
     let mut made = FormatArgs::new(alloc);
     for argument in arguments.into_vec() {
@@ -139,7 +139,7 @@ fn read_argument<F: Folder>(
     ensures read { IfSome (F.files folder.old) (λ files.
         Yields result (λ answer. argument_given answer ≡ argument_read paths.now files mark known.now (plain_argument argument))) }
     ensures nameable { (files : ℕ) → mark.file < files → OnRefusal result (IsNameable files) }
-    ensures reads { OnlyReads F.files F.read_faults F.write_faults folder.old folder.new (IsReadFault result) }
+    ensures reads { OnlyReads F.Folder folder.old folder.new (IsReadFault result) }
 {
     match argument {
         FormatArg::Number(expr) => Ok(FormatArg::Number(expr)),
@@ -164,7 +164,7 @@ fn resource_named<F: Folder>(
     ensures read { IfSome (F.files folder.old) (λ files.
         Yields result (λ answer. answer ≡ resource_named paths.now files mark known.now name.now kind (plain_key key.now))) }
     ensures nameable { (files : ℕ) → mark.file < files → OnRefusal result (IsNameable files) }
-    ensures reads { OnlyReads F.files F.read_faults F.write_faults folder.old folder.new (IsReadFault result) }
+    ensures reads { OnlyReads F.Folder folder.old folder.new (IsReadFault result) }
 {
     match key_said(alloc, key, mark, known) {
         Ok(pick) => resource_bytes(alloc, folder, paths, name, kind, &pick, mark),
@@ -184,7 +184,7 @@ fn resource_bytes<F: Folder>(
 ) -> Result<Bytes, Halt<Fault>>
     ensures read { IfSome (F.files folder.old) (λ files. Yields result (λ answer. answer ≡ resource_bytes paths.now files mark name.now kind pick.now)) }
     ensures nameable { (files : ℕ) → mark.file < files → OnRefusal result (IsNameable files) }
-    ensures reads { OnlyReads F.files F.read_faults F.write_faults folder.old folder.new (IsReadFault result) }
+    ensures reads { OnlyReads F.Folder folder.old folder.new (IsReadFault result) }
 {
     match file_of_name(alloc, folder, paths, name, mark) {
         Ok(file) => bytes_halted(bytes_in(alloc, file.res_fork.as_slice(), kind, pick, mark)),

@@ -54,7 +54,7 @@ pub fn include_resources<F: Folder>(
     ensures included { IfSome (F.files folder.old) (λ files.
         Yields (left resources.new result) (λ answer. answer ≡ list_including (around setting paths.now files) mark resources.old (include_of stmt.now))) }
     ensures nameable { (files : ℕ) → mark.file < files → OnRefusal result (IsNameable files) }
-    ensures reads { OnlyReads F.files F.read_faults F.write_faults folder.old folder.new (IsReadFault result) }
+    ensures reads { OnlyReads F.Folder folder.old folder.new (IsReadFault result) }
 {
     match file_of_name(alloc, folder, paths, stmt.file.as_slice(), mark) {
         Ok(file) => {

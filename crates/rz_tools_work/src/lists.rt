@@ -44,7 +44,7 @@ pub fn list_step<F: Folder>(
     ensures stepped { IfSome (F.files folder.old) (λ files.
         Yields (left resources.new result) (λ answer. answer ≡ list_after (around setting paths.now files) mark resources.old (list_of stmt.now))) }
     ensures nameable { (files : ℕ) → mark.file < files → OnRefusal result (IsNameable files) }
-    ensures reads { OnlyReads F.files F.read_faults F.write_faults folder.old folder.new (IsReadFault result) }
+    ensures reads { OnlyReads F.Folder folder.old folder.new (IsReadFault result) }
 {
     match stmt {
         ListStmt::Include(stmt) => {

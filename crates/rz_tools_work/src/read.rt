@@ -34,7 +34,7 @@ pub fn read_resource<F: Folder>(
     ensures read { IfSome (F.files folder.old) (λ files.
         Yields (left resources.new result) (λ answer. answer ≡ list_reading (around setting paths.now files) mark resources.old (read_of stmt.now))) }
     ensures nameable { (files : ℕ) → mark.file < files → OnRefusal result (IsNameable files) }
-    ensures reads { OnlyReads F.files F.read_faults F.write_faults folder.old folder.new (IsReadFault result) }
+    ensures reads { OnlyReads F.Folder folder.old folder.new (IsReadFault result) }
 {
     match resource_read(alloc, folder, paths, stmt, mark, setting) {
         Ok(resource) => halted(put(resources, resource, setting.over, mark)),
@@ -54,7 +54,7 @@ fn resource_read<F: Folder>(
     ensures read { IfSome (F.files folder.old) (λ files. Yields result (λ answer. answer ≡ resource_read (around setting paths.now files) mark (read_of stmt.now))) }
     ensures named { IfOk result (λ resource. length resource.name < 256) }
     ensures nameable { (files : ℕ) → mark.file < files → OnRefusal result (IsNameable files) }
-    ensures reads { OnlyReads F.files F.read_faults F.write_faults folder.old folder.new (IsReadFault result) }
+    ensures reads { OnlyReads F.Folder folder.old folder.new (IsReadFault result) }
 {
     match facts_of(alloc, stmt.kind, &stmt.head, mark, setting) {
         Ok(known) => with_file(alloc, folder, paths, known, stmt.file.as_slice(), mark),
@@ -75,7 +75,7 @@ fn with_file<F: Folder>(
     ensures read { IfSome (F.files folder.old) (λ files. Yields result (λ answer. answer ≡ with_file paths.now files mark name.now known)) }
     ensures named { IfOk result (λ resource. length resource.name < 256) }
     ensures nameable { (files : ℕ) → mark.file < files → OnRefusal result (IsNameable files) }
-    ensures reads { OnlyReads F.files F.read_faults F.write_faults folder.old folder.new (IsReadFault result) }
+    ensures reads { OnlyReads F.Folder folder.old folder.new (IsReadFault result) }
 {
     match contents_named(alloc, folder, paths, name, mark) {
         Ok(bytes) => Ok(with_bytes(known, bytes)),
@@ -93,7 +93,7 @@ fn contents_named<F: Folder>(
 ) -> Result<Bytes, Halt<Fault>>
     ensures read { IfSome (F.files folder.old) (λ files. Yields result (λ answer. answer ≡ contents_named paths.now files mark name.now)) }
     ensures nameable { (files : ℕ) → mark.file < files → OnRefusal result (IsNameable files) }
-    ensures reads { OnlyReads F.files F.read_faults F.write_faults folder.old folder.new (IsReadFault result) }
+    ensures reads { OnlyReads F.Folder folder.old folder.new (IsReadFault result) }
 {
     match file_named(alloc, folder, paths, name, mark) {
         Ok(bytes) => short_contents(bytes, mark),

@@ -166,7 +166,7 @@ fn new_attributes(
         return Ok(None);
     }
     match bits_of(alloc, attributes, mark, known) {
-        Ok(byte) => Ok(Some(Attr::of(byte))),
+        Ok(attr) => Ok(Some(attr)),
         Err(stop) => Err(stop),
     }
 }

@@ -6,7 +6,7 @@ use Rattle.rz_expr.specs.Term.{BitsAt, Constant, FactOf, Indexed, Named, OfOne, 
 use Rattle.rz_types_fields.specs.Field.{plain_body, plain_field, PlainBody, PlainField}
 use Rattle.rz_types_fields.specs.Solve.{is_same_key}
 use Rattle.rz_types_fields.specs.Passed.{at_field, at_front, between, declares, gives_key, is_known, met_behind, nothing_passed, states, Names, Passed}
-use Rattle.rz_types_fields.specs.NameKey.{key_of}
+use Rattle.rz_expr.specs.NameKey.{key_of}
 use Rattle.rz_types.specs.declared.passed.Note.{Note}
 use Rattle.rz_types.specs.declared.passed.Note.TheVariants.{Front, Met, Told}
 

@@ -7,15 +7,15 @@ ghost use Rattle.rz_expr.specs.Term.{term_of};
 ghost use Rattle.rz_types_fields.specs.Field.{plain_body, plain_field, plain_text};
 ghost use Rattle.rz_types_fields.specs.Passed.{is_measured, is_near};
 ghost use Rattle.rz_types_fields.specs.Piece.{terms_of_text};
-ghost use Rattle.rz_types_fields.specs.NameKey.{key_of};
+ghost use Rattle.rz_expr.specs.NameKey.{key_of};
 ghost use Rattle.rz_types.specs.Notes.{first_unknown, known, meeting, passed, telling};
 ghost use Rattle.rz_types.specs.Readable.{all_known};
 
 use rz_core::NoMemory;
-use rz_expr::Expr;
+use rz_expr::{Expr, Key};
 use rz_types_fields::{
-    Field, KeyRef, TextField, declares, fixed_width, gives_key, is_label, is_predefined,
-    is_same_key, states, text_expressions,
+    Field, TextField, declares, fixed_width, gives_key, is_label, is_predefined, is_same_key,
+    states, text_expressions,
 };
 use std::alloc::Global;
 
@@ -25,13 +25,13 @@ pub enum Note<'a> {
     /// This field stands before: what it gives is met, a label, or an array and the labels in its rows.
     Met(&'a Field),
     /// A number before tells this name.
-    Told(KeyRef<'a>),
+    Told(Key<'a>),
     /// A body of these fields begins: none of the names that it declares is met, and those with a stated count are told.
     Front(&'a [Field]),
 }
 
 /// Whether a name is met after these notes, the oldest first.
-pub fn is_met(notes: &[Note<'_>], key: KeyRef<'_>) -> bool
+pub fn is_met(notes: &[Note<'_>], key: Key<'_>) -> bool
     ensures { result ≡ (passed notes.now).met (key_of key.entry) }
 {
     for newer in 0..notes.len() {
@@ -44,7 +44,7 @@ pub fn is_met(notes: &[Note<'_>], key: KeyRef<'_>) -> bool
 }
 
 /// Whether a name is met, where a note says it.
-fn meets(note: &Note<'_>, key: KeyRef<'_>) -> Option<bool>
+fn meets(note: &Note<'_>, key: Key<'_>) -> Option<bool>
     ensures { (before : Bool) → meeting note.now (key_of key.entry) before ≡ unwrap_or result before }
 {
     match *note {
@@ -61,7 +61,7 @@ fn meets(note: &Note<'_>, key: KeyRef<'_>) -> Option<bool>
 }
 
 /// Whether a name is told after these notes, the oldest first.
-pub fn is_told(notes: &[Note<'_>], key: KeyRef<'_>) -> bool
+pub fn is_told(notes: &[Note<'_>], key: Key<'_>) -> bool
     ensures { result ≡ (passed notes.now).told (key_of key.entry) }
 {
     for newer in 0..notes.len() {
@@ -74,7 +74,7 @@ pub fn is_told(notes: &[Note<'_>], key: KeyRef<'_>) -> bool
 }
 
 /// Whether a name is told, where a note says it.
-fn tells(note: &Note<'_>, key: KeyRef<'_>) -> Option<bool>
+fn tells(note: &Note<'_>, key: Key<'_>) -> Option<bool>
     ensures { (before : Bool) → telling note.now (key_of key.entry) before ≡ unwrap_or result before }
 {
     match *note {
@@ -98,7 +98,7 @@ fn if_so(known: bool) -> Option<bool>
 }
 
 /// Whether a label of this name stands in these fields at a known distance.
-fn is_near(fields: &[Field], key: KeyRef<'_>) -> bool
+fn is_near(fields: &[Field], key: Key<'_>) -> bool
     ensures { result ≡ is_near (plain_body fields.now) (key_of key.entry) }
 {
     for field in fields {
@@ -123,14 +123,14 @@ fn is_measured(field: &Field) -> bool
 }
 
 /// Whether a name is known at the first of these fields.
-pub fn is_known(fields: &[Field], notes: &[Note<'_>], key: KeyRef<'_>) -> bool
+pub fn is_known(fields: &[Field], notes: &[Note<'_>], key: Key<'_>) -> bool
     ensures { result ≡ known (plain_body fields.now) notes.now (key_of key.entry) }
 {
     is_near(fields, key) || is_met(notes, key) || is_told(notes, key)
 }
 
 /// The name, where it isn't known.
-fn unless(known: bool, key: KeyRef<'_>) -> Option<KeyRef<'_>>
+fn unless(known: bool, key: Key<'_>) -> Option<Key<'_>>
     ensures { option_map key_of result ≡ (if known then None else Some (key_of key.entry)) }
 {
     if known { None } else { Some(key) }
@@ -138,21 +138,21 @@ fn unless(known: bool, key: KeyRef<'_>) -> Option<KeyRef<'_>>
 
 /// The first name in an expression that isn't known at the first of these fields, or isn't met where bits are asked for
 /// at it.
-pub fn first_unknown<'a>(fields: &[Field], notes: &[Note<'_>], expr: &'a Expr) -> Option<KeyRef<'a>>
+pub fn first_unknown<'a>(fields: &[Field], notes: &[Note<'_>], expr: &'a Expr) -> Option<Key<'a>>
     ensures { option_map key_of result ≡ first_unknown (passed notes.now).met (known (plain_body fields.now) notes.now) (term_of expr.now) }
 {
     match expr {
         Expr::Number(_) | Expr::Fact(_) | Expr::ArrayIndex(_) => None,
         Expr::Name(name) => {
-            let key = KeyRef::Place(name);
+            let key = Key::Place(name);
             unless(is_known(fields, notes, key), key)
         }
         Expr::Count(name) => {
-            let key = KeyRef::Count(name);
+            let key = Key::Count(name);
             unless(is_known(fields, notes, key), key)
         }
         Expr::Indexed(name, index) => {
-            let key = KeyRef::Rows(name);
+            let key = Key::Rows(name);
             match unless(is_known(fields, notes, key), key) {
                 Some(key) => Some(key),
                 None => first_unknown(fields, notes, index),
@@ -164,7 +164,7 @@ pub fn first_unknown<'a>(fields: &[Field], notes: &[Note<'_>], expr: &'a Expr) -
             None => first_unknown(fields, notes, right),
         },
         Expr::Bits(name, start, width) => {
-            let key = KeyRef::Place(name);
+            let key = Key::Place(name);
             match unless(is_met(notes, key), key) {
                 Some(key) => Some(key),
                 None => match first_unknown(fields, notes, start) {

@@ -6,7 +6,7 @@ ghost use Rattle.rz_types_fields.specs.Field.{plain_array, plain_body, plain_cas
 ghost use Rattle.rz_types_fields.specs.Solve.{is_same_key};
 ghost use Rattle.rz_types_fields.specs.Passed.{at_front, behind, behind_pieces, between, told_by};
 ghost use Rattle.rz_types_fields.specs.Piece.{fixed_integer};
-ghost use Rattle.rz_types_fields.specs.NameKey.{key_of};
+ghost use Rattle.rz_expr.specs.NameKey.{key_of};
 ghost use Rattle.rz_types.specs.Notes.{also_met, also_told, known, passed, passed_at};
 ghost use Rattle.rz_types_fields.specs.Known.{Grew};
 ghost use Rattle.rz_types.specs.Readable.{are_cases_read, are_pieces_read, are_read, ends_at_end, ends_at_label, is_count_known, is_number_read, is_read, is_readable, is_text_read, is_told_label, rows_end, tells, text_ends};
@@ -16,9 +16,9 @@ use crate::least::least_widths;
 use crate::passed::{Note, all_known, all_known_in_text, first_unknown, is_known, is_told};
 use crate::template::Template;
 use rz_core::{NoMemory, Word};
-use rz_expr::Expr;
+use rz_expr::{Expr, Key};
 use rz_types_fields::{
-    ArrayField, Case, Exprs, Field, KeyRef, PointField, TextField, TextForm, declares, fixed_width,
+    ArrayField, Case, Exprs, Field, PointField, TextField, TextForm, declares, fixed_width,
     fixed_widths, standing_of,
 };
 use std::alloc::Global;
@@ -212,7 +212,7 @@ fn is_count_known(fields: &[Field], name: &Option<Word>, notes: &[Note<'_>]) -> 
     ensures { result ≡ is_count_known (passed_at (plain_body fields.now) notes.now) name.now }
 {
     match name {
-        Some(name) => is_known(fields, notes, KeyRef::Count(name)),
+        Some(name) => is_known(fields, notes, Key::Count(name)),
         None => false,
     }
 }
@@ -244,7 +244,7 @@ fn is_told_label(field: &Field, notes: &[Note<'_>]) -> bool
     ensures { result ≡ is_told_label (plain_field field.now) (passed notes.now).told }
 {
     match field {
-        Field::Label(name) => is_told(notes, KeyRef::Place(name)),
+        Field::Label(name) => is_told(notes, Key::Place(name)),
         _ => false,
     }
 }
@@ -316,7 +316,7 @@ fn is_expression_read<'a>(
 /// Whether a number with this value tells a name that isn't known; notes that it is known.
 fn tells<'a>(
     fields: &[Field],
-    key: KeyRef<'a>,
+    key: Key<'a>,
     expr: &Expr,
     notes: &mut Vec<Note<'a>>,
 ) -> Result<bool, NoMemory>
@@ -335,7 +335,7 @@ fn tells<'a>(
 }
 
 /// Notes that a number tells this name; so it is noted also where the name turns out not to be told.
-fn push_told<'a>(key: KeyRef<'a>, notes: &mut Vec<Note<'a>>) -> Result<(), NoMemory>
+fn push_told<'a>(key: Key<'a>, notes: &mut Vec<Note<'a>>) -> Result<(), NoMemory>
     ensures passed { OnOk result (passed notes.new.items ≡ also_told (key_of key.entry) (passed notes.old.items)) }
     ensures known { OnOk result ((fields : PlainBody) → known fields notes.new.items ≡ (λ other. is_same_key (key_of key.entry) other || known fields notes.old.items other)) }
     ensures grew { OnOk result (Grew notes.old.items notes.new.items) }

@@ -1,35 +1,55 @@
 //! A body that keeps the rules, and whether it can be read. See `specs/Rules` and `specs/Readable`.
 
-ghost use Rattle.std.specs.Prelude.{◌≡◌, true};
+ghost use Rattle.std.specs.Prelude.{◌≡◌, true, IfOk};
 ghost use Rattle.rz_types_fields.specs.Field.{plain_body};
 ghost use Rattle.rz_types_fields.specs.Shape.{is_well_shaped};
 ghost use Rattle.rz_types.specs.Readable.{is_readable};
 ghost use Rattle.rz_types.specs.Rules.{keeps_rules};
 
 use crate::Body;
+use rz_core::NoMemory;
+use std::alloc::Global;
+use std::rc::Rc;
 
-/// A body that has the shape of a declaration and keeps the rules, as [`check`](crate::check) gives it.
+/// A body that has the shape of a declaration and keeps the rules, as [`check`](crate::check) gives it. Several templates
+/// may share one body, which never changes.
 #[derive(Drop)]
 pub struct Template {
-    body: Body,
+    body: Rc<Body>,
     readable: bool,
-    ghost shaped: { is_well_shaped (plain_body body) ≡ true },
-    ghost kept: { keeps_rules (plain_body body) ≡ true },
-    ghost read: { readable ≡ is_readable (plain_body body) },
+    ghost shaped: { is_well_shaped (plain_body body.value) ≡ true },
+    ghost kept: { keeps_rules (plain_body body.value) ≡ true },
+    ghost read: { readable ≡ is_readable (plain_body body.value) },
 }
 
 impl Template {
     ghost use Rattle.rz_types.specs.Template.{template_of};
 
-    /// The template of a body that has the shape and keeps the rules, with whether it can be read. A copy of a
-    /// template is made so.
-    pub fn of(body: Body, readable: bool) -> Template
+    /// The template of a body that has the shape and keeps the rules, with whether it can be read.
+    pub fn of(alloc: Global, body: Body, readable: bool) -> Result<Template, NoMemory>
         requires shaped { is_well_shaped (plain_body body) ≡ true }
         requires kept { keeps_rules (plain_body body) ≡ true }
         requires read { readable ≡ is_readable (plain_body body) }
-        ensures { template_of result ≡ plain_body body }
+        ensures { IfOk result (λ template. template_of template ≡ plain_body body) }
     {
-        Template { body, readable }
+        match Rc::new(alloc, body) {
+            Ok(body) => Ok(Template { body, readable }),
+            Err(refused) => {
+                drop(refused);
+                Err(NoMemory)
+            }
+        }
+    }
+
+    /// Another template of the same body, which both share: whatever length the body has, it takes no memory.
+    pub fn share(&self) -> Result<Template, NoMemory>
+        ensures { IfOk result (λ template. template_of template ≡ template_of self.now) }
+    {
+        let body = self.body.clone()?;
+        Ok(Template {
+            body,
+            readable: self.readable,
+        })
     }
 
     /// Whether it can be read.
@@ -45,6 +65,6 @@ impl Template {
         ensures shaped { is_well_shaped (template_of self.now) ≡ true }
         ensures kept { keeps_rules (template_of self.now) ≡ true }
     {
-        &self.body
+        self.body.as_ref()
     }
 }

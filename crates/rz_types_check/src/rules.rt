@@ -53,7 +53,7 @@ pub fn check(alloc: Global, body: Body) -> Result<Template, Stop<TypeFault>>
     match check_fields(alloc, body.as_slice()) {
         Ok(()) => {
             let readable = is_body_readable(alloc, body.as_slice())?;
-            Ok(Template::of(body, readable))
+            Ok(Template::of(alloc, body, readable)?)
         }
         Err(stop) => Err(stop),
     }

@@ -1,17 +1,16 @@
 -- The names of rows: which of them a row around, or a body that was entered, gives a value.
-use Rattle.std.proofs.Common.{◌≡◌, ℕ, pos, ℤ, Bool, true, false, ◌||◌, List, Option, Some, None, refl, sym, ap, ◌∙◌, arith}
+use Rattle.std.proofs.Common.{◌≡◌, ℕ, ℤ, Bool, true, false, ◌||◌, List, Option, Some, None, refl, sym, ap, ◌∙◌, arith}
 use Rattle.std.specs.Prelude.{if◌then◌else◌}
 use Rattle.std.specs.Str.{str_to_ascii_lowercase}
 use Rattle.rz_core.proofs.Tests.{true_false}
 use Rattle.rz_core.specs.declared.resource.Word.{Word}
 use Rattle.rz_core.specs.Lists.{or_else}
-use Rattle.rz_expr.specs.Environment.{count_of, place_in, place_of, row_in, row_key, rows_of, Key}
+use Rattle.rz_expr.specs.Environment.{count_of, place_in, place_of, row_in, rows_of, Key}
 use Rattle.rz_types_fields.specs.Field.{field_and, no_fields, Align, Array, Fill, Label, Number, PlainBody, PlainField, Points, Switch, Text}
-use Rattle.rz_types_fields.specs.Known.{stated_in, stated_value, value_inside, which_of}
+use Rattle.rz_types_fields.specs.Known.{stated_in, stated_value, value_inside}
 use Rattle.rz_types_fields.specs.Passed.{declares, gives_count, gives_key, gives_rows, has_label}
 use Rattle.rz_types_fields.specs.RowLabels.{is_row, labels_count, numbers_row, row_number, RowOf}
 use Rattle.rz_types_fields.specs.Solve.{is_same_key}
-use Rattle.rz_types_fields.specs.declared.names.InRow.{InRow}
 
 -- The row around.
 
@@ -64,16 +63,6 @@ row_keys which (rows_of label) body is = absurd (true_false (sym is ∙ labelled
 row_keys which (place_in label number) body is = absurd (true_false (sym is ∙ place_in_none which label number))
 row_keys which (row_in array) body is = undeclared body array
 
--- as the code finds it
-
-pub numbered : (row : InRow) (array : List ℕ) (before : Option ℤ) → numbers_row row.array.now (row_key array) ≡ true
-    → (if is_row (which_of (Some row)) (row_key array) then row_number (which_of (Some row)) else before) ≡ Some (pos row.number)
-numbered row array before is = ap (λ (test : Bool). if test then Some (pos row.number) else before) is
-
-pub not_numbered : (row : InRow) (array : List ℕ) (before : Option ℤ) → numbers_row row.array.now (row_key array) ≡ false
-    → (if is_row (which_of (Some row)) (row_key array) then row_number (which_of (Some row)) else before) ≡ before
-not_numbered row array before is = ap (λ (test : Bool). if test then Some (pos row.number) else before) is
-
 -- Bodies.
 
 -- a label's places in rows are given with their number
@@ -125,17 +114,6 @@ hidden : (which : Option RowOf) (body : PlainBody) (key : Key) (before : Option 
 hidden which body key before row stated =
     ap (λ (test : Bool). if test then row_number which else if declares body key then stated_in body key else before) row
     ∙ ap (λ (given : Option ℤ). if declares body key then given else before) stated
-
-pub entered_place : (which : Option RowOf) (body : PlainBody) (place : List ℕ) (before : Option ℤ)
-    → value_inside which body (place_of place) before ≡ (if declares body (place_of place) then None else before)
-entered_place which body place before =
-    hidden which body (place_of place) before (placed_none which place) (no_stated (place_of place) (λ name. refl) body)
-
-pub entered_count : (which : Option RowOf) (body : PlainBody) (array : List ℕ) (before : Option ℤ)
-    → value_inside which body (count_of array) before ≡ (if declares body (count_of array) then stated_in body (count_of array) else before)
-entered_count which body array before =
-    ap (λ (test : Bool). if test then row_number which else if declares body (count_of array) then stated_in body (count_of array) else before)
-    (counted_none which array)
 
 pub entered_rows : (which : Option RowOf) (body : PlainBody) (label : List ℕ) (before : Option ℤ)
     → value_inside which body (rows_of label) before ≡ (if declares body (rows_of label) then None else before)

@@ -1,5 +1,5 @@
 -- Names of expressions, compared in whatever case or in lower case.
-use Rattle.std.proofs.Common.{◌≡◌, ℕ, ◌==◌, ◌&&◌, ◌||◌, ℤ, Bool, true, false, List, [], ◌∷◌, refl, sym, ap, ◌∙◌}
+use Rattle.std.proofs.Common.{◌≡◌, ℕ, ◌==◌, ◌&&◌, ◌||◌, ℤ, Bool, true, false, List, [], ◌∷◌, refl, sym, ap}
 use Rattle.std.specs.Option.{is_some}
 use Rattle.std.specs.Char.{eq_ignore_ascii_case, to_ascii_lowercase}
 use Rattle.std.specs.Ordering.{int_eq}
@@ -8,8 +8,8 @@ use Rattle.std.proofs.lemmas.Bool.{and_parts, eqb-true, eq-eqb}
 use Rattle.std.proofs.lemmas.Bool.Decides.{Decides-int_eq}
 use Rattle.std.proofs.lemmas.Str.Ascii.{lowercase-lowercase}
 use Rattle.rz_core.proofs.Tests.{and_so}
-use Rattle.rz_expr.proofs.Cases.{same_value}
-use Rattle.rz_expr.specs.Environment.{count_of, place_in, place_key, place_of, predefined, row_in, rows_of, Key}
+use Rattle.rz_expr.specs.Constant.{predefined_key}
+use Rattle.rz_expr.specs.Environment.{count_of, place_in, place_of, predefined, row_in, rows_of, Key}
 use Rattle.rz_types_fields.specs.Solve.{is_same_key, is_same_name}
 use Rattle.rz_types_fields.specs.Passed.{is_known, nothing_passed}
 
@@ -34,8 +34,13 @@ or_false : (a : Bool) → (a || false) ≡ a
 or_false true = refl
 or_false false = refl
 
-pub predefined_is : (name : List ℕ) → is_some (predefined name) ≡ is_known nothing_passed (place_key name)
-predefined_is name = ap is_some (same_value name) ∙ sym (or_false (is_some (predefined (str_to_ascii_lowercase name))))
+-- what has a value outside of all fields is known there
+pub outside_is : (key : Key) → is_some (predefined_key key) ≡ is_known nothing_passed key
+outside_is (place_of name) = sym (or_false (is_some (predefined name)))
+outside_is (count_of name) = refl
+outside_is (rows_of label) = refl
+outside_is (place_in label number) = refl
+outside_is (row_in array) = refl
 
 -- Keys.
 

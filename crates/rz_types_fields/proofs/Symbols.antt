@@ -4,7 +4,6 @@ use Rattle.std.specs.Prelude.{if◌then◌else◌}
 use Rattle.std.specs.Str.{str_to_ascii_lowercase}
 use Rattle.rz_core.specs.Lists.{or_else}
 use Rattle.rz_expr.specs.Environment.{predefined}
-use Rattle.rz_expr.proofs.Cases.{same_value}
 use Rattle.rz_types_fields.specs.Value.{symbol_value}
 use Rattle.rz_types_fields.specs.declared.field.Symbol.{Symbol}
 use Rattle.rz_types_fields.proofs.SameNames.{lower_name}
@@ -19,5 +18,5 @@ pub as_symbol : (symbols : List Symbol) (name : List ℕ) (value : ℤ) → symb
 as_symbol symbols name value is = sym (ap (λ (o : Option ℤ). or_else o (predefined (str_to_ascii_lowercase name))) (lower_symbol symbols name ∙ is))
 
 pub no_symbol : (symbols : List Symbol) (name : List ℕ) → symbol_value symbols name ≡ None
-    → predefined name ≡ or_else (symbol_value symbols (str_to_ascii_lowercase name)) (predefined (str_to_ascii_lowercase name))
-no_symbol symbols name is = sym (ap (λ (o : Option ℤ). or_else o (predefined (str_to_ascii_lowercase name))) (lower_symbol symbols name ∙ is) ∙ sym (same_value name))
+    → predefined (str_to_ascii_lowercase name) ≡ or_else (symbol_value symbols (str_to_ascii_lowercase name)) (predefined (str_to_ascii_lowercase name))
+no_symbol symbols name is = sym (ap (λ (o : Option ℤ). or_else o (predefined (str_to_ascii_lowercase name))) (lower_symbol symbols name ∙ is))

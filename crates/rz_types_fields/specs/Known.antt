@@ -11,6 +11,8 @@ use Rattle.rz_types_fields.specs.RowLabels.{is_row, row_number, row_value, RowOf
 use Rattle.rz_types_fields.specs.declared.names.InRow.{InRow}
 use Rattle.rz_types_fields.specs.declared.names.Note.{Note}
 use Rattle.rz_types_fields.specs.declared.names.Note.TheVariants.{Counted, Entered, Placed, PlaceTold, Rows, Told}
+use Rattle.rz_types_fields.specs.declared.names.Said.{Said}
+use Rattle.rz_types_fields.specs.declared.names.Said.TheVariants.{Nothing, Value}
 
 -- At the front of a body.
 
@@ -51,6 +53,11 @@ noting (Placed name at) key other = if stands_at name.now.bytes key then Some at
 noting (PlaceTold name at) key other = if stands_at name.now.bytes key then Some at else other
 noting (Rows row count places) key other = if gives_rows (plain_body row.now) key then row_value (plain_body row.now) count places.items key else other
 noting (Entered fields which) key other = value_inside (which_of which) (plain_body fields.now) key other
+
+-- what is so after a note that says this, where something else was so before it
+abbrev pub said_or : Said → Option ℤ → Option ℤ
+said_or Nothing before = before
+said_or (Value value) before = value
 
 -- after all notes, the oldest first
 abbrev pub noted : Option ℤ → List Note → Key → Option ℤ

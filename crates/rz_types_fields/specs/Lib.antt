@@ -15,5 +15,4 @@ pub mod Row
 pub mod Sees
 pub mod Spells
 pub mod Laid
-pub mod NameKey
 pub mod Known

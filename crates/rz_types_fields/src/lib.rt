@@ -10,10 +10,10 @@
 //! It rests on `rz_core`, `rz_bits`, `rz_types_format`, `rz_lex`, `rz_words` and `rz_expr`.
 //! A new kind of field changes `Field` and its mirror `PlainField`, the shape, the pieces and the width here, its value in
 //! `specs/Row` and `Tree`, its stored form in `specs/Spells` and how it is laid in `specs/Laid`, the rules and whether it is
-//! read in `rz_types`, the walk in `rz_types_check`, `copies` of `rz_types_table`, its form in `rz_stmt_fields` and, for
+//! read in `rz_types`, the walk in `rz_types_check`, its form in `rz_stmt_fields` and, for
 //! strings and what has fields within it, in `rz_stmt_type`, which has the values of constants too, the item that fits it
-//! in `rz_stmt_items`, and what `rz_layout` lays. A new kind of name is a case of `KeyRef` and of `Note`; one that a field
-//! gives, of `gives_key`. A new kind of value is a variant of `Tree`, with a call of `rz_types::values`.
+//! in `rz_stmt_items`, and what `rz_layout` lays. A new kind of name is a case of `Key` in `rz_expr` and of `Note`; one that
+//! a field gives, of `gives_key`. A new kind of value is a variant of `Tree`, with a call of `rz_types::values`.
 #![tactic(auto)]
 
 mod expressions;
@@ -35,13 +35,10 @@ pub use field::{
 };
 pub use keys::{CaseKey, case_keys, fixed_width, fixed_widths, key_bits, sized_bytes, text_width};
 pub use name_key::{
-    KeyRef, Standing, counts_rows, declares, gives_key, has_label, is_label, is_predefined,
-    is_same_key, standing_of, stands_at, states,
+    Standing, counts_rows, declares, gives_key, has_label, is_label, is_predefined, is_same_key,
+    standing_of, stands_at, states,
 };
-pub use names::{
-    InRow, NamesEnv, Note, is_met, labelled_rows, note_rows, place_in, place_of, row_around,
-    rows_of,
-};
+pub use names::{InRow, NamesEnv, Note, is_met, note_rows, value_noted};
 pub use place::{TextPlace, may_say, may_stand};
 pub use range::{fits_number, may_be_size, own_width};
 pub use stored::{is_too_long, stored_number};

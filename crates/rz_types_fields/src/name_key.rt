@@ -6,56 +6,46 @@ ghost use Rattle.rz_expr.specs.Term.{term_of};
 ghost use Rattle.rz_types_fields.specs.Field.{plain_body, plain_field};
 ghost use Rattle.rz_types_fields.specs.Solve.{can_solve, has_key, is_same_key, undoes_left, undoes_one, undoes_right};
 ghost use Rattle.rz_types_fields.specs.Passed.{counts_rows, declares, gives_count, gives_key, gives_rows, has_label, is_known, is_label, nothing_passed, stands_at, states, states_key};
-ghost use Rattle.rz_types_fields.specs.NameKey.{key_of};
+ghost use Rattle.rz_expr.specs.NameKey.{key_of};
 
 use crate::Field;
 use rz_core::Word;
-use rz_expr::{BinaryOp, Expr, UnaryOp, predefined};
-
-/// A name in an expression, as what can have a value.
-#[derive(Clone, Copy)]
-pub enum KeyRef<'a> {
-    /// A name by itself: a label by its place, or `true` or `false`.
-    Place(&'a Word),
-    /// An array by the number of its rows.
-    Count(&'a Word),
-    /// A label in the rows of an array, by the number of these rows.
-    Rows(&'a Word),
-}
+use rz_expr::{BinaryOp, Expr, Key, UnaryOp, value_outside};
 
 /// Whether a name has a value outside of all fields.
-#[tactic(auto, using(crate::proofs::SameNames::predefined_is))]
-pub fn is_predefined(key: KeyRef<'_>) -> bool
+#[tactic(auto, using(crate::proofs::SameNames::outside_is))]
+pub fn is_predefined(key: Key<'_>) -> bool
     ensures { result ≡ is_known nothing_passed (key_of key.entry) }
 {
-    match key {
-        KeyRef::Place(name) => predefined(name).is_some(),
-        KeyRef::Count(_) | KeyRef::Rows(_) => false,
-    }
+    value_outside(key).is_some()
 }
 
 /// Whether two names are the same and of the same kind.
 #[tactic(auto, using(crate::proofs::SameNames::same_name))]
-pub fn is_same_key(one: KeyRef<'_>, other: KeyRef<'_>) -> bool
+pub fn is_same_key(one: Key<'_>, other: Key<'_>) -> bool
     ensures { result ≡ is_same_key (key_of one.entry) (key_of other.entry) }
 {
     match (one, other) {
-        (KeyRef::Place(one), KeyRef::Place(other)) => one.is(other.bytes.as_slice()),
-        (KeyRef::Count(one), KeyRef::Count(other)) => one.is(other.bytes.as_slice()),
-        (KeyRef::Rows(one), KeyRef::Rows(other)) => one.is(other.bytes.as_slice()),
+        (Key::Place(one), Key::Place(other)) => one.is(other.bytes.as_slice()),
+        (Key::Count(one), Key::Count(other)) => one.is(other.bytes.as_slice()),
+        (Key::Rows(one), Key::Rows(other)) => one.is(other.bytes.as_slice()),
+        (Key::PlaceIn(one, row), Key::PlaceIn(other, number)) => {
+            one.is(other.bytes.as_slice()) && row == number
+        }
+        (Key::Row(one), Key::Row(other)) => one.is(other.bytes.as_slice()),
         _ => false,
     }
 }
 
 /// Whether a name is the number of rows of an array of this name.
-pub fn counts_rows(name: &Word, key: KeyRef<'_>) -> bool
+pub fn counts_rows(name: &Word, key: Key<'_>) -> bool
     ensures { result ≡ counts_rows name.now.bytes (key_of key.entry) }
 {
-    is_same_key(KeyRef::Count(name), key)
+    is_same_key(Key::Count(name), key)
 }
 
 /// Whether the name of an array gives this name a value.
-pub fn gives_count(name: &Option<Word>, key: KeyRef<'_>) -> bool
+pub fn gives_count(name: &Option<Word>, key: Key<'_>) -> bool
     ensures { result ≡ gives_count name.now (key_of key.entry) }
 {
     match name {
@@ -65,14 +55,14 @@ pub fn gives_count(name: &Option<Word>, key: KeyRef<'_>) -> bool
 }
 
 /// Whether what an expression names is the place of a label with this name, in whatever case.
-pub fn stands_at(name: &Word, key: KeyRef<'_>) -> bool
+pub fn stands_at(name: &Word, key: Key<'_>) -> bool
     ensures { result ≡ stands_at name.now.bytes (key_of key.entry) }
 {
-    is_same_key(KeyRef::Place(name), key)
+    is_same_key(Key::Place(name), key)
 }
 
 /// Whether a field is a label of this name.
-pub fn is_label(field: &Field, key: KeyRef<'_>) -> bool
+pub fn is_label(field: &Field, key: Key<'_>) -> bool
     ensures { result ≡ is_label (plain_field field.now) (key_of key.entry) }
 {
     match field {
@@ -86,25 +76,25 @@ pub fn has_label(row: &[Field], label: &Word) -> bool
     ensures { result ≡ has_label (plain_body row.now) (str_to_ascii_lowercase label.now.bytes) }
 {
     for field in row {
-        if is_label(field, KeyRef::Place(label)) {
+        if is_label(field, Key::Place(label)) {
             return true;
         }
     }
     false
 }
 
-/// Whether a name is the number of these rows, by a label directly in them.
-fn gives_rows(row: &[Field], key: KeyRef<'_>) -> bool
+/// Whether a key is that of a label directly in these rows: by their number, or by its place in one of them.
+pub fn gives_rows(row: &[Field], key: Key<'_>) -> bool
     ensures { result ≡ gives_rows (plain_body row.now) (key_of key.entry) }
 {
     match key {
-        KeyRef::Rows(label) => has_label(row, label),
-        KeyRef::Place(_) | KeyRef::Count(_) => false,
+        Key::Rows(label) | Key::PlaceIn(label, _) => has_label(row, label),
+        Key::Place(_) | Key::Count(_) | Key::Row(_) => false,
     }
 }
 
 /// Whether a field gives a name a value.
-pub fn gives_key(field: &Field, key: KeyRef<'_>) -> bool
+pub fn gives_key(field: &Field, key: Key<'_>) -> bool
     ensures { result ≡ gives_key (plain_field field.now) (key_of key.entry) }
 {
     match field {
@@ -117,7 +107,7 @@ pub fn gives_key(field: &Field, key: KeyRef<'_>) -> bool
 }
 
 /// Whether one of the fields of a body gives a name a value.
-pub fn declares(row: &[Field], key: KeyRef<'_>) -> bool
+pub fn declares(row: &[Field], key: Key<'_>) -> bool
     ensures { result ≡ declares (plain_body row.now) (key_of key.entry) }
 {
     for field in row {
@@ -129,7 +119,7 @@ pub fn declares(row: &[Field], key: KeyRef<'_>) -> bool
 }
 
 /// Whether a field tells a name by a stated count.
-fn states_key(field: &Field, key: KeyRef<'_>) -> bool
+fn states_key(field: &Field, key: Key<'_>) -> bool
     ensures { result ≡ states_key (plain_field field.now) (key_of key.entry) }
 {
     match field {
@@ -139,7 +129,7 @@ fn states_key(field: &Field, key: KeyRef<'_>) -> bool
 }
 
 /// Whether one of the fields of a body tells a name by a stated count.
-pub fn states(row: &[Field], key: KeyRef<'_>) -> bool
+pub fn states(row: &[Field], key: Key<'_>) -> bool
     ensures { result ≡ states (plain_body row.now) (key_of key.entry) }
 {
     for field in row {
@@ -160,14 +150,14 @@ pub struct Standing {
 }
 
 /// How a name stands in an expression.
-pub fn standing_of(key: KeyRef<'_>, expr: &Expr) -> Standing
+pub fn standing_of(key: Key<'_>, expr: &Expr) -> Standing
     ensures stands { result.stands ≡ has_key (key_of key.entry) (term_of expr.now) }
     ensures solved { result.solved ≡ can_solve (key_of key.entry) (term_of expr.now) }
 {
     match expr {
         Expr::Number(_) | Expr::Fact(_) | Expr::ArrayIndex(_) => alone(false),
-        Expr::Name(name) => alone(is_same_key(key, KeyRef::Place(name))),
-        Expr::Count(name) => alone(is_same_key(key, KeyRef::Count(name))),
+        Expr::Name(name) => alone(is_same_key(key, Key::Place(name))),
+        Expr::Count(name) => alone(is_same_key(key, Key::Count(name))),
         Expr::Indexed(_, index) => Standing {
             stands: standing_of(key, index).stands,
             solved: false,
@@ -183,7 +173,7 @@ pub fn standing_of(key: KeyRef<'_>, expr: &Expr) -> Standing
             beside(*op, standing_of(key, left), standing_of(key, right))
         }
         Expr::Bits(name, start, width) => Standing {
-            stands: is_same_key(key, KeyRef::Place(name))
+            stands: is_same_key(key, Key::Place(name))
                 || standing_of(key, start).stands
                 || standing_of(key, width).stands,
             solved: false,

@@ -11,7 +11,9 @@ ghost use Rattle.rz_types_fields.specs.Value.{constant_value, fact_of, field_sig
 
 use crate::Symbol;
 use rz_core::{Facts, Fault, Kept, Mark, Stop, Word};
-use rz_expr::{ConstantEnv, Env, EvalFault, Expr, FactWord, eval, predefined, signed};
+use rz_expr::{
+    ConstantEnv, Env, EvalFault, Expr, FactWord, Key, eval, predefined, signed, value_outside,
+};
 use std::alloc::Global;
 
 /// What an expression sees of a resource and of a field: the field's symbols, `true`, `false` and the facts. The
@@ -29,31 +31,17 @@ impl Env for FieldEnv<'_> {
 
     ghost belongs = { λ env finished. finished ≡ field_sight env.facts.now env.symbols.now };
 
-    fn place(&self, name: &Word) -> Option<i32> {
-        let value = symbol_value(self.symbols, name);
-        match value {
-            Some(_) => value,
-            None => predefined(name),
+    fn give(&self, key: Key<'_>) -> Option<i128> {
+        match key {
+            Key::Place(name) => match symbol_value(self.symbols, name) {
+                Some(value) => Some(i128::from(value)),
+                None => value_outside(key),
+            },
+            Key::Count(_) | Key::Rows(_) | Key::PlaceIn(..) | Key::Row(_) => None,
         }
     }
 
-    fn count(&self, _name: &Word) -> Option<i32> {
-        None
-    }
-
-    fn rows(&self, _label: &Word) -> Option<u64> {
-        None
-    }
-
-    fn place_at(&self, _label: &Word, _row: i32) -> Option<i32> {
-        None
-    }
-
-    fn row(&self, _array: &Word) -> Option<i32> {
-        None
-    }
-
-    fn bits(&self, _name: &Word, _start: i32, _width: i32) -> Option<u32> {
+    fn bits(&self, _first: i64, _width: i32) -> Option<u32> {
         None
     }
 

@@ -1,11 +1,13 @@
 -- The last that passes, and the list without the first that does.
-use Rattle.std.proofs.Common.{◌≡◌, ℕ, zero, suc, ◌+◌, ◌<◌, Bool, true, false, ◌||◌, if◌then◌else◌, List, [], ◌∷◌, ◌++◌, get_or, length, map, take, Option, Some, None, refl, sym, ap, ◌∙◌, arith}
-use Rattle.std.specs.List.{list_any, remove}
-use Rattle.std.specs.Prelude.{option_map, slice_get}
-use Rattle.std.proofs.lemmas.List.{length-map, map-append, take_more}
-use Rattle.std.proofs.lemmas.Option.{same_Some, slice_get-map, slice_get_read, slice_get_within}
+use Rattle.std.proofs.Common.{◌≡◌, ℕ, zero, suc, Bool, true, false, ◌||◌, if◌then◌else◌, List, [], ◌∷◌, ◌++◌, map, take, Option, Some, None, refl, sym, ap, ◌∙◌}
+use Rattle.std.specs.List.{list_any}
+use Rattle.std.specs.Prelude.{option_to_list, set, slice_get}
+use Rattle.std.proofs.lemmas.List.{append-nil, map-append}
+use Rattle.std.proofs.lemmas.List.Concat.{flat_map-append}
+use Rattle.std.proofs.lemmas.Option.{same_Some}
 use Rattle.std.proofs.Math.Bool.{or-true}
 use Rattle.rz_core.specs.Lists.{or_else}
+use Rattle.rz_types_table.specs.Listed.{standing}
 use Rattle.rz_types_table.specs.Table.{last_such, without}
 
 if_first : {A : Type 0} (b : Bool) (y : A) (found later : Option A) → or_else (if b then Some y else found) later ≡ (if b then Some y else or_else found later)
@@ -17,15 +19,6 @@ last_such-push test [] y = refl
 last_such-push test (x ∷ xs) y =
     ap (λ (o : Option _). or_else o (if test x then Some x else None)) (last_such-push test xs y)
     ∙ if_first (test y) y (last_such test xs) (if test x then Some x else None)
-
--- one item more
-pub last_more : {A B : Type 0} (test : B → Bool) (f : A → B) (xs : List A) (i : ℕ) (x : A) → i < length xs → x ≡ get_or xs i x
-    → last_such test (map f (take (i + 1) xs)) ≡ (if test (f x) then Some (f x) else last_such test (map f (take i xs)))
-last_more test f xs i x within is =
-    ap (λ (l : List _). last_such test (map f l)) (take_more xs i x within)
-    ∙ ap (λ (y : _). last_such test (map f (take i xs ++ y ∷ []))) (sym is)
-    ∙ ap (last_such test) (map-append f (take i xs) (x ∷ []))
-    ∙ last_such-push test (map f (take i xs)) (f x)
 
 nothing_else : {A : Type 0} (o : Option A) → o ≡ or_else o None
 nothing_else None = refl
@@ -93,46 +86,42 @@ without_at out (y ∷ front) behind x none passes =
     ap (λ b. if b then front ++ x ∷ behind else y ∷ without out (front ++ x ∷ behind)) ((none_first out y front none).0)
     ∙ ap (λ (l : List _). y ∷ l) (without_at out front behind x ((none_first out y front none).1) passes)
 
--- by its position
-pub without_position : {A : Type 0} (out : A → Bool) (xs : List A) (k : ℕ) (x : A) → slice_get xs k ≡ Some x → out x ≡ true → list_any out (take k xs) ≡ false
-    → without out xs ≡ remove xs k
-without_position out [] k x is passes none = cc
-without_position out (y ∷ xs) zero x is passes none =
-    ap (λ b. if b then xs else y ∷ without out xs) (ap out (same_Some y x is) ∙ passes)
-without_position out (y ∷ xs) (suc k) x is passes none =
-    ap (λ b. if b then xs else y ∷ without out xs) ((none_first out y (take k xs) none).0)
-    ∙ ap (λ (l : List _). y ∷ l) (without_position out xs k x is passes ((none_first out y (take k xs) none).1))
+-- Slots.
 
--- The code's steps.
+pub standing-push : {A : Type 0} (slots : List (Option A)) (slot : Option A) → standing (slots ++ slot ∷ []) ≡ standing slots ++ option_to_list slot
+standing-push slots slot =
+    flat_map-append option_to_list slots (slot ∷ []) ∙ ap (λ (l : List _). standing slots ++ l) (append-nil (option_to_list slot))
 
--- an item of the list of what is made of each
-pub at_map : {A B : Type 0} (f : A → B) (xs : List A) (i : ℕ) (x : A) → i < length xs → x ≡ get_or xs i x → slice_get (map f xs) i ≡ Some (f x)
-at_map f xs i x within is = slice_get-map f xs i ∙ ap (option_map f) (slice_get_read xs (length xs) i x refl within is)
+pub any_there : {A B : Type 0} (test : B → Bool) (f : A → B) (slots : List (Option A)) (k : ℕ) (x : A) → slice_get slots k ≡ Some (Some x) → test (f x) ≡ true
+    → list_any test (map f (standing slots)) ≡ true
+any_there test f [] k x is passes = cc
+any_there test f (None ∷ slots) zero x is passes = cc
+any_there test f (None ∷ slots) (suc k) x is passes = any_there test f slots k x is passes
+any_there test f (Some y ∷ slots) zero x is passes =
+    ap (λ b. b || list_any test (map f (standing slots))) (ap (λ z. test (f z)) (same_Some y x (same_Some (Some y) (Some x) is)) ∙ passes)
+any_there test f (Some y ∷ slots) (suc k) x is passes = ap (λ b. test (f y) || b) (any_there test f slots k x is passes) ∙ or-true (test (f y))
 
-pub later_more : {A B : Type 0} (test : B → Bool) (f : A → B) (xs : List A) (i : ℕ) (x : A) → i < length xs → x ≡ get_or xs i x
-    → (passes : Bool) (before after : Option B) → after ≡ (if passes then Some (f x) else before) → passes ≡ test (f x)
-    → before ≡ last_such test (map f (take i xs)) → after ≡ last_such test (map f (take (i + 1) xs))
-later_more test f xs i x within is passes before after made tests so_far =
-    made ∙ (λ j. if tests j then Some (f x) else so_far j) ∙ sym (last_more test f xs i x within is)
+module _ {A B : Type 0} (f : A → B) (out : B → Bool) where
+  pushed : (slots : List (Option A)) (y : A) → map f (standing (slots ++ Some y ∷ [])) ≡ map f (standing slots) ++ f y ∷ []
+  pushed slots y = ap (λ (l : List A). map f l) (standing-push slots (Some y)) ∙ map-append f (standing slots) (y ∷ [])
 
-pub any_there : {A : Type 0} (test : A → Bool) (xs : List A) (k : ℕ) (x : A) → slice_get xs k ≡ Some x → test x ≡ true → list_any test xs ≡ true
-any_there test [] k x is passes = cc
-any_there test (y ∷ xs) zero x is passes = ap (λ b. b || list_any test xs) (ap test (same_Some y x is) ∙ passes)
-any_there test (y ∷ xs) (suc k) x is passes = ap (λ b. test y || b) (any_there test xs k x is passes) ∙ or-true (test y)
+  front_out : (slots : List (Option A)) (z y : A) (b : Bool) → out (f z) ≡ b
+      → without out (map f (standing (Some z ∷ slots))) ++ f y ∷ [] ≡ (if b then map f (standing slots) else f z ∷ without out (map f (standing slots))) ++ f y ∷ []
+  front_out slots z y b is = ap (λ b. (if b then map f (standing slots) else f z ∷ without out (map f (standing slots))) ++ f y ∷ []) is
 
-pub remove_push : {A B : Type 0} (f : A → B) (xs : List A) (k : ℕ) (y : A) → k < length xs → map f (remove (xs ++ y ∷ []) k) ≡ remove (map f xs) k ++ f y ∷ []
-remove_push f [] k y within = absurd (omega (arith, within))
-remove_push f (x ∷ xs) zero y within = map-append f xs (y ∷ [])
-remove_push f (x ∷ xs) (suc k) y within = ap (λ (l : List _). f x ∷ l) (remove_push f xs k y (omega (arith, within)))
+  -- a new one at the end, and the slot of one that passes emptied
+  pub taken_out : (slots : List (Option A)) (k : ℕ) (x y : A) → slice_get slots k ≡ Some (Some x) → out (f x) ≡ true
+      → list_any out (map f (standing (take k slots))) ≡ false
+      → map f (standing (set (slots ++ Some y ∷ []) k None)) ≡ without out (map f (standing slots)) ++ f y ∷ []
+  taken_out [] k x y is passes none = cc
+  taken_out (None ∷ slots) zero x y is passes none = cc
+  taken_out (None ∷ slots) (suc k) x y is passes none = taken_out slots k x y is passes none
+  taken_out (Some z ∷ slots) zero x y is passes none =
+      pushed slots y ∙ sym (front_out slots z y true (ap (λ w. out (f w)) (same_Some z x (same_Some (Some z) (Some x) is)) ∙ passes))
+  taken_out (Some z ∷ slots) (suc k) x y is passes none =
+      let parts = none_first out (f z) (map f (standing (take k slots))) none in
+      ap (λ (l : List B). f z ∷ l) (taken_out slots k x y is passes parts.1) ∙ sym (front_out slots z y false parts.0)
 
--- a new item after, and one that passes taken out
-pub taken_out : {A B : Type 0} (f : A → B) (out : B → Bool) (xs : List A) (k : ℕ) (x : B) (y : A) → slice_get (map f xs) k ≡ Some x → out x ≡ true
-    → list_any out (take k (map f xs)) ≡ false → map f (remove (xs ++ y ∷ []) k) ≡ without out (map f xs) ++ f y ∷ []
-taken_out f out xs k x y is passes none =
-    let within : k < length (map f xs) = slice_get_within (map f xs) k x is in
-    remove_push f xs k y (omega (arith, within, length-map xs f))
-    ∙ ap (λ (l : List _). l ++ f y ∷ []) (sym (without_position out (map f xs) k x is passes none))
-
-pub nothing_out : {A B : Type 0} (f : A → B) (out : B → Bool) (xs : List A) (y : A) → list_any out (map f xs) ≡ false
-    → map f (xs ++ y ∷ []) ≡ without out (map f xs) ++ f y ∷ []
-nothing_out f out xs y none = map-append f xs (y ∷ []) ∙ ap (λ (l : List _). l ++ f y ∷ []) (sym (without_none out (map f xs) none))
+  pub nothing_out : (slots : List (Option A)) (y : A) → list_any out (map f (standing slots)) ≡ false
+      → map f (standing (slots ++ Some y ∷ [])) ≡ without out (map f (standing slots)) ++ f y ∷ []
+  nothing_out slots y none = pushed slots y ∙ ap (λ (l : List B). l ++ f y ∷ []) (sym (without_none out (map f (standing slots)) none))

@@ -1,21 +1,20 @@
--- The positions of the items that pass, and what is read at them.
-use Rattle.std.proofs.Common.{◌≡◌, ℕ, zero, suc, ◌+◌, ◌-◌, ◌<◌, ◌≤◌, ◌==◌, nat_eq, Bool, true, false, ◌&&◌, ◌||◌, if◌then◌else◌, List, [], ◌∷◌, ◌++◌, get_or, length, map, take, drop, filter, Option, Some, None, refl, sym, ap, ◌∙◌, arith, append_assoc}
-use Rattle.std.specs.HashMap.{HashMap}
+-- The positions of the slots whose declarations pass, and what is read in these slots.
+use Rattle.std.proofs.Common.{◌≡◌, ℕ, zero, suc, ◌+◌, ◌<◌, ◌≤◌, ◌==◌, Bool, true, false, ◌&&◌, ◌||◌, if◌then◌else◌, List, [], ◌∷◌, ◌++◌, get_or, length, map, take, drop, filter, Option, Some, None, refl, sym, ap, ◌∙◌, arith, append_assoc}
 use Rattle.std.specs.List.{drop-map, list_any, remove}
-use Rattle.std.specs.Map.{lookup}
-use Rattle.std.specs.Option.{option_map_or, option_to_list}
-use Rattle.std.specs.Prelude.{option_map, slice_get, Vec}
-use Rattle.std.proofs.lemmas.List.{length-append, length-drop, length-map, length-take-le, map-append, take_all, take_more, take-map}
+use Rattle.std.specs.Option.{option_to_list}
+use Rattle.std.specs.Prelude.{option_map, set, slice_get}
+use Rattle.std.proofs.lemmas.Bool.{eqb-true}
+use Rattle.std.proofs.lemmas.List.{append-nil, length-append, length-map, map-append, map-set, take_all, take_more, take-map}
 use Rattle.std.proofs.lemmas.Option.{same_Some, slice_get-get_or, slice_get-map, slice_get_read}
 use Rattle.rz_core.specs.Lists.{or_else}
 use Rattle.rz_core.specs.declared.resource.OsType.{OsType}
-use Rattle.rz_types_table.specs.Listed.{codes_of, declaration_of}
-use Rattle.rz_types_table.specs.Positions.{positions, ArePlaced}
+use Rattle.rz_types_table.specs.Listed.{codes_of, declaration_of, listed, standing, AreOwn}
+use Rattle.rz_types_table.specs.Positions.{in_slot, of_code, positions}
 use Rattle.rz_types_table.specs.Table.{is_for, last_such, same_scope, stands_at, Declaration}
 use Rattle.rz_types_table.specs.declared.table.Declared.{Declared}
 use Rattle.rz_types_table.specs.declared.table.Scope.{Scope}
 use Rattle.rz_types.proofs.Firsts.{or_none}
-use Rattle.rz_types_table.proofs.Found.{last_such-push, none_first, remove_push}
+use Rattle.rz_types_table.proofs.Found.{last_such-push, none_first, standing-push}
 
 -- One position more.
 
@@ -46,10 +45,10 @@ positions-map test f [] = refl
 positions-map test f (x ∷ xs) = ap (λ (l : List ℕ). if test (f x) then 0 ∷ map suc l else map suc l) (positions-map test f xs)
 
 -- a code more at the end, where a type's positions before and after differ by its own
-pub placed_more : (codes : List ℕ) (kind other : ℕ) (before after : List ℕ) → after ≡ before ++ (if kind == other then length codes ∷ [] else [])
-    → before ≡ positions (λ code. code == other) codes → after ≡ positions (λ code. code == other) (codes ++ kind ∷ [])
+placed_more : (codes : List (Option ℕ)) (kind other : ℕ) (before after : List ℕ) → after ≡ before ++ (if kind == other then length codes ∷ [] else [])
+    → before ≡ positions (of_code other) codes → after ≡ positions (of_code other) (codes ++ Some kind ∷ [])
 placed_more codes kind other before after adds placed =
-    adds ∙ ap (λ (l : List ℕ). l ++ (if kind == other then length codes ∷ [] else [])) placed ∙ sym (positions-push (λ code. code == other) codes kind)
+    adds ∙ ap (λ (l : List ℕ). l ++ (if kind == other then length codes ∷ [] else [])) placed ∙ sym (positions-push (of_code other) codes (Some kind))
 
 -- What is read.
 
@@ -129,97 +128,121 @@ module _ {A : Type 0} (test : A → Bool) where
   at_front [] i p is = cc
   at_front (x ∷ xs) i p is = front_by x xs (positions test xs) (at_front xs) (test x) refl i p is
 
--- Of those that pass a test, the ones that pass a stronger one.
+-- Of the slots that pass a test, what passes a stronger one.
 
-module _ {A B : Type 0} (test : B → Bool) (f : A → B) (of : A → Bool) (apart : (x : A) → of x ≡ false → test (f x) ≡ false) where
-  last_by : (x : A) (xs : List A) → last_such test (map f (filter of xs)) ≡ last_such test (map f xs) → (b : Bool) → of x ≡ b
-      → last_such test (map f (if b then x ∷ filter of xs else filter of xs)) ≡ last_such test (map f (x ∷ xs))
+module _ {A B : Type 0} (test : B → Bool) (f : A → B) (of : Option A → Bool) (empty : of None ≡ false)
+    (apart : (x : A) → of (Some x) ≡ false → test (f x) ≡ false) where
+  last_by : (x : A) (xs : List (Option A)) → last_such test (map f (standing (filter of xs))) ≡ last_such test (map f (standing xs)) → (b : Bool) → of (Some x) ≡ b
+      → last_such test (map f (standing (if b then Some x ∷ filter of xs else filter of xs))) ≡ last_such test (map f (standing (Some x ∷ xs)))
   last_by x xs same true is = ap (λ (o : Option B). or_else o (if test (f x) then Some (f x) else None)) same
   last_by x xs same false is =
-      same ∙ sym (or_none (last_such test (map f xs)))
-      ∙ ap (λ b. or_else (last_such test (map f xs)) (if b then Some (f x) else None)) (sym (apart x is))
+      same ∙ sym (or_none (last_such test (map f (standing xs))))
+      ∙ ap (λ b. or_else (last_such test (map f (standing xs))) (if b then Some (f x) else None)) (sym (apart x is))
 
-  pub last_filter : (xs : List A) → last_such test (map f (filter of xs)) ≡ last_such test (map f xs)
+  pub last_filter : (xs : List (Option A)) → last_such test (map f (standing (filter of xs))) ≡ last_such test (map f (standing xs))
   last_filter [] = refl
-  last_filter (x ∷ xs) = last_by x xs (last_filter xs) (of x) refl
+  last_filter (None ∷ xs) = ap (λ b. last_such test (map f (standing (if b then None ∷ filter of xs else filter of xs)))) empty ∙ last_filter xs
+  last_filter (Some x ∷ xs) = last_by x xs (last_filter xs) (of (Some x)) refl
 
-  any_by : (x : A) (xs : List A) → list_any test (map f (filter of xs)) ≡ list_any test (map f xs) → (b : Bool) → of x ≡ b
-      → list_any test (map f (if b then x ∷ filter of xs else filter of xs)) ≡ list_any test (map f (x ∷ xs))
+  any_by : (x : A) (xs : List (Option A)) → list_any test (map f (standing (filter of xs))) ≡ list_any test (map f (standing xs)) → (b : Bool) → of (Some x) ≡ b
+      → list_any test (map f (standing (if b then Some x ∷ filter of xs else filter of xs))) ≡ list_any test (map f (standing (Some x ∷ xs)))
   any_by x xs same true is = ap (λ b. test (f x) || b) same
-  any_by x xs same false is = same ∙ ap (λ b. b || list_any test (map f xs)) (sym (apart x is))
+  any_by x xs same false is = same ∙ ap (λ b. b || list_any test (map f (standing xs))) (sym (apart x is))
 
-  pub any_filter : (xs : List A) → list_any test (map f (filter of xs)) ≡ list_any test (map f xs)
+  pub any_filter : (xs : List (Option A)) → list_any test (map f (standing (filter of xs))) ≡ list_any test (map f (standing xs))
   any_filter [] = refl
-  any_filter (x ∷ xs) = any_by x xs (any_filter xs) (of x) refl
+  any_filter (None ∷ xs) = ap (λ b. list_any test (map f (standing (if b then None ∷ filter of xs else filter of xs)))) empty ∙ any_filter xs
+  any_filter (Some x ∷ xs) = any_by x xs (any_filter xs) (of (Some x)) refl
 
 -- The code's steps.
 
-pub later_at : {A B : Type 0} (test : B → Bool) (f : A → B) (xs : List A) (ks : List ℕ) (i : ℕ) (x : A) → i < length ks → get_or ks i 0 < length xs
-    → x ≡ get_or xs (get_or ks i 0) x
-    → (passes : Bool) (before after : Option B) → after ≡ (if passes then Some (f x) else before) → passes ≡ test (f x)
-    → before ≡ last_such test (map f (at_positions xs (take i ks))) → after ≡ last_such test (map f (at_positions xs (take (i + 1) ks)))
-later_at test f xs ks i x below within is passes before after made tests so_far =
+-- one slot more is read
+standing_more : {A : Type 0} (slots : List (Option A)) (ks : List ℕ) (i : ℕ) (slot : Option A) → i < length ks → get_or ks i 0 < length slots
+    → slot ≡ get_or slots (get_or ks i 0) slot
+    → standing (at_positions slots (take (i + 1) ks)) ≡ standing (at_positions slots (take i ks)) ++ option_to_list slot
+standing_more slots ks i slot below within is =
+    ap (λ (l : List _). standing l) (at_more slots ks i slot below within is) ∙ standing-push (at_positions slots (take i ks)) slot
+
+-- what stands in one slot more
+last_slot : {A B : Type 0} (test : B → Bool) (f : A → B) (front : List A) (slot : Option A)
+    → (if in_slot test (option_map f slot) then option_map f slot else last_such test (map f front)) ≡ last_such test (map f (front ++ option_to_list slot))
+last_slot test f front None = ap (λ (l : List _). last_such test (map f l)) (sym (append-nil front))
+last_slot test f front (Some x) =
+    sym (last_such-push test (map f front) (f x)) ∙ ap (last_such test) (sym (map-append f front (x ∷ [])))
+
+pub later_at : {A B : Type 0} (test : B → Bool) (f : A → B) (slots : List (Option A)) (ks : List ℕ) (i : ℕ) (slot : Option A)
+    → i < length ks → get_or ks i 0 < length slots → slot ≡ get_or slots (get_or ks i 0) slot
+    → (passes : Bool) (before after : Option B) → after ≡ (if passes then option_map f slot else before) → passes ≡ in_slot test (option_map f slot)
+    → before ≡ last_such test (map f (standing (at_positions slots (take i ks)))) → after ≡ last_such test (map f (standing (at_positions slots (take (i + 1) ks))))
+later_at test f slots ks i slot below within is passes before after made tests so_far =
+    let front = standing (at_positions slots (take i ks)) in
     made
-    ∙ (λ j. if tests j then Some (f x) else so_far j)
-    ∙ sym (last_such-push test (map f (at_positions xs (take i ks))) (f x))
-    ∙ ap (last_such test) (sym (map-append f (at_positions xs (take i ks)) (x ∷ [])))
-    ∙ ap (λ (l : List _). last_such test (map f l)) (sym (at_more xs ks i x below within is))
+    ∙ (λ j. if tests j then option_map f slot else so_far j)
+    ∙ last_slot test f front slot
+    ∙ ap (λ (l : List _). last_such test (map f l)) (sym (standing_more slots ks i slot below within is))
 
 none_push : {A : Type 0} (test : A → Bool) (xs : List A) (y : A) → list_any test xs ≡ false → test y ≡ false → list_any test (xs ++ y ∷ []) ≡ false
 none_push test [] y none fails = ap (λ b. b || false) fails
 none_push test (x ∷ xs) y none fails =
     λ i. (none_first test x xs none).0 i || none_push test xs y ((none_first test x xs none).1) fails i
 
-pub none_at : {A B : Type 0} (test : B → Bool) (f : A → B) (xs : List A) (ks : List ℕ) (i : ℕ) (x : A) → i < length ks → get_or ks i 0 < length xs
-    → x ≡ get_or xs (get_or ks i 0) x → test (f x) ≡ false
-    → list_any test (map f (at_positions xs (take i ks))) ≡ false → list_any test (map f (at_positions xs (take (i + 1) ks))) ≡ false
-none_at test f xs ks i x below within is fails none =
-    ap (λ (l : List _). list_any test (map f l)) (at_more xs ks i x below within is)
-    ∙ ap (list_any test) (map-append f (at_positions xs (take i ks)) (x ∷ []))
-    ∙ none_push test (map f (at_positions xs (take i ks))) (f x) none fails
+none_more : {A B : Type 0} (test : B → Bool) (f : A → B) (front : List A) (slot : Option A) → in_slot test (option_map f slot) ≡ false
+    → list_any test (map f front) ≡ false → list_any test (map f (front ++ option_to_list slot)) ≡ false
+none_more test f front None fails none = ap (λ (l : List _). list_any test (map f l)) (append-nil front) ∙ none
+none_more test f front (Some x) fails none = ap (list_any test) (map-append f front (x ∷ [])) ∙ none_push test (map f front) (f x) none fails
+
+pub none_at : {A B : Type 0} (test : B → Bool) (f : A → B) (slots : List (Option A)) (ks : List ℕ) (i : ℕ) (slot : Option A)
+    → i < length ks → get_or ks i 0 < length slots → slot ≡ get_or slots (get_or ks i 0) slot → in_slot test (option_map f slot) ≡ false
+    → list_any test (map f (standing (at_positions slots (take i ks)))) ≡ false → list_any test (map f (standing (at_positions slots (take (i + 1) ks)))) ≡ false
+none_at test f slots ks i slot below within is fails none =
+    ap (λ (l : List _). list_any test (map f l)) (standing_more slots ks i slot below within is)
+    ∙ none_more test f (standing (at_positions slots (take i ks))) slot fails none
+
+-- what passes stands in its slot
+pub found_in : {A B : Type 0} (test : B → Bool) (f : A → B) (slot : Option A) → in_slot test (option_map f slot) ≡ true → (x : A) × (slot ≡ Some x) × (test (f x) ≡ true)
+found_in test f None passes = cc
+found_in test f (Some x) passes = (x, refl, passes)
 
 -- Declarations of one type.
 
-module _ (kind : ℕ) (table : List Declared) (own : List ℕ) (placed : own ≡ positions (λ code. code == kind) (codes_of table)) where
-  abbrev of : Declared → Bool
-  of one = one.kind.code == kind
+module _ (kind : ℕ) (slots : List (Option Declared)) (own : List ℕ) (placed : AreOwn kind slots own) where
+  abbrev of : Option Declared → Bool
+  of slot = of_code kind (option_map (λ (one : Declared). one.kind.code) slot)
 
-  placed_here : own ≡ positions of table
-  placed_here = placed ∙ positions-map (λ code. code == kind) (λ (one : Declared). one.kind.code) table
+  placed_here : own ≡ positions of slots
+  placed_here = placed ∙ positions-map (of_code kind) (option_map (λ (one : Declared). one.kind.code)) slots
 
-  -- each position is one of the list
-  pub own_within : (i : ℕ) → i < length own → get_or own i 0 < length table
+  -- each position is that of a slot
+  pub own_within : (i : ℕ) → i < length own → get_or own i 0 < length slots
   own_within i below =
-      positions_within of table i (get_or own i 0) (ap (λ (l : List ℕ). slice_get l i) (sym placed_here) ∙ slice_get-get_or own i 0 below)
+      positions_within of slots i (get_or own i 0) (ap (λ (l : List ℕ). slice_get l i) (sym placed_here) ∙ slice_get-get_or own i 0 below)
 
-  read_all : at_positions table own ≡ filter of table
-  read_all = ap (at_positions table) placed_here ∙ at_all of table
+  read_all : at_positions slots own ≡ filter of slots
+  read_all = ap (at_positions slots) placed_here ∙ at_all of slots
 
-  module _ (test : Declaration → Bool) (apart : (x : Declared) → of x ≡ false → test (declaration_of x) ≡ false) where
-    pub last_own : (i : ℕ) → length own ≤ i → last_such test (map declaration_of (at_positions table (take i own))) ≡ last_such test (map declaration_of table)
+  module _ (test : Declaration → Bool) (apart : (x : Declared) → of (Some x) ≡ false → test (declaration_of x) ≡ false) where
+    pub last_own : (i : ℕ) → length own ≤ i → last_such test (listed (at_positions slots (take i own))) ≡ last_such test (listed slots)
     last_own i all =
-        ap (λ (l : List ℕ). last_such test (map declaration_of (at_positions table l))) (take_all i own all)
-        ∙ ap (λ (l : List Declared). last_such test (map declaration_of l)) read_all
-        ∙ last_filter test declaration_of of apart table
+        ap (λ (l : List ℕ). last_such test (listed (at_positions slots l))) (take_all i own all)
+        ∙ ap (λ (l : List (Option Declared)). last_such test (listed l)) read_all
+        ∙ last_filter test declaration_of of refl apart slots
 
-    pub none_own : (i : ℕ) → length own ≤ i → list_any test (map declaration_of (at_positions table (take i own))) ≡ false
-        → list_any test (map declaration_of table) ≡ false
+    pub none_own : (i : ℕ) → length own ≤ i → list_any test (listed (at_positions slots (take i own))) ≡ false → list_any test (listed slots) ≡ false
     none_own i all none =
-        sym (any_filter test declaration_of of apart table)
-        ∙ ap (λ (l : List Declared). list_any test (map declaration_of l)) (sym read_all)
-        ∙ ap (λ (l : List ℕ). list_any test (map declaration_of (at_positions table l))) (sym (take_all i own all))
+        sym (any_filter test declaration_of of refl apart slots)
+        ∙ ap (λ (l : List (Option Declared)). list_any test (listed l)) (sym read_all)
+        ∙ ap (λ (l : List ℕ). list_any test (listed (at_positions slots l))) (sym (take_all i own all))
         ∙ none
 
     -- none before a position, where none of the type before it passes
-    pub none_front : (i : ℕ) → i < length own → list_any test (map declaration_of (at_positions table (take i own))) ≡ false
-        → list_any test (take (get_or own i 0) (map declaration_of table)) ≡ false
+    pub none_front : (i : ℕ) → i < length own → list_any test (listed (at_positions slots (take i own))) ≡ false
+        → list_any test (listed (take (get_or own i 0) slots)) ≡ false
     none_front i below none =
         let p = get_or own i 0 in
-        let there : slice_get (positions of table) i ≡ Some p = ap (λ (l : List ℕ). slice_get l i) (sym placed_here) ∙ slice_get-get_or own i 0 below in
-        ap (list_any test) (take-map declaration_of p table)
-        ∙ sym (any_filter test declaration_of of apart (take p table))
-        ∙ ap (λ (l : List Declared). list_any test (map declaration_of l)) (sym (at_front of table i p there))
-        ∙ ap (λ (l : List ℕ). list_any test (map declaration_of (at_positions table (take i l)))) (sym placed_here)
+        let there : slice_get (positions of slots) i ≡ Some p = ap (λ (l : List ℕ). slice_get l i) (sym placed_here) ∙ slice_get-get_or own i 0 below in
+        sym (any_filter test declaration_of of refl apart (take p slots))
+        ∙ ap (λ (l : List (Option Declared)). list_any test (listed l)) (sym (at_front of slots i p there))
+        ∙ ap (λ (l : List ℕ). list_any test (listed (at_positions slots (take i l)))) (sym placed_here)
         ∙ none
 
 -- another type's is for none of its ids
@@ -229,72 +252,109 @@ not_for kind test x other = ap (λ b. b && test x.scope) other
 pub not_there : (kind : OsType) (scope : Scope) (x : Declared) → (x.kind.code == kind.code) ≡ false → stands_at kind scope (declaration_of x) ≡ false
 not_there kind scope x other = ap (λ b. b && same_scope x.scope scope) other
 
--- Codes, one declaration after the other.
-
-pub placed_next : (codes : List ℕ) (table : List Declared) (first i : ℕ) (one : Declared) (kind : ℕ) (before after : List ℕ)
-    → i < length table → one ≡ get_or table i one → length codes ≡ first
-    → after ≡ before ++ (if one.kind.code == kind then (first + i) ∷ [] else [])
-    → before ≡ positions (λ code. code == kind) (codes ++ codes_of (take i table))
-    → after ≡ positions (λ code. code == kind) (codes ++ codes_of (take (i + 1) table))
-placed_next codes table first i one kind before after below is size adds placed =
-    let front : List ℕ = codes ++ codes_of (take i table) in
-    let long : first + i ≡ length front = omega (
-      arith,
-      size,
-      below,
-      length-append codes (codes_of (take i table)),
-      length-map (take i table) (λ (each : Declared). each.kind.code),
-      length-take-le i table (omega (arith, below)),
-    ) in
-    let step : take (i + 1) table ≡ take i table ++ one ∷ [] = take_more table i one below ∙ ap (λ (each : Declared). take i table ++ each ∷ []) (sym is) in
-    let next : front ++ one.kind.code ∷ [] ≡ codes ++ codes_of (take (i + 1) table) =
-    append_assoc codes (codes_of (take i table)) (one.kind.code ∷ [])
-    ∙ ap (λ (l : List ℕ). codes ++ l) (sym (map-append (λ (each : Declared). each.kind.code) (take i table) (one ∷ [])))
-    ∙ ap (λ (l : List Declared). codes ++ codes_of l) (sym step) in
-    placed_more front one.kind.code kind before after (adds ∙ ap (λ n. before ++ (if one.kind.code == kind then n ∷ [] else [])) long) placed
-    ∙ ap (positions (λ code. code == kind)) next
-
-pub none_held : {A S : Type 0} (places : HashMap ℕ (Vec ℕ A) S) → places.entries ≡ [] → ArePlaced [] places
-none_held {A} places empty kind = ap (λ (es : List (ℕ × Vec ℕ A)). option_map_or (λ (own : Vec ℕ A). own.items) (lookup (nat_eq kind) es) []) empty
+-- One declaration more.
 
 -- one more at the end
-pub placed_append : (xs ys : List Declared) (one : Declared) (n kind : ℕ) (before after : List ℕ) → n ≡ length xs → ys ≡ xs ++ one ∷ []
-    → after ≡ before ++ (if one.kind.code == kind then n ∷ [] else []) → before ≡ positions (λ code. code == kind) (codes_of xs)
-    → after ≡ positions (λ code. code == kind) (codes_of ys)
-placed_append xs ys one n kind before after size more adds placed =
-    placed_more (codes_of xs) one.kind.code kind before after
-    (adds ∙ ap (λ k. before ++ (if one.kind.code == kind then k ∷ [] else [])) (size ∙ sym (length-map xs (λ (each : Declared). each.kind.code)))) placed
-    ∙ ap (positions (λ code. code == kind)) (sym (map-append (λ (each : Declared). each.kind.code) xs (one ∷ [])) ∙ ap codes_of (sym more))
+pub placed_append : (slots more : List (Option Declared)) (one : Declared) (n kind : ℕ) (before after : List ℕ) → n ≡ length slots → more ≡ slots ++ Some one ∷ []
+    → after ≡ before ++ (if one.kind.code == kind then n ∷ [] else []) → AreOwn kind slots before → AreOwn kind more after
+placed_append slots more one n kind before after size is adds placed =
+    let code = option_map (λ (each : Declared). each.kind.code) in
+    placed_more (codes_of slots) one.kind.code kind before after
+    (adds ∙ ap (λ k. before ++ (if one.kind.code == kind then k ∷ [] else [])) (size ∙ sym (length-map slots code))) placed
+    ∙ ap (positions (of_code kind)) (sym (map-append code slots (Some one ∷ [])) ∙ ap codes_of (sym is))
 
-codes_without : (xs : List Declared) (out : ℕ) → codes_of (take out xs) ++ codes_of (drop (out + 1) xs) ≡ remove (codes_of xs) out
-codes_without xs out =
-    let next : out + 1 ≡ suc out = omega arith in
-    (λ i. sym (take-map (λ (each : Declared). each.kind.code) out xs) i ++ sym (drop-map (λ (each : Declared). each.kind.code) (out + 1) xs) i)
-    ∙ ap (λ n. take out (codes_of xs) ++ drop n (codes_of xs)) next
+kept_at : (xs ys : List ℕ) (i : ℕ) → i < length xs → get_or (xs ++ ys) i 0 ≡ get_or xs i 0
+kept_at [] ys i within = absurd (omega (arith, within))
+kept_at (x ∷ xs) ys zero within = refl
+kept_at (x ∷ xs) ys (suc i) within = kept_at xs ys i (omega (arith, within))
 
--- one more at the end, where one is left out
-pub placed_last : (xs : List Declared) (out code kind : ℕ) (before after : List ℕ) → out < length xs
-    → after ≡ before ++ (if code == kind then (length xs - 1) ∷ [] else [])
-    → before ≡ positions (λ c. c == kind) (codes_of (take out xs) ++ codes_of (drop (out + 1) xs))
-    → after ≡ positions (λ c. c == kind) (remove (codes_of xs) out ++ code ∷ [])
-placed_last xs out code kind before after within adds placed =
-    let long : length xs - 1 ≡ length (codes_of (take out xs) ++ codes_of (drop (out + 1) xs)) = omega (
-      arith,
-      within,
-      length-append (codes_of (take out xs)) (codes_of (drop (out + 1) xs)),
-      length-map (take out xs) (λ (each : Declared). each.kind.code),
-      length-map (drop (out + 1) xs) (λ (each : Declared). each.kind.code),
-      length-take-le out xs (omega (arith, within)),
-      length-drop (out + 1) xs,
-    ) in
-    placed_more (remove (codes_of xs) out) code kind before after
-    (adds ∙ ap (λ n. before ++ (if code == kind then n ∷ [] else [])) (long ∙ ap length (codes_without xs out)))
-    (placed ∙ ap (positions (λ c. c == kind)) (codes_without xs out))
+-- those before it keep their places among the positions of their type
+pub own_kept : (slots : List (Option Declared)) (one : Declared) (kind index : ℕ) (own more : List ℕ) → AreOwn kind slots own
+    → AreOwn kind (slots ++ Some one ∷ []) more → index < length own → (index < length more) × (get_or more index 0 ≡ get_or own index 0)
+own_kept slots one kind index own more placed after within =
+    let code = option_map (λ (each : Declared). each.kind.code) in
+    let last : List ℕ = if one.kind.code == kind then length (codes_of slots) ∷ [] else [] in
+    let is : more ≡ own ++ last =
+    after ∙ ap (positions (of_code kind)) (map-append code slots (Some one ∷ [])) ∙ positions-push (of_code kind) (codes_of slots) (Some one.kind.code)
+    ∙ ap (λ (l : List ℕ). l ++ last) (sym placed) in (
+      omega (arith, within, ap length is, length-append own last),
+      ap (λ (l : List ℕ). get_or l index 0) is ∙ kept_at own last index within,
+    )
 
--- one more at the end, and one taken out
-pub placed_instead : (xs ys : List Declared) (one : Declared) (position kind : ℕ) (own : List ℕ) → position < length xs
-    → ys ≡ remove (xs ++ one ∷ []) position → own ≡ positions (λ code. code == kind) (remove (codes_of xs) position ++ one.kind.code ∷ [])
-    → own ≡ positions (λ code. code == kind) (codes_of ys)
-placed_instead xs ys one position kind own within made placed =
-    placed
-    ∙ ap (positions (λ code. code == kind)) (sym (remove_push (λ (each : Declared). each.kind.code) xs position one within) ∙ ap codes_of (sym made))
+-- One slot emptied.
+
+map_remove : (ks : List ℕ) (i : ℕ) → map suc (remove ks i) ≡ remove (map suc ks) i
+map_remove ks i = map-append suc (take i ks) (drop (suc i) ks) ∙ (λ j. sym (take-map suc i ks) j ++ sym (drop-map suc (suc i) ks) j)
+
+module _ {A : Type 0} (test : A → Bool) where
+  passing_by : (x : A) (xs : List A) → ((i k : ℕ) → slice_get (positions test xs) i ≡ Some k → (y : A) × (slice_get xs k ≡ Some y) × (test y ≡ true))
+      → (b : Bool) → test x ≡ b → (i k : ℕ) → slice_get (if b then 0 ∷ map suc (positions test xs) else map suc (positions test xs)) i ≡ Some k
+      → (y : A) × (slice_get (x ∷ xs) k ≡ Some y) × (test y ≡ true)
+  passing_by x xs behind true is zero k at = (x, ap (slice_get (x ∷ xs)) (sym (same_Some 0 k at)), is)
+  passing_by x xs behind true is (suc i) k at =
+      let before = some_suc (slice_get (positions test xs) i) k (sym (slice_get-map suc (positions test xs) i) ∙ at) in
+      let there = behind i before.0 before.1 in (there.0, ap (slice_get (x ∷ xs)) (sym before.2) ∙ there.1, there.2)
+  passing_by x xs behind false is i k at =
+      let before = some_suc (slice_get (positions test xs) i) k (sym (slice_get-map suc (positions test xs) i) ∙ at) in
+      let there = behind i before.0 before.1 in (there.0, ap (slice_get (x ∷ xs)) (sym before.2) ∙ there.1, there.2)
+
+  -- what stands at a position passes
+  passing : (xs : List A) (i k : ℕ) → slice_get (positions test xs) i ≡ Some k → (y : A) × (slice_get xs k ≡ Some y) × (test y ≡ true)
+  passing [] i k at = cc
+  passing (x ∷ xs) i k at = passing_by x xs (passing xs) (test x) refl i k at
+
+  module _ (y : A) (fails : test y ≡ false) where
+    cleared_by : (x : A) (xs : List A) → ((i k : ℕ) → slice_get (positions test xs) i ≡ Some k → positions test (set xs k y) ≡ remove (positions test xs) i)
+        → (b : Bool) → test x ≡ b → (i k : ℕ) → slice_get (if b then 0 ∷ map suc (positions test xs) else map suc (positions test xs)) i ≡ Some k
+        → positions test (set (x ∷ xs) k y) ≡ remove (if b then 0 ∷ map suc (positions test xs) else map suc (positions test xs)) i
+    cleared_by x xs behind true is zero k at =
+        ap (λ n. positions test (set (x ∷ xs) n y)) (sym (same_Some 0 k at))
+        ∙ ap (λ b. if b then 0 ∷ map suc (positions test xs) else map suc (positions test xs)) fails
+    cleared_by x xs behind true is (suc i) k at =
+        let before = some_suc (slice_get (positions test xs) i) k (sym (slice_get-map suc (positions test xs) i) ∙ at) in
+        let rest = positions test (set xs before.0 y) in
+        ap (λ n. positions test (set (x ∷ xs) n y)) (sym before.2)
+        ∙ ap (λ b. if b then 0 ∷ map suc rest else map suc rest) is
+        ∙ ap (λ (l : List ℕ). 0 ∷ l) (ap (λ (l : List ℕ). map suc l) (behind i before.0 before.1) ∙ map_remove (positions test xs) i)
+    cleared_by x xs behind false is i k at =
+        let before = some_suc (slice_get (positions test xs) i) k (sym (slice_get-map suc (positions test xs) i) ∙ at) in
+        let rest = positions test (set xs before.0 y) in
+        ap (λ n. positions test (set (x ∷ xs) n y)) (sym before.2)
+        ∙ ap (λ b. if b then 0 ∷ map suc rest else map suc rest) is
+        ∙ ap (λ (l : List ℕ). map suc l) (behind i before.0 before.1) ∙ map_remove (positions test xs) i
+
+    -- what doesn't pass is put where one passed
+    cleared : (xs : List A) (i k : ℕ) → slice_get (positions test xs) i ≡ Some k → positions test (set xs k y) ≡ remove (positions test xs) i
+    cleared [] i k at = cc
+    cleared (x ∷ xs) i k at = cleared_by x xs (cleared xs) (test x) refl i k at
+
+    -- or where none did
+    untouched : (xs : List A) (k : ℕ) (x : A) → slice_get xs k ≡ Some x → test x ≡ false → positions test (set xs k y) ≡ positions test xs
+    untouched [] k x at apart = cc
+    untouched (z ∷ xs) zero x at apart =
+        ap (λ b. if b then 0 ∷ map suc (positions test xs) else map suc (positions test xs)) (fails ∙ sym (ap test (same_Some z x at) ∙ apart))
+    untouched (z ∷ xs) (suc k) x at apart = ap (λ (l : List ℕ). if test z then 0 ∷ map suc l else map suc l) (untouched xs k x at apart)
+
+other_code : (kind other : ℕ) (code : Option ℕ) → (kind == other) ≡ false → of_code kind code ≡ true → of_code other code ≡ false
+other_code kind other None apart is = refl
+other_code kind other (Some code) apart is = ap (λ c. c == other) (eqb-true code kind is) ∙ apart
+
+out_by : (codes : List (Option ℕ)) (kind other index position : ℕ) (own before : List ℕ) → slice_get own index ≡ Some position
+    → own ≡ positions (of_code kind) codes → before ≡ positions (of_code other) codes
+    → (b : Bool) → (kind == other) ≡ b → (if b then remove before index else before) ≡ positions (of_code other) (set codes position None)
+out_by codes kind other index position own before at placed placed_other true same =
+    ap (λ (l : List ℕ). remove l index) placed_other
+    ∙ sym (cleared (of_code other) None refl codes index position
+    (ap (λ n. slice_get (positions (of_code n) codes) index) (sym (eqb-true kind other same)) ∙ ap (λ (l : List ℕ). slice_get l index) (sym placed) ∙ at))
+out_by codes kind other index position own before at placed placed_other false apart =
+    let there = passing (of_code kind) codes index position (ap (λ (l : List ℕ). slice_get l index) (sym placed) ∙ at) in
+    placed_other ∙ sym (untouched (of_code other) None refl codes position there.0 there.1 (other_code kind other there.0 apart there.2))
+
+-- of one type's positions one is taken out, and its slot is emptied
+pub placed_out : (slots new : List (Option Declared)) (kind other index position : ℕ) (own before after : List ℕ) → slice_get own index ≡ Some position
+    → AreOwn kind slots own → AreOwn other slots before → after ≡ (if kind == other then remove before index else before)
+    → new ≡ set slots position None → AreOwn other new after
+placed_out slots new kind other index position own before after at placed placed_other made is =
+    made
+    ∙ out_by (codes_of slots) kind other index position own before at placed placed_other (kind == other) refl
+    ∙ ap (positions (of_code other)) (sym (map-set (option_map (λ (each : Declared). each.kind.code)) slots position None) ∙ ap codes_of (sym is))

@@ -1,6 +1,8 @@
--- The declarations of a table as contracts see them, one by one.
-use Rattle.std.specs.Prelude.{◌≡◌, ℕ, Bool, true, false, List, map, take, slice_get, Option, Some, MatchOption}
+-- The declarations of a table as contracts see them, one by one. A declaration stands in a slot, which is empty once the
+-- declaration was taken out.
+use Rattle.std.specs.Prelude.{◌≡◌, ◌<◌, ℕ, Bool, true, false, List, map, length, take, slice_get, slice_index, Option, Some, option_map, option_to_list, MatchOption, flat_map}
 use Rattle.std.specs.List.{list_any}
+use Rattle.rz_types_table.specs.Positions.{of_code, positions}
 use Rattle.rz_types_table.specs.Table.{Declaration}
 use Rattle.rz_types.specs.Template.{template_of}
 use Rattle.rz_types_table.specs.declared.table.Declared.{Declared}
@@ -8,11 +10,23 @@ use Rattle.rz_types_table.specs.declared.table.Declared.{Declared}
 abbrev pub declaration_of : Declared → Declaration
 declaration_of declared = record { kind = declared.kind; scope = declared.scope; template = template_of declared.template }
 
--- the codes of their types
-abbrev pub codes_of : List Declared → List ℕ
-codes_of declared = map (λ one. one.kind.code) declared
+-- what stands in slots, in order
+abbrev pub standing : {A : Type 0} → List (Option A) → List A
+standing slots = flat_map option_to_list slots
 
--- where the first that passes stands, or that none does
-abbrev pub IsFirst : {A : Type 0} → (A → Bool) → List A → Option ℕ → Type 0
-IsFirst test xs found = MatchOption found (list_any test xs ≡ false)
-    (λ k. (x : _) × (slice_get xs k ≡ Some x) × (test x ≡ true) × (list_any test (take k xs) ≡ false))
+abbrev pub listed : List (Option Declared) → List Declaration
+listed slots = map declaration_of (standing slots)
+
+-- the codes of their types, slot by slot
+abbrev pub codes_of : List (Option Declared) → List (Option ℕ)
+codes_of slots = map (option_map (λ one. one.kind.code)) slots
+
+-- the positions are those of the declarations of a type
+abbrev pub AreOwn : ℕ → List (Option Declared) → List ℕ → Type 0
+AreOwn kind slots own = own ≡ positions (of_code kind) (codes_of slots)
+
+-- which of the positions is that of the first declaration that passes, or that none passes
+abbrev pub IsFirst : (Declaration → Bool) → List (Option Declared) → List ℕ → Option ℕ → Type 0
+IsFirst test slots own found = MatchOption found (list_any test (listed slots) ≡ false)
+    (λ index. (one : Declared) × (index < length own) × (slice_get slots (slice_index own index) ≡ Some (Some one))
+    × (test (declaration_of one) ≡ true) × (list_any test (listed (take (slice_index own index) slots)) ≡ false))

@@ -1,33 +1,42 @@
 //! Which declaration counts for an id, and which one `as` names. Both are defined in `specs/Table`.
 
-ghost use Rattle.std.specs.Prelude.{◌≡◌, ◌==◌, if◌then◌else◌, map, option_map, Some};
+ghost use Rattle.std.specs.Prelude.{◌≡◌, if◌then◌else◌, option_map};
 ghost use Rattle.rz_core.specs.Lists.{or_else};
-ghost use Rattle.rz_types_table.specs.Listed.{codes_of, declaration_of, IsFirst};
-ghost use Rattle.rz_types_table.specs.Positions.{positions};
+ghost use Rattle.rz_types_table.specs.Listed.{declaration_of, listed, AreOwn, IsFirst};
+ghost use Rattle.rz_types_table.specs.Positions.{in_slot};
 ghost use Rattle.rz_types_table.specs.Table.{asked, found, is_any, is_for, is_id, is_range_of, last_such, no_such_type, same_scope, stands_at};
 
 use crate::table::{Declared, Scope};
 use rz_core::{Kept, OsType};
 use rz_types::TypeFault;
 
-/// The position of the declaration of a type and a scope, where the declarations of the type stand at these positions.
-pub fn position_of(table: &[Declared], own: &[usize], kind: OsType, scope: Scope) -> Option<usize>
-    requires { own.now ≡ positions (λ code. code == kind.code) (codes_of table.now) }
-    ensures { IsFirst (stands_at kind scope) (map declaration_of table.now) result }
+/// Which of the declarations of a type is for a scope, where they stand in the slots at these positions: its index among
+/// the positions.
+pub fn index_of(
+    slots: &[Option<Declared>],
+    own: &[usize],
+    kind: OsType,
+    scope: Scope,
+) -> Option<usize>
+    requires { AreOwn kind.code slots.now own.now }
+    ensures { IsFirst (stands_at kind scope) slots.now own.now result }
 {
-    for position in own {
-        if stands_at(&table[*position], kind, scope) {
-            return Some(*position);
+    for (index, position) in own.iter().enumerate() {
+        if stands_in(&slots[*position], kind, scope) {
+            return Some(index);
         }
     }
     None
 }
 
-/// Whether a declaration is of a type and for a scope.
-fn stands_at(one: &Declared, kind: OsType, scope: Scope) -> bool
-    ensures { result ≡ stands_at kind scope (declaration_of one.now) }
+/// Whether the declaration in a slot is of a type and for a scope.
+fn stands_in(slot: &Option<Declared>, kind: OsType, scope: Scope) -> bool
+    ensures { result ≡ in_slot (stands_at kind scope) (option_map declaration_of slot.now) }
 {
-    one.kind.code == kind.code && same_scope(one.scope, scope)
+    match slot {
+        Some(one) => one.kind.code == kind.code && same_scope(one.scope, scope),
+        None => false,
+    }
 }
 
 fn same_scope(one: Scope, other: Scope) -> bool
@@ -43,61 +52,69 @@ fn same_scope(one: Scope, other: Scope) -> bool
 
 /// The declaration that counts for an id.
 pub fn find_in<'a>(
-    table: &'a [Declared],
+    slots: &'a [Option<Declared>],
     own: &[usize],
     kind: OsType,
     id: i16,
 ) -> Option<&'a Declared>
-    requires { own.now ≡ positions (λ code. code == kind.code) (codes_of table.now) }
-    ensures { option_map (λ one. declaration_of one.now) result ≡ found kind id (map declaration_of table.now) }
+    requires { AreOwn kind.code slots.now own.now }
+    ensures { option_map (λ one. declaration_of one.now) result ≡ found kind id (listed slots.now) }
 {
     let mut by_id = None;
     let mut by_range = None;
     let mut for_any = None;
     for position in own {
-        let one = &table[*position];
-        by_id = later(by_id, one, is_for_id(one, kind, id));
-        by_range = later(by_range, one, is_for_range_of(one, kind, id));
-        for_any = later(for_any, one, is_for_any(one, kind));
+        let slot = &slots[*position];
+        by_id = later(by_id, slot, is_for_id(slot, kind, id));
+        by_range = later(by_range, slot, is_for_range_of(slot, kind, id));
+        for_any = later(for_any, slot, is_for_any(slot, kind));
     }
     or_else(by_id, or_else(by_range, for_any))
 }
 
 /// The declaration that `as` names.
 pub fn asked_in<'a>(
-    table: &'a [Declared],
+    slots: &'a [Option<Declared>],
     own: &[usize],
     kind: OsType,
     id: Option<i16>,
 ) -> Option<&'a Declared>
-    requires { own.now ≡ positions (λ code. code == kind.code) (codes_of table.now) }
-    ensures { option_map (λ one. declaration_of one.now) result ≡ asked kind id (map declaration_of table.now) }
+    requires { AreOwn kind.code slots.now own.now }
+    ensures { option_map (λ one. declaration_of one.now) result ≡ asked kind id (listed slots.now) }
 {
     match id {
-        Some(id) => find_in(table, own, kind, id),
-        None => last_for_any(table, own, kind),
+        Some(id) => find_in(slots, own, kind, id),
+        None => last_for_any(slots, own, kind),
     }
 }
 
 /// The last declaration for any id.
-fn last_for_any<'a>(table: &'a [Declared], own: &[usize], kind: OsType) -> Option<&'a Declared>
-    requires { own.now ≡ positions (λ code. code == kind.code) (codes_of table.now) }
-    ensures { option_map (λ one. declaration_of one.now) result ≡ last_such (is_for kind is_any) (map declaration_of table.now) }
+fn last_for_any<'a>(
+    slots: &'a [Option<Declared>],
+    own: &[usize],
+    kind: OsType,
+) -> Option<&'a Declared>
+    requires { AreOwn kind.code slots.now own.now }
+    ensures { option_map (λ one. declaration_of one.now) result ≡ last_such (is_for kind is_any) (listed slots.now) }
 {
     let mut for_any = None;
     for position in own {
-        let one = &table[*position];
-        for_any = later(for_any, one, is_for_any(one, kind));
+        let slot = &slots[*position];
+        for_any = later(for_any, slot, is_for_any(slot, kind));
     }
     for_any
 }
 
-/// A declaration that passes, else the one before.
-fn later<'a>(before: Option<&'a Declared>, one: &'a Declared, passes: bool) -> Option<&'a Declared>
+/// The declaration in a slot that passes, else the one before.
+fn later<'a>(
+    before: Option<&'a Declared>,
+    slot: &'a Option<Declared>,
+    passes: bool,
+) -> Option<&'a Declared>
     ensures { option_map (λ one. declaration_of one.now) result
-        ≡ (if passes then Some (declaration_of one.now) else option_map (λ one. declaration_of one.now) before.entry) }
+        ≡ (if passes then option_map declaration_of slot.now else option_map (λ one. declaration_of one.now) before.entry) }
 {
-    if passes { Some(one) } else { before }
+    if passes { slot.as_ref() } else { before }
 }
 
 /// The first of two, where it is there.
@@ -111,10 +128,13 @@ fn or_else<'a>(first: Option<&'a Declared>, other: Option<&'a Declared>) -> Opti
     }
 }
 
-fn is_for_id(one: &Declared, kind: OsType, id: i16) -> bool
-    ensures { result ≡ is_for kind (is_id id) (declaration_of one.now) }
+fn is_for_id(slot: &Option<Declared>, kind: OsType, id: i16) -> bool
+    ensures { result ≡ in_slot (is_for kind (is_id id)) (option_map declaration_of slot.now) }
 {
-    one.kind.code == kind.code && is_id(one.scope, id)
+    match slot {
+        Some(one) => one.kind.code == kind.code && is_id(one.scope, id),
+        None => false,
+    }
 }
 
 fn is_id(scope: Scope, id: i16) -> bool
@@ -126,10 +146,13 @@ fn is_id(scope: Scope, id: i16) -> bool
     }
 }
 
-fn is_for_range_of(one: &Declared, kind: OsType, id: i16) -> bool
-    ensures { result ≡ is_for kind (is_range_of id) (declaration_of one.now) }
+fn is_for_range_of(slot: &Option<Declared>, kind: OsType, id: i16) -> bool
+    ensures { result ≡ in_slot (is_for kind (is_range_of id)) (option_map declaration_of slot.now) }
 {
-    one.kind.code == kind.code && is_range_of(one.scope, id)
+    match slot {
+        Some(one) => one.kind.code == kind.code && is_range_of(one.scope, id),
+        None => false,
+    }
 }
 
 fn is_range_of(scope: Scope, id: i16) -> bool
@@ -141,10 +164,13 @@ fn is_range_of(scope: Scope, id: i16) -> bool
     }
 }
 
-fn is_for_any(one: &Declared, kind: OsType) -> bool
-    ensures { result ≡ is_for kind is_any (declaration_of one.now) }
+fn is_for_any(slot: &Option<Declared>, kind: OsType) -> bool
+    ensures { result ≡ in_slot (is_for kind is_any) (option_map declaration_of slot.now) }
 {
-    one.kind.code == kind.code && is_any(one.scope)
+    match slot {
+        Some(one) => one.kind.code == kind.code && is_any(one.scope),
+        None => false,
+    }
 }
 
 fn is_any(scope: Scope) -> bool

@@ -1,12 +1,10 @@
 //! The table of type declarations: it gives exactly the declaration that counts for an id, and a declaration of the same
 //! type and scope takes the place of the one before.
-//! It rests on `rz_core`, `rz_expr`, `rz_types_fields` and `rz_types`.
-//! A new kind of field changes `copies`; another scope, or another order of which counts, `Scope`, `find` and
-//! `specs/Table`, with `specs/Scopes` for the laws. How a scope is written stands in `rz_stmt_type`, and what a statement
-//! declares in `rz_tools_work`.
+//! It rests on `rz_core`, `rz_types_fields` and `rz_types`.
+//! Another scope, or another order of which counts, changes `Scope`, `find` and `specs/Table`, with `specs/Scopes` for the
+//! laws. How a scope is written stands in `rz_stmt_type`, and what a statement declares in `rz_tools_work`.
 #![tactic(auto)]
 
-mod copies;
 mod find;
 mod laws;
 mod positions;

@@ -1,16 +1,14 @@
-//! Where the declarations of each type stand in the list. What is held is in `specs/Positions`.
+//! In which slots the declarations of each type stand. What is held is in `specs/Positions`.
 
-ghost use Rattle.std.specs.Prelude.{◌≡◌, ◌+◌, ◌<◌, ◌^◌, ◌==◌, ℕ, List, [], ◌∷◌, ◌++◌, length, if◌then◌else◌, IfOk, OnErr, OnOk};
+ghost use Rattle.std.specs.Prelude.{◌≡◌, ◌<◌, ◌==◌, ℕ, [], ◌∷◌, ◌++◌, length, if◌then◌else◌, slice_get, OnErr, OnOk};
 ghost use Rattle.std.specs.List.{remove};
-ghost use Rattle.rz_types_table.specs.Listed.{codes_of};
-ghost use Rattle.rz_types_table.specs.Positions.{held, ArePlaced};
+ghost use Rattle.rz_types_table.specs.Positions.{held};
 
-use crate::table::Declared;
 use rz_core::NoMemory;
 use std::alloc::Global;
 use std::collections::HashMap;
 
-/// The positions of declarations in their list, ascending, by the codes of their types.
+/// The positions of the slots of declarations, from 0 and ascending, by the codes of their types.
 pub type Places = HashMap<u32, Vec<usize>>;
 
 /// The positions that are held for a type. Its time is constant on average.
@@ -35,35 +33,14 @@ pub fn add(alloc: Global, places: &mut Places, kind: u32, position: usize) -> Re
     Ok(())
 }
 
-/// Adds the positions of declarations, from this one on.
-fn add_all(
-    alloc: Global,
-    places: &mut Places,
-    first: usize,
-    declared: &[Declared],
-) -> Result<(), NoMemory>
-    requires { first + length declared.now < 2 ^ 64 }
-    ensures { OnOk result ((codes : List ℕ) → length codes ≡ first → ArePlaced codes places.old → ArePlaced (codes ++ codes_of declared.now) places.new) }
+/// Takes the position at this index out of those of its type, and gives it.
+pub fn take_position(places: &mut Places, kind: u32, index: usize) -> Option<usize>
+    requires { index < length (held kind places.old) }
+    ensures position { result ≡ slice_get (held kind places.old) index }
+    ensures places { (other : ℕ) → held other places.new ≡ (if kind == other then remove (held other places.old) index else held other places.old) }
 {
-    for (index, one) in declared.iter().enumerate() {
-        add(alloc, places, one.kind.code, first + index)?;
+    match places.get_mut(&kind) {
+        Some(own) => Some(own.remove(index)),
+        None => None,
     }
-    Ok(())
-}
-
-/// The positions where one declaration is taken out, and one of this type stands at the end.
-pub fn placed_without(
-    alloc: Global,
-    declared: &[Declared],
-    out: usize,
-    kind: u32,
-) -> Result<Places, NoMemory>
-    requires { out < length declared.now }
-    ensures { IfOk result (ArePlaced (remove (codes_of declared.now) out ++ kind ∷ [])) }
-{
-    let mut places = Places::new(alloc);
-    add_all(alloc, &mut places, 0, &declared[..out])?;
-    add_all(alloc, &mut places, out, &declared[out + 1..])?;
-    add(alloc, &mut places, kind, declared.len() - 1)?;
-    Ok(places)
 }

@@ -3,9 +3,8 @@
 ghost use Rattle.rz_types_table.specs.Listed.{codes_of};
 ghost use Rattle.rz_types_table.specs.Positions.{ArePlaced};
 
-use crate::copies::copy_template;
-use crate::find::{asked_in, find_in, no_such_type, position_of};
-use crate::positions::{Places, add, held, placed_without};
+use crate::find::{asked_in, find_in, index_of, no_such_type};
+use crate::positions::{Places, add, held, take_position};
 use rz_core::{NoMemory, OsType, Stop};
 use rz_types::{Template, TypeFault};
 use std::alloc::Global;
@@ -29,19 +28,20 @@ pub struct Declared {
     pub template: Template,
 }
 
-/// The declarations of types, in the order in which they were made. Contracts see it as their list. Beside the list it
-/// holds where the declarations of each type stand in it.
+/// The declarations of types, in the order in which they were made. Contracts see it as their list. It holds a slot for
+/// each declaration that was ever made, empty once the declaration was taken out, and beside the slots in which of them
+/// the declarations of each type stand.
 #[derive(Drop)]
 pub struct TypeTable {
-    declared: Vec<Declared>,
+    declared: Vec<Option<Declared>>,
     places: Places,
     ghost placed: { ArePlaced (codes_of declared.items) places },
 }
 
 impl TypeTable {
-    ghost use Rattle.std.specs.Prelude.{◌≡◌, ◌<◌, [], ◌∷◌, ◌++◌, length, IfOk, OnErr, OnOk, option_map};
-    ghost use Rattle.std.specs.List.{remove};
+    ghost use Rattle.std.specs.Prelude.{◌≡◌, ◌<◌, [], ◌∷◌, ◌++◌, length, set, slice_index, Some, None, IfOk, OnErr, OnOk, option_map};
     ghost use Rattle.rz_core.specs.Stop.{seen, Gives};
+    ghost use Rattle.rz_types_table.specs.Positions.{held};
     ghost use Rattle.rz_types_table.specs.Table.{copied, declared_behind, found, has_place};
     ghost use Rattle.rz_types.specs.Template.{template_of};
     ghost use Rattle.rz_types_table.specs.TypeTable.{table_of};
@@ -57,8 +57,8 @@ impl TypeTable {
     }
 
     /// Adds a declaration at the end. One of the same type and scope is taken out; it answers whether there
-    /// was one. Where memory is refused the table is unchanged. It goes once over the declarations of the type,
-    /// and where one is taken out once over all. (MPW Rez.)
+    /// was one. Where memory is refused the table is unchanged. It goes once over the declarations of the type
+    /// alone. (MPW Rez.)
     pub fn declare(
         &mut self,
         kind: OsType,
@@ -69,32 +69,29 @@ impl TypeTable {
         ensures table { OnOk result (table_of self.new ≡ declared_behind (table_of self.old) (record { kind = kind; scope = scope; template = template_of template })) }
         ensures err { OnErr result (table_of self.new ≡ table_of self.old) }
     {
-        let old = position_of(&self.declared, held(&self.places, kind.code), kind, scope);
-        let one = Declared {
+        let old = index_of(&self.declared, held(&self.places, kind.code), kind, scope);
+        self.append(Declared {
             kind,
             scope,
             template,
-        };
+        })?;
         match old {
-            Some(position) => {
-                self.replace(position, one)?;
+            Some(index) => {
+                self.take_out(kind.code, index);
                 Ok(true)
             }
-            None => {
-                self.append(one)?;
-                Ok(false)
-            }
+            None => Ok(false),
         }
     }
 
     /// A declaration at the end.
     fn append(&mut self, one: Declared) -> Result<(), NoMemory>
-        ensures ok { OnOk result (self.new.declared.items ≡ self.old.declared.items ++ one ∷ []) }
+        ensures ok { OnOk result (self.new.declared.items ≡ self.old.declared.items ++ Some one ∷ []) }
         ensures err { OnErr result (self.new.declared.items ≡ self.old.declared.items) }
     {
         let kind = one.kind.code;
         let position = self.declared.len();
-        self.declared.push(one)?;
+        self.declared.push(Some(one))?;
         match add(*self.declared.allocator(), &mut self.places, kind, position) {
             Ok(()) => Ok(()),
             Err(refused) => {
@@ -104,19 +101,14 @@ impl TypeTable {
         }
     }
 
-    /// A declaration at the end, and the one at this position taken out. All memory is taken before the first
-    /// change.
-    fn replace(&mut self, position: usize, one: Declared) -> Result<(), NoMemory>
-        requires { position < length self.old.declared.items }
-        ensures ok { OnOk result (self.new.declared.items ≡ remove (self.old.declared.items ++ one ∷ []) position) }
-        ensures err { OnErr result (self.new.declared.items ≡ self.old.declared.items) }
+    /// Empties the slot of one of the declarations of a type, the one at this index among them.
+    fn take_out(&mut self, kind: u32, index: usize)
+        requires { index < length (held kind self.old.places) }
+        ensures { self.new.declared.items ≡ set self.old.declared.items (slice_index (held kind self.old.places) index) None }
     {
-        let alloc = *self.declared.allocator();
-        let places = placed_without(alloc, &self.declared, position, one.kind.code)?;
-        self.declared.push(one)?;
-        self.declared.remove(position);
-        self.places = places;
-        Ok(())
+        if let Some(position) = take_position(&mut self.places, kind, index) {
+            self.declared[position] = None;
+        }
     }
 
     /// The template of the last declaration of the type for this very id, else of the last whose range holds
@@ -131,14 +123,14 @@ impl TypeTable {
         }
     }
 
-    /// A copy of the template that `find` gives, or without an id of that of the last declaration for any
-    /// id. 239 where there is none (kept: the type, and the id or 0). It goes once over the declarations of the type
+    /// The template that `find` gives, or without an id that of the last declaration for any id, shared and not copied.
+    /// 239 where there is none (kept: the type, and the id or 0). It goes once over the declarations of the type
     /// alone. (MPW Rez.)
     pub fn copy_of(&self, kind: OsType, id: Option<i16>) -> Result<Template, Stop<TypeFault>>
         ensures { Gives (copied kind id (table_of self.now)) (seen template_of result) }
     {
         match asked_in(&self.declared, held(&self.places, kind.code), kind, id) {
-            Some(one) => Ok(copy_template(*self.declared.allocator(), &one.template)?),
+            Some(one) => Ok(one.template.share()?),
             None => Err(Stop::Refused(no_such_type(kind, id))),
         }
     }

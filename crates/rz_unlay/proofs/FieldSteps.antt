@@ -1,9 +1,6 @@
 -- Fields of a body, rows of an array and cases of a switch, one more at a time.
-use Rattle.std.proofs.Common.{◌≡◌, ℕ, zero, suc, ◌+◌, ◌-◌, ◌<◌, ◌≤◌, ◌==◌, ◌||◌, ◌⊎◌, inl, inr, Bool, true, false, ℤ, pos, negsuc, List, [], ◌∷◌, ◌++◌, length, get_or, drop, IfSome, Option, Some, None, refl, sym, ap, ◌∙◌, subst, append_assoc, arith}
-use Rattle.std.specs.Prelude.{nat_le, nat_lt, if◌then◌else◌, option_and_then, option_map}
-use lib.Signed.{◌<ℤ◌}
-use Rattle.std.proofs.lemmas.Bool.Decides.{leb_tells, nat_tests}
-use Rattle.std.proofs.lemmas.Int.{ints}
+use Rattle.std.proofs.Common.{◌≡◌, ℕ, zero, suc, ◌+◌, ◌-◌, ◌<◌, ◌≤◌, ◌||◌, ◌⊎◌, inl, inr, Bool, true, false, ℤ, List, [], ◌∷◌, ◌++◌, length, get_or, drop, IfSome, Option, Some, None, refl, sym, ap, ◌∙◌, subst, append_assoc, arith}
+use Rattle.std.specs.Prelude.{nat_le, if◌then◌else◌, option_and_then, option_map}
 use Rattle.std.proofs.lemmas.List.{append-nil}
 use Rattle.rz_core.specs.declared.facts.Facts.{Facts}
 use Rattle.rz_core.specs.declared.resource.Word.{Word}
@@ -21,9 +18,9 @@ use Rattle.rz_types_fields.specs.declared.tree.Tree.TheVariants as trees
 use Rattle.rz_types_fields.specs.RowLabels.{also_rows, label_places}
 use Rattle.rz_types_fields.specs.Spells.{put, values_in}
 use Rattle.rz_types_fields.specs.Field.{field_and, plain_body, plain_cases, plain_field, Align, Array, Fill, Label, Number, PlainBody, PlainCases, PlainField, Points, Switch, Text}
-use Rattle.rz_types.specs.Width.{capped, case_keys}
-use Rattle.rz_unlay.specs.Came.{chosen, found_of, line_at, line_in}
-use Rattle.rz_unlay.specs.Cursor.{and_lines, body_found, case_found, field_found, has_keys, line_of, no_lines, open_rows, rows_at, rows_by, rows_to, rows_while, up_to_end, up_to_label, with_label, Line, Lines, ReadsRow}
+use Rattle.rz_types.specs.Width.{case_keys}
+use Rattle.rz_unlay.specs.Came.{chosen, found_of, line_at, line_in, lines_in}
+use Rattle.rz_unlay.specs.Cursor.{and_lines, body_found, case_found, field_found, goes_on, has_keys, is_over, line_of, no_lines, rows_over, rows_until, with_label, Line, Lines, ReadsRow}
 use Rattle.rz_unlay.specs.Pieces.{field_of_pieces, with_value, met_past, Found}
 use Rattle.rz_unlay_pieces.specs.Pieces.{claim_count, here_at, Step}
 use Rattle.rz_unlay_pieces.specs.Came.{met_in, met_of}
@@ -34,12 +31,14 @@ use Rattle.rz_unlay_pieces.specs.Few.{few, step_count, value_count}
 use Rattle.rz_unlay.specs.Few.{found_count, line_count, lines_count}
 use Rattle.rz_unlay.specs.Fits.{AreFit, CasesFit, Fits}
 use Rattle.rz_unlay.specs.declared.came.RowCame.{RowCame}
+use Rattle.rz_unlay.specs.declared.came.RowsCame.{RowsCame}
+use Rattle.rz_unlay.specs.declared.rows.Until.{Until}
+use Rattle.rz_unlay.specs.declared.rows.Until.TheVariants as ends
 use Rattle.rz_types_fields.specs.Passed.{gives_count, gives_rows, met_behind, met_inside, Names}
 use Rattle.rz_types_fields.specs.Sees.{marked, Late}
-use Rattle.rz_unlay_pieces.specs.Ahead.{Told}
-use Rattle.rz_unlay_pieces.specs.Seen.{met_counted, met_in_rows, told_capped}
+use Rattle.rz_unlay_pieces.specs.Seen.{met_counted, met_in_rows}
 use Rattle.rz_unlay_pieces.specs.declared.learnt.Learnt.{Learnt}
-use Rattle.rz_unlay.specs.Rows.{pushed, stop_at, stop_before}
+use Rattle.rz_unlay.specs.Rows.{pushed}
 use Rattle.rz_unlay.proofs.FewValues.{count_choice, count_rows, few_fits, first_within, label_behind, line_behind, no_line, no_more, none_behind, some_behind, some_same, value_behind, value_less}
 
 -- Fields.
@@ -194,203 +193,57 @@ none_left rows places at late most =
     (λ i. Some (record { rows = sym (append-nil rows) i; places = sym (append-nil places) i; after = at; late = late }))
     ∙ ap (with_lines rows places) (sym (few_fits lines_count most (no_lines at late) (omega arith)))
 
-module _ (row : ReadsRow) (rows : List (List Tree)) (places : List ℤ) (total : Option Lines) where
-  pub row_more : (n number at : ℕ) (late : Late) (most more : ℕ) (line : Line) → 0 < n → 0 < most → Some line ≡ few line_count (most - 1) (row number at late) → more + values_in line.row ≡ most - 1
-      → with_lines rows places (few lines_count most (rows_at row n number at late)) ≡ total
-      → with_lines (rows ++ line.row ∷ []) (places ++ line.places) (few lines_count more (rows_at row (n - 1) (number + 1) line.after line.late)) ≡ total
-  row_more zero number at late most more line some left is sum so = absurd (omega arith)
-  row_more (suc n) number at late most more line some left is sum so =
+module _ (row : ReadsRow) (until : Until) (rows : List (List Tree)) (places : List ℤ) (total : Option Lines) where
+  abbrev rest : ℕ → ℕ → Line → Option Lines
+  rest n done line = rows_until row until n (done + 1) line.after line.late
+
+  abbrev by_test : ℕ → ℕ → ℕ → Late → ℕ → Bool → Option Lines
+  by_test n done at late most test =
+      with_lines rows places (few lines_count most (if test then option_and_then (λ line. option_map (and_lines line) (rest n done line)) (row (done + 1) at late) else rows_over until done at late))
+
+  pub row_more : (n done at : ℕ) (late : Late) (most more : ℕ) (line : Line) → 0 < n → 0 < most → goes_on until done at ≡ true
+      → Some line ≡ few line_count (most - 1) (row (done + 1) at late) → more + values_in line.row ≡ most - 1
+      → with_lines rows places (few lines_count most (rows_until row until n done at late)) ≡ total
+      → with_lines (rows ++ line.row ∷ []) (places ++ line.places) (few lines_count more (rows_until row until (n - 1) (done + 1) line.after line.late)) ≡ total
+  row_more zero done at late most more line some left test is sum so = absurd (omega arith)
+  row_more (suc n) done at late most more line some left test is sum so =
       let e : suc n - 1 ≡ n = omega arith in
-      ap (λ k. with_lines (rows ++ line.row ∷ []) (places ++ line.places) (few lines_count more (rows_at row k (number + 1) line.after line.late))) e
-      ∙ pushed_lines rows places line (few lines_count more (rows_at row n (number + 1) line.after line.late))
-      ∙ ap (with_lines rows places) (sym (line_behind (row number at late) (λ l. rows_at row n (number + 1) l.after l.late) most more line left is sum))
+      ap (λ k. with_lines (rows ++ line.row ∷ []) (places ++ line.places) (few lines_count more (rest k done line))) e
+      ∙ pushed_lines rows places line (few lines_count more (rest n done line))
+      ∙ ap (with_lines rows places) (sym (line_behind (row (done + 1) at late) (rest n done) most more line left is sum))
+      ∙ ap (by_test n done at late most) (sym test)
       ∙ so
 
-  pub no_row : (n number at : ℕ) (late : Late) (most : ℕ) → 0 < n → 0 < most → None ≡ few line_count (most - 1) (row number at late)
-      → with_lines rows places (few lines_count most (rows_at row n number at late)) ≡ total → None ≡ total
-  no_row zero number at late most some left none so = absurd (omega arith)
-  no_row (suc n) number at late most some left none so =
-      ap (with_lines rows places) (no_line (row number at late) (λ l. rows_at row n (number + 1) l.after l.late) most left none) ∙ so
+  pub no_row : (n done at : ℕ) (late : Late) (most : ℕ) → 0 < n → 0 < most → goes_on until done at ≡ true → None ≡ few line_count (most - 1) (row (done + 1) at late)
+      → with_lines rows places (few lines_count most (rows_until row until n done at late)) ≡ total → None ≡ total
+  no_row zero done at late most some left test none so = absurd (omega arith)
+  no_row (suc n) done at late most some left test none so =
+      ap (with_lines rows places) (no_line (row (done + 1) at late) (rest n done) most left none) ∙ ap (by_test n done at late most) (sym test) ∙ so
 
-  pub rows_out : (n number at : ℕ) (late : Late) (most : ℕ) → 0 < n → most ≡ 0 → with_lines rows places (few lines_count most (rows_at row n number at late)) ≡ total → None ≡ total
-  rows_out zero number at late most some out so = absurd (omega arith)
-  rows_out (suc n) number at late most some out so =
-      ap (with_lines rows places) (no_more (row number at late) (λ l. rows_at row n (number + 1) l.after l.late) most out) ∙ so
+  pub rows_out : (n done at : ℕ) (late : Late) (most : ℕ) → 0 < n → most ≡ 0 → goes_on until done at ≡ true
+      → with_lines rows places (few lines_count most (rows_until row until n done at late)) ≡ total → None ≡ total
+  rows_out zero done at late most some out test so = absurd (omega arith)
+  rows_out (suc n) done at late most some out test so =
+      ap (with_lines rows places) (no_more (row (done + 1) at late) (rest n done) most out) ∙ ap (by_test n done at late most) (sym test) ∙ so
 
-  pub rows_over : (n number at : ℕ) (late : Late) (most : ℕ) → n ≡ 0 → with_lines rows places (few lines_count most (rows_at row n number at late)) ≡ total
-      → Some (record { rows = rows; places = places; after = at; late = late }) ≡ total
-  rows_over zero number at late most none so = none_left rows places at late most ∙ so
-  rows_over (suc n) number at late most none so = absurd (omega arith)
+  rows_stop : (n done at : ℕ) (late : Late) (most : ℕ) → (n ≡ 0) ⊎ (goes_on until done at ≡ false)
+      → with_lines rows places (few lines_count most (rows_until row until n done at late)) ≡ total
+      → with_lines rows places (few lines_count most (rows_over until done at late)) ≡ total
+  rows_stop zero done at late most stops so = so
+  rows_stop (suc n) done at late most (inl none) so = absurd (omega (arith, none))
+  rows_stop (suc n) done at late most (inr test) so = ap (by_test n done at late most) (sym test) ∙ so
 
-  module _ (stop : ℕ) where
-    -- as long as eight bits stand before a place
-
-    abbrev whiles : ℕ → ℕ → Line → Option Lines
-    whiles n number line = rows_while row stop n (number + 1) line.after line.late
-
-    abbrev further : ℕ → ℕ → ℕ → Late → ℕ → Bool → Option Lines
-    further n number at late most test =
-        with_lines rows places (few lines_count most (if test then Some (no_lines at late) else option_and_then (λ line. option_map (and_lines line) (whiles n number line)) (row number at late)))
-
-    pub while_more : (n number at : ℕ) (late : Late) (most more : ℕ) (line : Line) → 0 < n → 0 < most → nat_lt stop (at + 8) ≡ false
-        → Some line ≡ few line_count (most - 1) (row number at late) → more + values_in line.row ≡ most - 1
-        → with_lines rows places (few lines_count most (rows_while row stop n number at late)) ≡ total
-        → with_lines (rows ++ line.row ∷ []) (places ++ line.places) (few lines_count more (rows_while row stop (n - 1) (number + 1) line.after line.late)) ≡ total
-    while_more zero number at late most more line some left test is sum so = absurd (omega arith)
-    while_more (suc n) number at late most more line some left test is sum so =
-        let e : suc n - 1 ≡ n = omega arith in
-        ap (λ k. with_lines (rows ++ line.row ∷ []) (places ++ line.places) (few lines_count more (whiles k number line))) e
-        ∙ pushed_lines rows places line (few lines_count more (whiles n number line))
-        ∙ ap (with_lines rows places) (sym (line_behind (row number at late) (whiles n number) most more line left is sum))
-        ∙ ap (further n number at late most) (sym test)
-        ∙ so
-
-    pub no_while : (n number at : ℕ) (late : Late) (most : ℕ) → 0 < n → 0 < most → nat_lt stop (at + 8) ≡ false → None ≡ few line_count (most - 1) (row number at late)
-        → with_lines rows places (few lines_count most (rows_while row stop n number at late)) ≡ total → None ≡ total
-    no_while zero number at late most some left test none so = absurd (omega arith)
-    no_while (suc n) number at late most some left test none so =
-        ap (with_lines rows places) (no_line (row number at late) (whiles n number) most left none) ∙ ap (further n number at late most) (sym test) ∙ so
-
-    pub while_out : (n number at : ℕ) (late : Late) (most : ℕ) → 0 < n → most ≡ 0 → nat_lt stop (at + 8) ≡ false
-        → with_lines rows places (few lines_count most (rows_while row stop n number at late)) ≡ total → None ≡ total
-    while_out zero number at late most some out test so = absurd (omega arith)
-    while_out (suc n) number at late most some out test so =
-        ap (with_lines rows places) (no_more (row number at late) (whiles n number) most out) ∙ ap (further n number at late most) (sym test) ∙ so
-
-    pub while_over : (n number at : ℕ) (late : Late) (most : ℕ) → 0 < n → nat_lt stop (at + 8) ≡ true → with_lines rows places (few lines_count most (rows_while row stop n number at late)) ≡ total
-        → Some (record { rows = rows; places = places; after = at; late = late }) ≡ total
-    while_over zero number at late most some test so = absurd (omega arith)
-    while_over (suc n) number at late most some test so = none_left rows places at late most ∙ ap (further n number at late most) (sym test) ∙ so
-
-    pub while_fails : (n number at : ℕ) (late : Late) (most : ℕ) → n ≡ 0 → with_lines rows places (few lines_count most (rows_while row stop n number at late)) ≡ total → None ≡ total
-    while_fails zero number at late most none so = so
-    while_fails (suc n) number at late most none so = absurd (omega arith)
-
-    -- up to just a place
-
-    abbrev untils : ℕ → ℕ → Line → Option Lines
-    untils n number line = rows_to row stop n (number + 1) line.after line.late
-
-    abbrev onward : ℕ → ℕ → ℕ → Late → ℕ → Bool → Bool → Option Lines
-    onward n number at late most before there =
-        with_lines rows places (few lines_count most (
-        if before then option_and_then (λ line. option_map (and_lines line) (untils n number line)) (row number at late) else if there then Some (no_lines at late) else None))
-
-    pub to_more : (n number at : ℕ) (late : Late) (most more : ℕ) (line : Line) → 0 < n → 0 < most → at < stop
-        → Some line ≡ few line_count (most - 1) (row number at late) → more + values_in line.row ≡ most - 1
-        → with_lines rows places (few lines_count most (rows_to row stop n number at late)) ≡ total
-        → with_lines (rows ++ line.row ∷ []) (places ++ line.places) (few lines_count more (rows_to row stop (n - 1) (number + 1) line.after line.late)) ≡ total
-    to_more zero number at late most more line some left before is sum so = absurd (omega arith)
-    to_more (suc n) number at late most more line some left before is sum so =
-        let e : suc n - 1 ≡ n = omega arith in
-        let test : nat_lt at stop ≡ true = grind (arith, nat_tests, before) in
-        ap (λ k. with_lines (rows ++ line.row ∷ []) (places ++ line.places) (few lines_count more (untils k number line))) e
-        ∙ pushed_lines rows places line (few lines_count more (untils n number line))
-        ∙ ap (with_lines rows places) (sym (line_behind (row number at late) (untils n number) most more line left is sum))
-        ∙ ap (λ (b : Bool). onward n number at late most b (at == stop)) (sym test)
-        ∙ so
-
-    pub no_to : (n number at : ℕ) (late : Late) (most : ℕ) → 0 < n → 0 < most → at < stop → None ≡ few line_count (most - 1) (row number at late)
-        → with_lines rows places (few lines_count most (rows_to row stop n number at late)) ≡ total → None ≡ total
-    no_to zero number at late most some left before none so = absurd (omega arith)
-    no_to (suc n) number at late most some left before none so =
-        let test : nat_lt at stop ≡ true = grind (arith, nat_tests, before) in
-        ap (with_lines rows places) (no_line (row number at late) (untils n number) most left none) ∙ ap (λ (b : Bool). onward n number at late most b (at == stop)) (sym test) ∙ so
-
-    pub to_out : (n number at : ℕ) (late : Late) (most : ℕ) → 0 < n → most ≡ 0 → at < stop
-        → with_lines rows places (few lines_count most (rows_to row stop n number at late)) ≡ total → None ≡ total
-    to_out zero number at late most some out before so = absurd (omega arith)
-    to_out (suc n) number at late most some out before so =
-        let test : nat_lt at stop ≡ true = grind (arith, nat_tests, before) in
-        ap (with_lines rows places) (no_more (row number at late) (untils n number) most out) ∙ ap (λ (b : Bool). onward n number at late most b (at == stop)) (sym test) ∙ so
-
-    pub to_over : (n number at : ℕ) (late : Late) (most : ℕ) → 0 < n → at ≡ stop → with_lines rows places (few lines_count most (rows_to row stop n number at late)) ≡ total
-        → Some (record { rows = rows; places = places; after = at; late = late }) ≡ total
-    to_over zero number at late most some there so = absurd (omega arith)
-    to_over (suc n) number at late most some there so =
-        let one : nat_lt at stop ≡ false = grind (arith, nat_tests, there) in
-        let two : (at == stop) ≡ true = grind (arith, nat_tests, there) in
-        none_left rows places at late most ∙ (λ i. onward n number at late most (sym one i) (sym two i)) ∙ so
-
-    pub to_past : (n number at : ℕ) (late : Late) (most : ℕ) → 0 < n → stop < at → with_lines rows places (few lines_count most (rows_to row stop n number at late)) ≡ total → None ≡ total
-    to_past zero number at late most some past so = absurd (omega arith)
-    to_past (suc n) number at late most some past so =
-        let one : nat_lt at stop ≡ false = grind (arith, nat_tests, past) in
-        let two : (at == stop) ≡ false = grind (arith, nat_tests, past) in
-        (λ i. onward n number at late most (sym one i) (sym two i)) ∙ so
-
-    pub to_fails : (n number at : ℕ) (late : Late) (most : ℕ) → n ≡ 0 → with_lines rows places (few lines_count most (rows_to row stop n number at late)) ≡ total → None ≡ total
-    to_fails zero number at late most none so = so
-    to_fails (suc n) number at late most none so = absurd (omega arith)
-
--- The end of the rows.
-
-pub to_end : (row : ReadsRow) (len : ℕ) (width : Option ℕ) (at : ℕ) (late : Late) → len ≤ 134217696
-    → up_to_end row len width at late ≡ option_and_then (λ stop. rows_while row stop (suc len) 1 at late) (stop_at len (option_map capped width))
-to_end row len None at late short = refl
-to_end row len (Some width) at late short = by (leb_tells (suc len) width)
+-- rows that don't go on are all that are read, where they end as they must
+pub rows_ended : (row : ReadsRow) (until : Until) (learnt : Learnt) (came : RowsCame) (n : ℕ) (total : Option Lines) → (n ≡ 0) ⊎ (goes_on until (length came.rows) came.after ≡ false)
+    → with_lines came.rows came.places.items (few lines_count came.left (rows_until row until n (length came.rows) came.after (marked came.after learnt.marks))) ≡ total
+    → option_map (lines_in learnt) (if is_over until (length came.rows) came.after then Some came else None) ≡ total
+rows_ended row until learnt came n total stops so =
+    by (is_over until (length came.rows) came.after) ∙ rows_stop row until came.rows came.places.items total n (length came.rows) came.after (marked came.after learnt.marks) came.left stops so
   where
-    ends : Bool → ℕ → Option Lines
-    ends over stop = option_and_then (λ stop. rows_while row stop (suc len) 1 at late) (if over then None else Some stop)
-
-    pulled : (test : Bool) → (if test then None else rows_while row (len - width) (suc len) 1 at late) ≡ ends test (len - width)
-    pulled true = refl
-    pulled false = refl
-
-    by : ((nat_le (suc len) width ≡ true) × (suc len ≤ width)) ⊎ ((nat_le (suc len) width ≡ false) × (width < suc len))
-        → (if nat_lt len width then None else rows_while row (len - width) (suc len) 1 at late) ≡ ends (nat_lt len (capped width)) (len - capped width)
-    by (inl (is, over)) =
-        let test : nat_lt len (capped width) ≡ true = grind (arith, nat_tests) in
-        ap (λ (b : Bool). if b then None else rows_while row (len - width) (suc len) 1 at late) (let one : nat_lt len width ≡ true = grind (arith, nat_tests) in one)
-        ∙ ap (λ (b : Bool). ends b (len - capped width)) (sym test)
-    by (inr (is, within)) =
-        let same : capped width ≡ width = omega arith in
-        pulled (nat_lt len width) ∙ ap (λ w. ends (nat_lt len w) (len - w)) (sym same)
-
--- up to a label in the resource
-pub to_label : (row : ReadsRow) (len : ℕ) (told : Told) (at : ℕ) (late : Late) → len ≤ 134217696 → told.place ≤ len
-    → up_to_label row len told at late ≡ option_and_then (λ stop. rows_to row stop (suc len) 1 at late) (stop_before (told_capped told))
-to_label row len told at late short inside = by (leb_tells (suc told.place) told.width)
-  where
-    ends : Bool → ℕ → Option Lines
-    ends over stop = option_and_then (λ stop. rows_to row stop (suc len) 1 at late) (if over then None else Some stop)
-
-    pulled : (test : Bool) → (if test then None else rows_to row (told.place - told.width) (suc len) 1 at late) ≡ ends test (told.place - told.width)
-    pulled true = refl
-    pulled false = refl
-
-    by : ((nat_le (suc told.place) told.width ≡ true) × (suc told.place ≤ told.width)) ⊎ ((nat_le (suc told.place) told.width ≡ false) × (told.width < suc told.place))
-        → (if nat_lt told.place told.width then None else rows_to row (told.place - told.width) (suc len) 1 at late) ≡ ends (nat_lt told.place (capped told.width)) (told.place - capped told.width)
-    by (inl (is, over)) =
-        let test : nat_lt told.place (capped told.width) ≡ true = grind (arith, nat_tests) in
-        ap (λ (b : Bool). if b then None else rows_to row (told.place - told.width) (suc len) 1 at late) (let one : nat_lt told.place told.width ≡ true = grind (arith, nat_tests) in one)
-        ∙ ap (λ (b : Bool). ends b (told.place - capped told.width)) (sym test)
-    by (inr (is, within)) =
-        let same : capped told.width ≡ told.width = omega arith in
-        pulled (nat_lt told.place told.width) ∙ ap (λ w. ends (nat_lt told.place w) (told.place - w)) (sym same)
-
--- no label ahead has a place that is known
-pub not_told : (found : Option Told) → None ≡ option_map told_capped found → None ≡ found
-not_told None none = refl
-not_told (Some told) none = absurd cc
-
--- the label ahead that has such a place, in the resource
-pub open_to : (row : ReadsRow) (len : ℕ) (found : Option Told) (width : Option ℕ) (label : Told) (at : ℕ) (late : Late) → len ≤ 134217696 → label.place ≤ len
-    → Some label ≡ option_map told_capped found → open_rows row len found width at late ≡ option_and_then (λ stop. rows_to row stop (suc len) 1 at late) (stop_before label)
-open_to row len None width label at late short inside is = absurd cc
-open_to row len (Some told) width label at late short inside is =
-    let same : label ≡ told_capped told = some_same label (told_capped told) is in
-    to_label row len told at late short (let e = ap (λ (t : Told). t.place) same in omega (arith, e, inside))
-    ∙ ap (λ (t : Told). option_and_then (λ stop. rows_to row stop (suc len) 1 at late) (stop_before t)) (sym same)
-
-pub natural_rows : (row : ReadsRow) (len : ℕ) (rest : PlainBody) (names : Environment) (count : ℤ) (n at : ℕ) (late : Late) → count ≡ pos n
-    → rows_at row n 1 at late ≡ rows_by row len rest names (Some count) at late
-natural_rows row len rest names count n at late is = ap (λ (z : ℤ). rows_by row len rest names (Some z) at late) (sym is)
-
-pub negative_rows : (row : ReadsRow) (len : ℕ) (rest : PlainBody) (names : Environment) (count : ℤ) (at : ℕ) (late : Late) → count <ℤ pos 0
-    → None ≡ rows_by row len rest names (Some count) at late
-negative_rows row len rest names (pos n) at late below = absurd (omega (arith, ints))
-negative_rows row len rest names (negsuc n) at late below = refl
+    by : (test : Bool) → option_map (lines_in learnt) (if test then Some came else None)
+        ≡ with_lines came.rows came.places.items (few lines_count came.left (if test then Some (no_lines came.after (marked came.after learnt.marks)) else None))
+    by true = none_left came.rows came.places.items came.after (marked came.after learnt.marks) came.left
+    by false = refl
 
 -- Arrays.
 

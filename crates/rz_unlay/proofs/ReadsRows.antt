@@ -17,7 +17,9 @@ use Rattle.rz_types_fields.specs.Width.{fixed_widths}
 use Rattle.rz_types.specs.Readable.{ends_at_end, ends_at_label, is_count_known, least_widths, rows_end}
 use Rattle.rz_unlay_pieces.specs.Ahead.{told_label, Told}
 use Rattle.rz_unlay_pieces.specs.Pieces.{agrees, also, claim_count, known_count}
-use Rattle.rz_unlay.specs.Cursor.{and_lines, count_known, no_lines, open_rows, rows_at, rows_by, rows_to, rows_while, up_to_end, up_to_label, Line, Lines, ReadsRow}
+use Rattle.rz_unlay.specs.Cursor.{and_lines, count_known, goes_on, is_over, most_rows, no_lines, open_until, rows_by, rows_over, rows_until, until_of, Line, Lines, ReadsRow}
+use Rattle.rz_unlay.specs.declared.rows.Until.{Until}
+use Rattle.rz_unlay.specs.declared.rows.Until.TheVariants as ends
 use Rattle.rz_types_fields.proofs.RowPlaces.{no_rows_have, row_value_is, rows_have, RowHas, RowsHave}
 use Rattle.rz_unlay.proofs.Asked.{is_asked}
 use Rattle.rz_unlay.proofs.Near.{told_there}
@@ -63,6 +65,12 @@ and_found row names number line rows mid late_mid after late first next found so
 
 -- Rows one after the other.
 
+-- rows end so after so many at a place: before it, each so wide at least, they go on
+record EndsThere (until : Until) (least total after : ℕ) : Type 0 where
+  goes : (done at : ℕ) → done < total → at + least ≤ after → goes_on until done at ≡ true
+  stops : goes_on until total after ≡ false
+  over : is_over until total after ≡ true
+
 module _ (row : PlainBody) (env : Environment) (f : ReadsRow) (Row : ℕ → List Tree → RowSpells) (least last : ℕ)
     (one : (number : ℕ) (line : List Tree) (at : ℕ) (late : Late) (after : ℕ) (late_after : Late) → after ≤ last → Row number line at late after late_after
     → LineFound row env number line after late_after (f number at late))
@@ -74,51 +82,39 @@ module _ (row : PlainBody) (env : Environment) (f : ReadsRow) (Row : ℕ → Lis
       let rest = rows_rise (number + 1) rows it.0 it.1 after late_after it.3 in
       omega (arith, first, rest)
 
-  rows_again : (number : ℕ) (rows : List (List Tree)) (at : ℕ) (late : Late) (after : ℕ) (late_after : Late) → after ≤ last → RowsSpell Row number rows at late after late_after
-      → LinesFound row env number rows after late_after (rows_at f (length rows) number at late)
-  rows_again number [] at late after late_after within it = none_found row env number at late after late_after (rows_at f 0 number at late) refl it.0 it.1
-  rows_again number (line ∷ rows) at late after late_after within it =
-      let rest = rows_rise (number + 1) rows it.0 it.1 after late_after it.3 in
-      and_found row env number line rows it.0 it.1 after late_after (f number at late) (λ line. rows_at f (length rows) (number + 1) line.after line.late) (rows_at f (length (line ∷ rows)) number at late) refl
-      (one number line at late it.0 it.1 (omega (arith, rest, within)) it.2) (λ places. rows_again (number + 1) rows it.0 it.1 after late_after within it.3)
+  rows_long : 1 ≤ least → (number : ℕ) (rows : List (List Tree)) (at : ℕ) (late : Late) (after : ℕ) (late_after : Late) → RowsSpell Row number rows at late after late_after → at + length rows ≤ after
+  rows_long wide number [] at late after late_after it = let e = it.0 in omega (arith, e)
+  rows_long wide number (row ∷ rows) at late after late_after it =
+      let first = rise number row at late it.0 it.1 it.2 in
+      let rest = rows_long wide (number + 1) rows it.0 it.1 after late_after it.3 in
+      omega (arith, wide, first, rest)
 
-  while_again : (stop most number : ℕ) (rows : List (List Tree)) (at : ℕ) (late : Late) (after : ℕ) (late_after : Late) → after ≤ last → RowsSpell Row number rows at late after late_after
-      → 8 ≤ least → after ≤ stop → stop < after + 8 → after < at + most → LinesFound row env number rows after late_after (rows_while f stop most number at late)
-  while_again stop zero number rows at late after late_after within it low before over fuel =
-      let rest = rows_rise number rows at late after late_after it in absurd (omega (arith, rest, fuel))
-  while_again stop (suc most) number [] at late after late_after within it low before over fuel =
-      let e = it.0 in
-      let test : nat_lt stop (at + 8) ≡ true = below stop (at + 8) (omega (arith, e, over)) in
-      none_found row env number at late after late_after (rows_while f stop (suc most) number at late)
-      (if_true (nat_lt stop (at + 8)) (Some (no_lines at late)) (option_and_then (λ line. option_map (and_lines line) (rows_while f stop most (number + 1) line.after line.late)) (f number at late)) test) it.0 it.1
-  while_again stop (suc most) number (line ∷ rows) at late after late_after within it low before over fuel =
-      let first = rise number line at late it.0 it.1 it.2 in
-      let rest = rows_rise (number + 1) rows it.0 it.1 after late_after it.3 in
-      let test : nat_lt stop (at + 8) ≡ false = not_below stop (at + 8) (omega (arith, first, rest, low, before)) in
-      and_found row env number line rows it.0 it.1 after late_after (f number at late) (λ line. rows_while f stop most (number + 1) line.after line.late) (rows_while f stop (suc most) number at late)
-      (if_false (nat_lt stop (at + 8)) (Some (no_lines at late)) (option_and_then (λ line. option_map (and_lines line) (rows_while f stop most (number + 1) line.after line.late)) (f number at late)) test)
-      (one number line at late it.0 it.1 (omega (arith, rest, within)) it.2)
-      (λ places. while_again stop most (number + 1) rows it.0 it.1 after late_after within it.3 low before over (omega (arith, first, low, fuel)))
+  stops_there : (until : Until) (total most done at : ℕ) (late : Late) (after : ℕ) → EndsThere until least total after → total ≡ done → after ≡ at → rows_until f until most done at late ≡ Some (no_lines at late)
+  stops_there until total most done at late after there same ends = by most
+    where
+      over : rows_over until done at late ≡ Some (no_lines at late)
+      over = if_true (is_over until done at) (Some (no_lines at late)) None ((λ i. is_over until (sym same i) (sym ends i)) ∙ there.over)
 
-  to_again : (stop most number : ℕ) (rows : List (List Tree)) (at : ℕ) (late : Late) (after : ℕ) (late_after : Late) → after ≤ last → RowsSpell Row number rows at late after late_after
-      → 1 ≤ least → after ≡ stop → after < at + most → LinesFound row env number rows after late_after (rows_to f stop most number at late)
-  to_again stop zero number rows at late after late_after within it low ends fuel =
-      let rest = rows_rise number rows at late after late_after it in absurd (omega (arith, rest, fuel))
-  to_again stop (suc most) number [] at late after late_after within it low ends fuel =
-      let e = it.0 in
-      let test : nat_lt at stop ≡ false = not_below at stop (omega (arith, e, ends)) in
-      let there : (at == stop) ≡ true = ap (λ (n : ℕ). n == stop) (sym e ∙ ends) ∙ itself stop in
-      none_found row env number at late after late_after (rows_to f stop (suc most) number at late)
-      (if_false (nat_lt at stop) (option_and_then (λ line. option_map (and_lines line) (rows_to f stop most (number + 1) line.after line.late)) (f number at late)) (if at == stop then Some (no_lines at late) else None) test
-      ∙ ap (λ (b : Bool). if b then Some (no_lines at late) else None) there) it.0 it.1
-  to_again stop (suc most) number (line ∷ rows) at late after late_after within it low ends fuel =
-      let first = rise number line at late it.0 it.1 it.2 in
-      let rest = rows_rise (number + 1) rows it.0 it.1 after late_after it.3 in
-      let test : nat_lt at stop ≡ true = below at stop (omega (arith, first, rest, low, ends)) in
-      and_found row env number line rows it.0 it.1 after late_after (f number at late) (λ line. rows_to f stop most (number + 1) line.after line.late) (rows_to f stop (suc most) number at late)
-      (if_true (nat_lt at stop) (option_and_then (λ line. option_map (and_lines line) (rows_to f stop most (number + 1) line.after line.late)) (f number at late)) (if at == stop then Some (no_lines at late) else None) test)
-      (one number line at late it.0 it.1 (omega (arith, rest, within)) it.2)
-      (λ places. to_again stop most (number + 1) rows it.0 it.1 after late_after within it.3 low ends (omega (arith, first, low, fuel)))
+      by : (most : ℕ) → rows_until f until most done at late ≡ Some (no_lines at late)
+      by zero = over
+      by (suc most) =
+          if_false (goes_on until done at) (option_and_then (λ line. option_map (and_lines line) (rows_until f until most (done + 1) line.after line.late)) (f (done + 1) at late)) (rows_over until done at late)
+          ((λ i. goes_on until (sym same i) (sym ends i)) ∙ there.stops)
+          ∙ over
+
+  until_again : (until : Until) (total : ℕ) (rows : List (List Tree)) (most done at : ℕ) (late : Late) (after : ℕ) (late_after : Late) → after ≤ last → RowsSpell Row (done + 1) rows at late after late_after
+      → EndsThere until least total after → total ≡ done + length rows → length rows ≤ most → LinesFound row env (done + 1) rows after late_after (rows_until f until most done at late)
+  until_again until total [] most done at late after late_after within it there sum fuel =
+      none_found row env (done + 1) at late after late_after (rows_until f until most done at late) (stops_there until total most done at late after there (omega (arith, sum)) it.0) it.0 it.1
+  until_again until total (line ∷ rows) zero done at late after late_after within it there sum fuel = absurd (omega (arith, fuel))
+  until_again until total (line ∷ rows) (suc most) done at late after late_after within it there sum fuel =
+      let first = rise (done + 1) line at late it.0 it.1 it.2 in
+      let rest = rows_rise (done + 1 + 1) rows it.0 it.1 after late_after it.3 in
+      let on : goes_on until done at ≡ true = there.goes done at (omega (arith, sum)) (omega (arith, first, rest)) in
+      and_found row env (done + 1) line rows it.0 it.1 after late_after (f (done + 1) at late) (λ line. rows_until f until most (done + 1) line.after line.late) (rows_until f until (suc most) done at late)
+      (if_true (goes_on until done at) (option_and_then (λ line. option_map (and_lines line) (rows_until f until most (done + 1) line.after line.late)) (f (done + 1) at late)) (rows_over until done at late) on)
+      (one (done + 1) line at late it.0 it.1 (omega (arith, rest, within)) it.2)
+      (λ places. until_again until total rows most (done + 1) it.0 it.1 after late_after within it.3 there (omega (arith, sum)) (omega (arith, fuel)))
 
 -- Their number.
 
@@ -141,6 +137,12 @@ count_given passed (Some name) names apart knows is =
 le_is : (a b : ℕ) → nat_le a b ≡ true → a ≤ b
 le_is a b is = grind (arith, nat_tests)
 
+le_so : (a b : ℕ) → a ≤ b → nat_le a b ≡ true
+le_so a b less = grind (arith, nat_tests)
+
+not_le : (a b : ℕ) → b < a → nat_le a b ≡ false
+not_le a b over = grind (arith, nat_tests)
+
 -- what is asked of the field that ends rows
 abbrev pub Lies : List Bool → PlainBody → Environment → Type 0
 Lies all rest env = (name : List ℕ) → declares rest (place_of name) ≡ true → (place : ℕ) × (env.give (place_of name) ≡ Some (pos place)) × (place ≤ length all)
@@ -158,26 +160,54 @@ module _ (row : PlainBody) (env : Environment) (f : ReadsRow) (Row : ℕ → Lis
   abbrev AreFound : Option Lines → Type 0
   AreFound found = LinesFound row env 1 rows after late_after found
 
+  ends_by : (until : Until) (count : Option ℤ) → until_of (length all) rest names count ≡ Some until → EndsThere until least (length rows) after → length rows ≤ most_rows until (length all)
+      → AreFound (rows_by f (length all) rest names count at late)
+  ends_by until count is there fuel =
+      subst AreFound (sym (ap (option_and_then (λ until. rows_until f until (most_rows until (length all)) 0 at late)) is))
+      (until_again row env f Row least last one rise until (length rows) rows (most_rows until (length all)) 0 at late after late_after within it there (omega arith) fuel)
+
+  -- as many as are known
+  at_count : (count : ℤ) → count ≡ pos (length rows) → AreFound (rows_by f (length all) rest names (Some count) at late)
+  at_count count is =
+      ends_by (ends.Count (length rows)) (Some count) (ap (λ (c : ℤ). until_of (length all) rest names (Some c)) is)
+      (record { goes = λ done at less reach. below done (length rows) less; stops = not_below (length rows) (length rows) (omega arith); over = itself (length rows) })
+      (omega arith)
+
   -- up to a label whose place is told
-  at_label : (told : Told) → told.place ≡ after + told.width → 1 ≤ least → AreFound (up_to_label f (length all) told at late)
-  at_label told stands wide =
+  at_label : (told : Told) → told_label (length all) rest names ≡ Some told → told.place ≡ after + told.width → 1 ≤ least → AreFound (rows_by f (length all) rest names None at late)
+  at_label told is stands wide =
       let fits : nat_lt told.place told.width ≡ false = not_below told.place told.width (omega (arith, stands)) in
-      subst AreFound (sym (if_false (nat_lt told.place told.width) None (rows_to f (told.place - told.width) (suc (length all)) 1 at late) fits))
-      (to_again row env f Row least last one rise (told.place - told.width) (suc (length all)) 1 rows at late after late_after within it wide (omega (arith, stands)) (omega (arith, inside)))
+      let same : after ≡ told.place - told.width = omega (arith, stands) in
+      let long = rows_long row env f Row least last one rise wide 1 rows at late after late_after it in
+      ends_by (ends.At (told.place - told.width)) None
+      (ap (λ (o : Option Told). open_until (length all) o (fixed_widths rest)) is
+      ∙ ap (option_map (λ stop. ends.At stop)) (if_false (nat_lt told.place told.width) None (Some (told.place - told.width)) fits))
+      (record {
+        goes = λ done at less reach. below at (told.place - told.width) (omega (arith, reach, same, wide));
+        stops = not_below after (told.place - told.width) (omega (arith, same));
+        over = ap (λ (n : ℕ). n == (told.place - told.width)) same ∙ itself (told.place - told.width);
+      })
+      (omega (arith, long, inside))
 
   -- up to the end of the resource
-  at_end : EndsAt outermost all rest after → ends_at_end outermost rest ≡ true → 8 ≤ least → AreFound (up_to_end f (length all) (fixed_widths rest) at late)
-  at_end end last_one wide =
+  at_end : told_label (length all) rest names ≡ None → EndsAt outermost all rest after → ends_at_end outermost rest ≡ true → 8 ≤ least → AreFound (rows_by f (length all) rest names None at late)
+  at_end is end last_one wide =
       let outer = both_true outermost (is_some (fixed_widths rest)) last_one in
       let width = there_is (fixed_widths rest) outer.1 in
       let there = end width.0 outer.0 width.1 in
       let a = there.0 in
       let b = there.1 in
       let fits : nat_lt (length all) width.0 ≡ false = not_below (length all) width.0 (omega (arith, a)) in
-      subst AreFound
-      (sym (ap (λ (o : Option ℕ). up_to_end f (length all) o at late) width.1
-      ∙ if_false (nat_lt (length all) width.0) None (rows_while f (length all - width.0) (suc (length all)) 1 at late) fits))
-      (while_again row env f Row least last one rise (length all - width.0) (suc (length all)) 1 rows at late after late_after within it wide (omega (arith, a)) (omega (arith, a, b)) (omega (arith, inside)))
+      let long = rows_long row env f Row least last one rise (omega (arith, wide)) 1 rows at late after late_after it in
+      ends_by (ends.Before (length all - width.0)) None
+      (ap (λ (o : Option Told). open_until (length all) o (fixed_widths rest)) is ∙ ap (λ (o : Option ℕ). open_until (length all) None o) width.1
+      ∙ ap (option_map (λ stop. ends.Before stop)) (if_false (nat_lt (length all) width.0) None (Some (length all - width.0)) fits))
+      (record {
+        goes = λ done at less reach. le_so (at + 8) (length all - width.0) (omega (arith, reach, wide, a));
+        stops = not_le (after + 8) (length all - width.0) (omega (arith, a, b));
+        over = below (length all - width.0) (after + 8) (omega (arith, a, b));
+      })
+      (omega (arith, long, inside))
 
   -- where no label is told no label ends them
   no_label : (told_label (length all) rest names ≡ None) → Lies all rest env → ends_at_label rest passed.told ≡ true → ⊥
@@ -194,7 +224,7 @@ module _ (row : PlainBody) (env : Environment) (f : ReadsRow) (Row : ℕ → Lis
 
   -- up to a label or to the end
   open_go : known_count name names ≡ None → rows_end outermost rest passed name None row ≡ true → Lies all rest env → Stops all rest env after → EndsAt outermost all rest after
-      → AreFound (open_rows f (length all) (told_label (length all) rest names) (fixed_widths rest) at late)
+      → AreFound (rows_by f (length all) rest names None at late)
   open_go unknown ends lies stops end = by (told_label (length all) rest names) refl
     where
       known_one : (is_count_known passed name && nat_le 1 (least_widths row)) ≡ true → ⊥
@@ -207,25 +237,21 @@ module _ (row : PlainBody) (env : Environment) (f : ReadsRow) (Row : ℕ → Lis
           (either_of (is_count_known passed name && nat_le 1 (least_widths row)) (ends_at_label rest passed.told && nat_le 1 (least_widths row)) (λ is. absurd (known_one is)) low_label)
           (λ is. (let wide = low_end is in omega (arith, wide))) ends
 
-      by : (o : Option Told) → told_label (length all) rest names ≡ o → AreFound (open_rows f (length all) o (fixed_widths rest) at late)
-      by (Some told) is = at_label told (stops names part.part told is) wide_one
+      by : (o : Option Told) → told_label (length all) rest names ≡ o → AreFound (rows_by f (length all) rest names None at late)
+      by (Some told) is = at_label told is (stops names part.part told is) wide_one
       by None is =
           either_of ((is_count_known passed name && nat_le 1 (least_widths row)) || (ends_at_label rest passed.told && nat_le 1 (least_widths row))) (ends_at_end outermost rest && nat_le 8 (least_widths row))
           (either_of (is_count_known passed name && nat_le 1 (least_widths row)) (ends_at_label rest passed.told && nat_le 1 (least_widths row)) (λ known. absurd (known_one known))
           (λ ends. absurd (no_label is lies (both_true (ends_at_label rest passed.told) (nat_le 1 (least_widths row)) ends).0)))
-          (λ last_one. at_end end (both_true (ends_at_end outermost rest) (nat_le 8 (least_widths row)) last_one).0 (low_end last_one)) ends
+          (λ last_one. at_end is end (both_true (ends_at_end outermost rest) (nat_le 8 (least_widths row)) last_one).0 (low_end last_one)) ends
 
   pub rows_go : (count : Option ℤ) → rows_end outermost rest passed name count row ≡ true → IsStated count (length rows) → IsCounted name (length rows) env
       → Lies all rest env → Stops all rest env after → EndsAt outermost all rest after → AreFound (rows_by f (length all) rest names (count_known names name count) at late)
-  rows_go (Some count) ends stated counted lies stops end =
-      subst AreFound (sym (ap (λ (c : ℤ). rows_by f (length all) rest names (Some c) at late) stated))
-      (rows_again row env f Row least last one rise 1 rows at late after late_after within it)
+  rows_go (Some count) ends stated counted lies stops end = at_count count stated
   rows_go None ends stated counted lies stops end = by (known_count name names) refl
     where
       by : (o : Option ℤ) → known_count name names ≡ o → AreFound (rows_by f (length all) rest names o at late)
-      by (Some v) is =
-          subst AreFound (sym (ap (λ (c : ℤ). rows_by f (length all) rest names (Some c) at late) (known_is name (length rows) names env v part.part counted is)))
-          (rows_again row env f Row least last one rise 1 rows at late after late_after within it)
+      by (Some v) is = at_count v (known_is name (length rows) names env v part.part counted is)
       by None is = open_go is ends lies stops end
 
 -- After the array.

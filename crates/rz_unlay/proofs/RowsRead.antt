@@ -1,18 +1,19 @@
 -- Rows that are read, one after the other, and their number.
-use Rattle.std.proofs.Common.{◌≡◌, ℕ, zero, suc, ◌+◌, ◌-◌, ◌≤◌, ◌==◌, ℤ, pos, negsuc, Bool, true, false, List, [], ◌∷◌, ◌++◌, length, Option, Some, None, refl, ap, subst}
+use Rattle.std.proofs.Common.{◌≡◌, ℕ, zero, suc, ◌+◌, ◌-◌, ◌≤◌, ◌==◌, ℤ, pos, negsuc, Bool, true, false, List, [], ◌∷◌, ◌++◌, length, Option, Some, None, refl, ap, subst, arith}
 use Rattle.std.specs.Prelude.{if◌then◌else◌, nat_lt, option_and_then, option_map}
+use Rattle.std.proofs.lemmas.Bool.Decides.{nat_tests}
 use Rattle.rz_core.specs.declared.resource.Word.{Word}
 use Rattle.rz_expr.specs.Environment.{Environment}
 use Rattle.rz_types_fields.specs.Field.{PlainBody}
 use Rattle.rz_types_fields.specs.Row.{IsStated}
 use Rattle.rz_types_fields.specs.Sees.{Late}
 use Rattle.rz_types_fields.specs.Spells.{RowsSpell, RowSpells}
-use Rattle.rz_types_fields.specs.Width.{fixed_widths}
 use Rattle.rz_types_fields.specs.declared.tree.Tree.{Tree}
-use Rattle.rz_unlay_pieces.specs.Ahead.{told_label, Told}
 use Rattle.rz_unlay_pieces.specs.Pieces.{known_count}
-use Rattle.rz_unlay.specs.Cursor.{and_lines, count_known, no_lines, open_rows, rows_at, rows_by, rows_to, rows_while, Line, Lines, ReadsRow}
-use Rattle.rz_unlay.proofs.ReadsTests.{and_then, mapped, none_is, some_same}
+use Rattle.rz_unlay.specs.Cursor.{and_lines, count_known, goes_on, is_over, most_rows, no_lines, rows_by, rows_over, rows_until, until_of, Line, Lines, ReadsRow}
+use Rattle.rz_unlay.specs.declared.rows.Until.{Until}
+use Rattle.rz_unlay.specs.declared.rows.Until.TheVariants as ends
+use Rattle.rz_unlay.proofs.ReadsTests.{and_then, if_some, mapped, none_is, some_same}
 
 pub if_either : {A P : Type 0} (test : Bool) (x y : Option A) (z : A) → (x ≡ Some z → P) → (y ≡ Some z → P) → (if test then x else y) ≡ Some z → P
 if_either true x y z one other is = one is
@@ -44,51 +45,50 @@ module _ (len : ℕ) (row : ReadsRow) (Read : ℕ → Line → ℕ → Late → 
       let others = more line behind.0 here.0 behind.1 in
       subst (Come number at late) behind.2 (others.0, (line, behind.0.places, refl, refl, here.1, others.1))
 
-  rows_came : (count number at : ℕ) (late : Late) (lines : Lines) → at ≤ len → rows_at row count number at late ≡ Some lines → Come number at late lines
-  rows_came zero number at late lines inside is = no_rows number at late lines inside is
-  rows_came (suc count) number at late lines inside is =
-      row_and number at late (λ line. rows_at row count (number + 1) line.after line.late) lines inside
-      (λ line others within found. rows_came count (number + 1) line.after line.late others within found) is
+  over_came : (until : Until) (done at : ℕ) (late : Late) (lines : Lines) → at ≤ len → rows_over until done at late ≡ Some lines → Come (done + 1) at late lines
+  over_came until done at late lines inside is =
+      if_either (is_over until done at) (Some (no_lines at late)) None lines (no_rows (done + 1) at late lines inside) (λ none. absurd (none_is lines none)) is
 
-  rows_counted : (count number at : ℕ) (late : Late) (lines : Lines) → rows_at row count number at late ≡ Some lines → count ≡ length lines.rows
-  rows_counted zero number at late lines is = ap (λ (ls : Lines). length ls.rows) (some_same (no_lines at late) lines is)
-  rows_counted (suc count) number at late lines is =
-      let first = and_then (λ line. option_map (and_lines line) (rows_at row count (number + 1) line.after line.late)) (row number at late) lines is in
+  until_came : (until : Until) (most done at : ℕ) (late : Late) (lines : Lines) → at ≤ len → rows_until row until most done at late ≡ Some lines → Come (done + 1) at late lines
+  until_came until zero done at late lines inside is = over_came until done at late lines inside is
+  until_came until (suc most) done at late lines inside is =
+      if_either (goes_on until done at) _ (rows_over until done at late) lines
+      (row_and (done + 1) at late (λ line. rows_until row until most (done + 1) line.after line.late) lines inside
+      (λ line others within found. until_came until most (done + 1) line.after line.late others within found))
+      (over_came until done at late lines inside) is
+
+  over_counted : (count done at : ℕ) (late : Late) (lines : Lines) → rows_over (ends.Count count) done at late ≡ Some lines → count ≡ done + length lines.rows
+  over_counted count done at late lines is =
+      let it = if_some (done == count) (no_lines at late) lines is in
+      let same : done ≡ count = (let test = it.0 in grind (arith, nat_tests, test)) in
+      subst (λ (ls : Lines). count ≡ done + length ls.rows) it.1 (omega (arith, same))
+
+  rows_counted : (count most done at : ℕ) (late : Late) (lines : Lines) → rows_until row (ends.Count count) most done at late ≡ Some lines → count ≡ done + length lines.rows
+  rows_counted count zero done at late lines is = over_counted count done at late lines is
+  rows_counted count (suc most) done at late lines is =
+      let next : Line → Option Lines = λ line. rows_until row (ends.Count count) most (done + 1) line.after line.late in
+      if_either (nat_lt done count) (option_and_then (λ line. option_map (and_lines line) (next line)) (row (done + 1) at late)) (rows_over (ends.Count count) done at late) lines
+      (λ more.
+      let first = and_then (λ line. option_map (and_lines line) (next line)) (row (done + 1) at late) lines more in
       let line : Line = first.0 in
-      let behind = mapped (and_lines line) (rows_at row count (number + 1) line.after line.late) lines first.2 in
-      subst (λ (ls : Lines). suc count ≡ length ls.rows) behind.2 (ap suc (rows_counted count (number + 1) line.after line.late behind.0 behind.1))
-
-  while_came : (stop most number at : ℕ) (late : Late) (lines : Lines) → at ≤ len → rows_while row stop most number at late ≡ Some lines → Come number at late lines
-  while_came stop zero number at late lines inside is = absurd (none_is lines is)
-  while_came stop (suc most) number at late lines inside is =
-      if_either (nat_lt stop (at + 8)) (Some (no_lines at late)) _ lines (no_rows number at late lines inside)
-      (row_and number at late (λ line. rows_while row stop most (number + 1) line.after line.late) lines inside
-      (λ line others within found. while_came stop most (number + 1) line.after line.late others within found)) is
-
-  to_came : (stop most number at : ℕ) (late : Late) (lines : Lines) → at ≤ len → rows_to row stop most number at late ≡ Some lines → Come number at late lines
-  to_came stop zero number at late lines inside is = absurd (none_is lines is)
-  to_came stop (suc most) number at late lines inside is =
-      if_either (nat_lt at stop) _ (if at == stop then Some (no_lines at late) else None) lines
-      (row_and number at late (λ line. rows_to row stop most (number + 1) line.after line.late) lines inside
-      (λ line others within found. to_came stop most (number + 1) line.after line.late others within found))
-      (if_either (at == stop) (Some (no_lines at late)) None lines (no_rows number at late lines inside) (λ none. absurd (none_is lines none))) is
-
-  open_came : (told : Option Told) (width : Option ℕ) (at : ℕ) (late : Late) (lines : Lines) → at ≤ len → open_rows row len told width at late ≡ Some lines → Come 1 at late lines
-  open_came (Some told) width at late lines inside is =
-      if_either (nat_lt told.place told.width) None (rows_to row (told.place - told.width) (suc len) 1 at late) lines (λ none. absurd (none_is lines none))
-      (to_came (told.place - told.width) (suc len) 1 at late lines inside) is
-  open_came None None at late lines inside is = absurd (none_is lines is)
-  open_came None (Some width) at late lines inside is =
-      if_either (nat_lt len width) None (rows_while row (len - width) (suc len) 1 at late) lines (λ none. absurd (none_is lines none))
-      (while_came (len - width) (suc len) 1 at late lines inside) is
+      let others = mapped (and_lines line) (next line) lines first.2 in
+      let sum = rows_counted count most (done + 1) line.after line.late others.0 others.1 in
+      subst (λ (ls : Lines). count ≡ done + length ls.rows) others.2 (omega (arith, sum)))
+      (over_counted count done at late lines) is
 
   abbrev CountedRows : Option ℤ → ℕ → Late → Lines → Type 0
   CountedRows count at late lines = IsStated count (length lines.rows) × Come 1 at late lines
 
   by_came : (rest : PlainBody) (names : Environment) (count : Option ℤ) (at : ℕ) (late : Late) (lines : Lines) → at ≤ len → rows_by row len rest names count at late ≡ Some lines → CountedRows count at late lines
-  by_came rest names None at late lines inside is = (tt, open_came (told_label len rest names) (fixed_widths rest) at late lines inside is)
-  by_came rest names (Some (pos count)) at late lines inside is = (ap (λ (n : ℕ). pos n) (rows_counted count 1 at late lines is), rows_came count 1 at late lines inside is)
-  by_came rest names (Some (negsuc n)) at late lines inside is = absurd (none_is lines is)
+  by_came rest names count at late lines inside is =
+      let it = and_then (λ until. rows_until row until (most_rows until len) 0 at late) (until_of len rest names count) lines is in
+      (stated count is, until_came it.0 (most_rows it.0 len) 0 at late lines inside it.2)
+    where
+      stated : (count : Option ℤ) → rows_by row len rest names count at late ≡ Some lines → IsStated count (length lines.rows)
+      stated None is = tt
+      stated (Some (pos count)) is =
+          let all : count ≡ length lines.rows = (let sum = rows_counted count count 0 at late lines is in omega (arith, sum)) in ap (λ (n : ℕ). pos n) all
+      stated (Some (negsuc n)) is = absurd (none_is lines is)
 
   pub lines_read : (rest : PlainBody) (names : Environment) (name : Option Word) (count : Option ℤ) (at : ℕ) (late : Late) (lines : Lines) → at ≤ len
       → rows_by row len rest names (count_known names name count) at late ≡ Some lines → CountedRows count at late lines

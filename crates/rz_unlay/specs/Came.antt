@@ -4,7 +4,9 @@ use Rattle.rz_core.specs.declared.facts.Facts.{Facts}
 use Rattle.rz_core.specs.declared.resource.Word.{Word}
 use Rattle.rz_expr.specs.Environment.{Environment}
 use Rattle.rz_types_fields.specs.declared.tree.Tree.TheVariants as trees
-use Rattle.rz_types.specs.Field.{PlainBody}
+use Rattle.rz_types_fields.specs.declared.field.ArrayField.{ArrayField}
+use Rattle.rz_types_fields.specs.declared.field.Field.TheViews.{out-ArrayField}
+use Rattle.rz_types.specs.Field.{plain_body, PlainBody}
 use Rattle.rz_types_fields.specs.Passed.{met_inside, Names}
 use Rattle.rz_types_fields.specs.Sees.{marked, Late}
 use Rattle.rz_unlay.specs.Cursor.{body_found, line_of, Line, Lines, ReadsRow}
@@ -33,6 +35,9 @@ line_at facts all which body met names place late = line_of (body_found facts al
 -- a row of the array of this name
 abbrev pub row_at : Facts → List Bool → Option Word → PlainBody → Names → Environment → ReadsRow
 row_at facts all name body met names number place late = line_at facts all (row_of name number) body met names place late
+
+abbrev pub array_row : Facts → List Bool → ArrayField → Names → Environment → ReadsRow
+array_row facts all array met names = let a = out-ArrayField array in row_at facts all a.name (plain_body a.row) met names
 
 -- a row as the value of a switch
 abbrev pub chosen : Word → Environment → Option Line → Option Step

@@ -16,6 +16,8 @@ use Rattle.rz_types.specs.Width.{case_keys, fixed_widths}
 use Rattle.rz_bits.specs.View.{number_at}
 use Rattle.rz_unlay_pieces.specs.Ahead.{told_label, Told}
 use Rattle.rz_unlay.specs.Pieces.{field_of_pieces, with_value, Found}
+use Rattle.rz_unlay.specs.declared.rows.Until.{Until}
+use Rattle.rz_unlay.specs.declared.rows.Until.TheVariants as ends
 use Rattle.rz_unlay_pieces.specs.Pieces.{claim_count, here_at, known_count, Step}
 use Rattle.rz_types_fields.specs.Known.{names_inside}
 use Rattle.rz_types_fields.specs.RowLabels.{also_rows, label_places, row_of}
@@ -49,48 +51,57 @@ no_lines at late = record { rows = []; places = []; after = at; late = late }
 abbrev pub and_lines : Line → Lines → Lines
 and_lines line lines = record { rows = line.row ∷ lines.rows; places = line.places ++ lines.places; after = lines.after; late = lines.late }
 
--- so many rows
-abbrev pub rows_at : ReadsRow → ℕ → ℕ → ℕ → Late → Option Lines
-rows_at row zero number at late = Some (no_lines at late)
-rows_at row (suc count) number at late =
-    option_and_then (λ line. option_map (and_lines line) (rows_at row count (number + 1) line.after line.late)) (row number at late)
+-- one row more is read where so many are done, at a place
+abbrev pub goes_on : Until → (done at : ℕ) → Bool
+goes_on (ends.Count count) done at = nat_lt done count
+goes_on (ends.Before stop) done at = nat_le (at + 8) stop
+goes_on (ends.At stop) done at = nat_lt at stop
 
--- rows as long as eight bits stand before a place, but no more than so many
-abbrev pub rows_while : ReadsRow → ℕ → ℕ → ℕ → ℕ → Late → Option Lines
-rows_while row stop zero number at late = None
-rows_while row stop (suc most) number at late =
-    if nat_lt stop (at + 8) then Some (no_lines at late)
-    else option_and_then (λ line. option_map (and_lines line) (rows_while row stop most (number + 1) line.after line.late)) (row number at late)
+-- the rows have come to their end there: with so many rows, before or at just that place
+abbrev pub is_over : Until → (done at : ℕ) → Bool
+is_over (ends.Count count) done at = done == count
+is_over (ends.Before stop) done at = nat_lt stop (at + 8)
+is_over (ends.At stop) done at = at == stop
 
--- rows up to just this place, but no more than so many
-abbrev pub rows_to : ReadsRow → ℕ → ℕ → ℕ → ℕ → Late → Option Lines
-rows_to row stop zero number at late = None
-rows_to row stop (suc most) number at late =
-    if nat_lt at stop then option_and_then (λ line. option_map (and_lines line) (rows_to row stop most (number + 1) line.after line.late)) (row number at late)
-    else if at == stop then Some (no_lines at late) else None
+-- how many rows there may be in a resource of so many bits: rows without bits never come to a place
+abbrev pub most_rows : Until → (len : ℕ) → ℕ
+most_rows (ends.Count count) len = count
+most_rows (ends.Before stop) len = len
+most_rows (ends.At stop) len = len
 
--- rows from the first on, to the end of the resource or to a label
-abbrev pub up_to_end : ReadsRow → ℕ → Option ℕ → ℕ → Late → Option Lines
-up_to_end row len None at late = None
-up_to_end row len (Some width) at late = if nat_lt len width then None else rows_while row (len - width) (suc len) 1 at late
+abbrev pub rows_over : Until → (done at : ℕ) → Late → Option Lines
+rows_over until done at late = if is_over until done at then Some (no_lines at late) else None
 
-abbrev pub up_to_label : ReadsRow → ℕ → Told → ℕ → Late → Option Lines
-up_to_label row len told at late = if nat_lt told.place told.width then None else rows_to row (told.place - told.width) (suc len) 1 at late
+-- the rows after those that are done, as long as they go on and at most so many: where they stop they must be over
+abbrev pub rows_until : ReadsRow → Until → (most done at : ℕ) → Late → Option Lines
+rows_until row until zero done at late = rows_over until done at late
+rows_until row until (suc most) done at late =
+    if goes_on until done at
+    then option_and_then (λ line. option_map (and_lines line) (rows_until row until most (done + 1) line.after line.late)) (row (done + 1) at late)
+    else rows_over until done at late
 
-abbrev pub open_rows : ReadsRow → ℕ → Option Told → Option ℕ → ℕ → Late → Option Lines
-open_rows row len (Some told) width at late = up_to_label row len told at late
-open_rows row len None width at late = up_to_end row len width at late
+-- the place that is so many bits before another
+abbrev pub place_before : (place width : ℕ) → Option ℕ
+place_before place width = if nat_lt place width then None else Some (place - width)
+
+-- where rows end whose number isn't known: at a label whose place is told, or at the end of the resource
+abbrev pub open_until : ℕ → Option Told → Option ℕ → Option Until
+open_until len (Some told) width = option_map (λ stop. ends.At stop) (place_before told.place told.width)
+open_until len None width = option_map (λ stop. ends.Before stop) (option_and_then (place_before len) width)
 
 -- the number of rows, where it is stated or known
 abbrev pub count_known : Environment → Option Word → Option ℤ → Option ℤ
 count_known names name (Some count) = Some count
 count_known names name None = known_count name names
 
--- as many rows as are known, or those up to a label or the end of the resource, after which these fields stand
+-- where rows end after which these fields stand: after as many as are known, or at a label or the end of the resource
+abbrev pub until_of : ℕ → PlainBody → Environment → Option ℤ → Option Until
+until_of len rest names (Some (pos count)) = Some (ends.Count count)
+until_of len rest names (Some (negsuc n)) = None
+until_of len rest names None = open_until len (told_label len rest names) (fixed_widths rest)
+
 abbrev pub rows_by : ReadsRow → ℕ → PlainBody → Environment → Option ℤ → ℕ → Late → Option Lines
-rows_by row len rest names (Some (pos count)) at late = rows_at row count 1 at late
-rows_by row len rest names (Some (negsuc n)) at late = None
-rows_by row len rest names None at late = open_rows row len (told_label len rest names) (fixed_widths rest) at late
+rows_by row len rest names count at late = option_and_then (λ until. rows_until row until (most_rows until len) 0 at late) (until_of len rest names count)
 
 -- the place of a label in front of others
 abbrev pub with_label : PlainField → ℕ → Option Found → Option Found

@@ -4,32 +4,26 @@ ghost use Rattle.std.specs.Prelude.{◌≡◌, ◌+◌, ◌≤◌, pos, suc, len
 ghost use Rattle.rz_bits.specs.View.{seen};
 ghost use Rattle.rz_types_fields.specs.Spells.{values_in};
 ghost use Rattle.rz_types.specs.Field.{field_and, plain_array, plain_body, plain_case, plain_cases, plain_field};
-ghost use Rattle.rz_unlay.specs.Came.{chosen, found_of, line_at, line_in, lines_in, row_at};
+ghost use Rattle.rz_unlay.specs.Came.{array_row, chosen, found_of, line_at, line_in, lines_in};
 ghost use Rattle.rz_unlay_pieces.specs.Came.{met_of};
-ghost use Rattle.rz_unlay.specs.Cursor.{body_found, case_found, count_known, field_found, rows_at, open_rows, rows_by, rows_to, rows_while};
+ghost use Rattle.rz_unlay.specs.Cursor.{body_found, case_found, field_found, most_rows, rows_until};
 ghost use Rattle.rz_unlay_pieces.specs.Few.{few, step_count, value_count};
 ghost use Rattle.rz_unlay.specs.Few.{found_count, line_count, lines_count, rows_count};
 ghost use Rattle.rz_unlay.specs.Fits.{AreFit, CasesFit, Fits};
 ghost use Rattle.rz_types_fields.specs.Known.{known, met, which_of, Grew};
 ghost use Rattle.rz_types_fields.specs.Passed.{met_behind};
 ghost use Rattle.rz_types_fields.specs.Sees.{marked};
-ghost use Rattle.rz_types_fields.specs.Width.{fixed_widths};
-ghost use Rattle.rz_unlay_pieces.specs.Ahead.{told_label};
-ghost use Rattle.rz_unlay_pieces.specs.Seen.{told_of};
-ghost use Rattle.rz_unlay.specs.Rows.{pushed, stop_at, stop_before};
+ghost use Rattle.rz_unlay.specs.Rows.{pushed};
 
 use crate::came::{RowCame, RowsCame};
 use crate::cases::has_keys;
 use crate::leaf::{read_pieces, spend};
-use crate::steps::{
-    count_known, push_label, push_row, push_value, row_behind, stop_at, stop_before, tail,
-};
+use crate::rows::{Until, push_row, row_after, until_of};
+use crate::steps::{push_label, push_value, tail};
 use rz_bits::BitView;
-use rz_core::{Facts, NoMemory, Word};
-use rz_types_fields::{
-    ArrayField, Case, Field, InRow, Note, Row, RowList, Tree, fixed_widths, rows_of,
-};
-use rz_unlay_pieces::{LabelAhead, Learnt, Met, Spot, claim_count, enter, learn_rows, told_label};
+use rz_core::{Facts, NoMemory};
+use rz_types_fields::{ArrayField, Case, Field, InRow, Row, RowList, Tree};
+use rz_unlay_pieces::{Learnt, Met, Spot, claim_count, enter, learn_rows};
 use std::alloc::Global;
 
 /// What is read: the bits of a resource, and what is known of it.
@@ -48,19 +42,16 @@ impl Reader<'_> {
     ghost use Rattle.rz_bits.specs.View.{seen};
     ghost use Rattle.rz_types_fields.specs.Spells.{values_in};
     ghost use Rattle.rz_types.specs.Field.{field_and, plain_array, plain_body, plain_case, plain_cases, plain_field};
-    ghost use Rattle.rz_unlay.specs.Came.{chosen, found_of, line_at, line_in, lines_in, row_at};
+    ghost use Rattle.rz_unlay.specs.Came.{array_row, chosen, found_of, line_at, line_in, lines_in};
     ghost use Rattle.rz_unlay_pieces.specs.Came.{met_of};
-    ghost use Rattle.rz_unlay.specs.Cursor.{body_found, case_found, count_known, field_found, rows_at, open_rows, rows_by, rows_to, rows_while};
+    ghost use Rattle.rz_unlay.specs.Cursor.{body_found, case_found, field_found, most_rows, rows_until};
     ghost use Rattle.rz_unlay_pieces.specs.Few.{few, step_count, value_count};
     ghost use Rattle.rz_unlay.specs.Few.{found_count, line_count, lines_count, rows_count};
     ghost use Rattle.rz_unlay.specs.Fits.{AreFit, CasesFit, Fits};
     ghost use Rattle.rz_types_fields.specs.Known.{known, met, which_of, Grew};
     ghost use Rattle.rz_types_fields.specs.Passed.{met_behind};
     ghost use Rattle.rz_types_fields.specs.Sees.{marked};
-    ghost use Rattle.rz_types_fields.specs.Width.{fixed_widths};
-    ghost use Rattle.rz_unlay_pieces.specs.Ahead.{told_label};
-    ghost use Rattle.rz_unlay_pieces.specs.Seen.{told_of};
-    ghost use Rattle.rz_unlay.specs.Rows.{pushed, stop_at, stop_before};
+    ghost use Rattle.rz_unlay.specs.Rows.{pushed};
 
     /// Reads the row of a body, with at most so many values: what is learnt of the names of its own is forgotten after it.
     #[cycle(read)]
@@ -202,239 +193,85 @@ impl Reader<'_> {
         ensures met { IfOk result (λ found. IfSome found (λ m. met learnt.new.notes.items ≡ met_behind (plain_array array.now) (met learnt.old.notes.items))) }
         ensures grew { IfOk result (λ found. IfSome found (λ m. Grew learnt.old.notes.items learnt.new.notes.items)) }
     {
-        let row = array.row.as_slice();
-        match self.read_rows(&array.name, array.count, row, rest, learnt, at, left)? {
-            Some(came) => {
-                let count = came.rows.len();
-                if claim_count(&array.name, count as u32, learnt)? {
-                    learn_rows(row, count as u64, came.places, learnt)?;
-                    Ok(Some(Met {
-                        value: Some(Tree::Rows(came.rows)),
-                        after: came.after,
-                        left: came.left,
-                    }))
-                } else {
-                    Ok(None)
-                }
-            }
-            None => Ok(None),
-        }
-    }
-
-    /// Reads rows: as many as are stated or known, or those up to a told label or the end of the resource.
-    #[cycle(read)]
-    fn read_rows<'a>(
-        &self,
-        name: &'a Option<Word>,
-        count: Option<i32>,
-        row: &'a [Field],
-        rest: &[Field],
-        learnt: &mut Learnt<'a>,
-        at: u32,
-        left: u32,
-    ) -> Result<Option<RowsCame>, NoMemory>
-        requires fits { AreFit (plain_body row.now) }
-        requires at { at ≤ length (seen self.now.view.now) }
-        requires marks { length learnt.old.marks ≤ at }
-        ensures rows { IfOk result (λ came. option_map (lines_in learnt.new) came
-            ≡ few lines_count left (rows_by (row_at self.now.facts.now (seen self.now.view.now) name.now (plain_body row.now) (met learnt.old.notes.items) (known learnt.old.notes.items)) (length (seen self.now.view.now)) (plain_body rest.now) (known learnt.old.notes.items)
-            (count_known (known learnt.old.notes.items) name.now count) at (marked at learnt.old.marks))) }
-        ensures left { IfOk result (λ came. IfSome came (λ r. r.left + rows_count r.rows ≡ left)) }
-        ensures within { IfOk result (λ came. IfSome came (λ r. r.after ≤ length (seen self.now.view.now))) }
-        ensures marks { IfOk result (λ came. IfSome came (λ r. length learnt.new.marks ≤ r.after)) }
-        ensures notes { IfOk result (λ came. IfSome came (λ r. learnt.new.notes.items ≡ learnt.old.notes.items)) }
-    {
-        match count_known(name, count, learnt.notes.as_slice()) {
-            Some(count) => {
-                if count < 0 {
-                    Ok(None)
-                } else {
-                    self.read_so_many(name, row, count as u64, learnt, at, left)
-                }
-            }
-            None => self.read_open(name, row, rest, learnt, at, left),
-        }
-    }
-
-    /// Reads rows up to a label whose place is told, or else to the end of the resource.
-    #[cycle(read)]
-    fn read_open<'a>(
-        &self,
-        name: &'a Option<Word>,
-        row: &'a [Field],
-        rest: &[Field],
-        learnt: &mut Learnt<'a>,
-        at: u32,
-        left: u32,
-    ) -> Result<Option<RowsCame>, NoMemory>
-        requires fits { AreFit (plain_body row.now) }
-        requires at { at ≤ length (seen self.now.view.now) }
-        requires marks { length learnt.old.marks ≤ at }
-        ensures rows { IfOk result (λ came. option_map (lines_in learnt.new) came
-            ≡ few lines_count left (open_rows (row_at self.now.facts.now (seen self.now.view.now) name.now (plain_body row.now) (met learnt.old.notes.items) (known learnt.old.notes.items)) (length (seen self.now.view.now))
-            (told_label (length (seen self.now.view.now)) (plain_body rest.now) (known learnt.old.notes.items)) (fixed_widths (plain_body rest.now)) at (marked at learnt.old.marks))) }
-        ensures left { IfOk result (λ came. IfSome came (λ r. r.left + rows_count r.rows ≡ left)) }
-        ensures within { IfOk result (λ came. IfSome came (λ r. r.after ≤ length (seen self.now.view.now))) }
-        ensures marks { IfOk result (λ came. IfSome came (λ r. length learnt.new.marks ≤ r.after)) }
-        ensures notes { IfOk result (λ came. IfSome came (λ r. learnt.new.notes.items ≡ learnt.old.notes.items)) }
-    {
-        match told_label(rest, learnt.notes.as_slice(), self.view.len()) {
-            Some(told) => match stop_before(told) {
-                Some(stop) => self.read_to(name, row, stop, learnt, at, left),
-                None => Ok(None),
-            },
-            None => match stop_at(self.view, fixed_widths(rest)) {
-                Some(stop) => self.read_while(name, row, stop, learnt, at, left),
-                None => Ok(None),
-            },
-        }
-    }
-
-    /// Reads so many rows.
-    #[cycle(read)]
-    fn read_so_many<'a>(
-        &self,
-        name: &'a Option<Word>,
-        row: &'a [Field],
-        count: u64,
-        learnt: &mut Learnt<'a>,
-        at: u32,
-        left: u32,
-    ) -> Result<Option<RowsCame>, NoMemory>
-        requires fits { AreFit (plain_body row.now) }
-        requires at { at ≤ length (seen self.now.view.now) }
-        requires marks { length learnt.old.marks ≤ at }
-        ensures rows { IfOk result (λ came. option_map (lines_in learnt.new) came
-            ≡ few lines_count left (rows_at (row_at self.now.facts.now (seen self.now.view.now) name.now (plain_body row.now) (met learnt.old.notes.items) (known learnt.old.notes.items)) count 1 at (marked at learnt.old.marks))) }
-        ensures left { IfOk result (λ came. IfSome came (λ r. r.left + rows_count r.rows ≡ left)) }
-        ensures within { IfOk result (λ came. IfSome came (λ r. r.after ≤ length (seen self.now.view.now))) }
-        ensures marks { IfOk result (λ came. IfSome came (λ r. length learnt.new.marks ≤ r.after)) }
-        ensures notes { IfOk result (λ came. IfSome came (λ r. learnt.new.notes.items ≡ learnt.old.notes.items)) }
-    {
-        let mut rows = RowList::new(self.alloc);
-        let mut places = Vec::new(self.alloc);
-        let mut end = at;
-        let mut more = left;
-        for _turn in 0..count {
-            if more == 0 {
+        let notes = learnt.notes.as_slice();
+        let until = match until_of(self.view, &array.name, array.count, rest, notes) {
+            Some(until) => until,
+            None => return Ok(None),
+        };
+        let came = match self.read_rows(array, until, learnt, at, left)? {
+            Some(came) => came,
+            None => return Ok(None),
+        };
+        let count = came.rows.len();
+        match claim_count(&array.name, count as u32, learnt) {
+            Ok(true) => {}
+            Ok(false) => {
+                drop(came);
                 return Ok(None);
             }
-            match self.read_body(row, row_behind(name, &rows), learnt, end, more - 1)? {
-                Some(came) => {
-                    end = came.after;
-                    more = came.left;
-                    push_row(&mut rows, &mut places, came)?;
-                }
-                None => return Ok(None),
+            Err(error) => {
+                drop(came);
+                return Err(error);
             }
         }
-        Ok(Some(RowsCame {
-            rows,
-            places,
-            after: end,
-            left: more,
+        learn_rows(array.row.as_slice(), count as u64, came.places, learnt)?;
+        Ok(Some(Met {
+            value: Some(Tree::Rows(came.rows)),
+            after: came.after,
+            left: came.left,
         }))
     }
 
-    /// Reads rows as long as eight bits stand before a place.
+    /// Reads the rows of an array, from the first on, up to where they end.
     #[cycle(read)]
-    fn read_while<'a>(
+    fn read_rows<'a>(
         &self,
-        name: &'a Option<Word>,
-        row: &'a [Field],
-        stop: u32,
+        array: &'a ArrayField,
+        until: Until,
         learnt: &mut Learnt<'a>,
         at: u32,
         left: u32,
     ) -> Result<Option<RowsCame>, NoMemory>
-        requires fits { AreFit (plain_body row.now) }
+        requires fits { Fits (plain_array array.now) }
         requires at { at ≤ length (seen self.now.view.now) }
         requires marks { length learnt.old.marks ≤ at }
         ensures rows { IfOk result (λ came. option_map (lines_in learnt.new) came
-            ≡ few lines_count left (rows_while (row_at self.now.facts.now (seen self.now.view.now) name.now (plain_body row.now) (met learnt.old.notes.items) (known learnt.old.notes.items)) stop (suc (length (seen self.now.view.now))) 1 at (marked at learnt.old.marks))) }
+            ≡ few lines_count left (rows_until (array_row self.now.facts.now (seen self.now.view.now) array.now (met learnt.old.notes.items) (known learnt.old.notes.items)) until
+            (most_rows until (length (seen self.now.view.now))) 0 at (marked at learnt.old.marks))) }
         ensures left { IfOk result (λ came. IfSome came (λ r. r.left + rows_count r.rows ≡ left)) }
         ensures within { IfOk result (λ came. IfSome came (λ r. r.after ≤ length (seen self.now.view.now))) }
         ensures marks { IfOk result (λ came. IfSome came (λ r. length learnt.new.marks ≤ r.after)) }
         ensures notes { IfOk result (λ came. IfSome came (λ r. learnt.new.notes.items ≡ learnt.old.notes.items)) }
     {
-        let mut rows = RowList::new(self.alloc);
-        let mut places = Vec::new(self.alloc);
-        let mut end = at;
-        let mut more = left;
-        for _turn in 0..self.view.len() + 1 {
-            if stop < end + 8 {
-                return Ok(Some(RowsCame {
-                    rows,
-                    places,
-                    after: end,
-                    left: more,
-                }));
+        let fields = array.row.as_slice();
+        let mut so_far = RowsCame {
+            rows: RowList::new(self.alloc),
+            places: Vec::new(self.alloc),
+            after: at,
+            left,
+        };
+        for _turn in 0..until.most(self.view) {
+            if !until.goes_on(&so_far) {
+                return Ok(until.over(so_far));
             }
-            if more == 0 {
+            if so_far.left == 0 {
+                drop(so_far);
                 return Ok(None);
             }
-            match self.read_body(row, row_behind(name, &rows), learnt, end, more - 1)? {
-                Some(came) => {
-                    end = came.after;
-                    more = came.left;
-                    push_row(&mut rows, &mut places, came)?;
+            let which = row_after(&array.name, &so_far);
+            match self.read_body(fields, which, learnt, so_far.after, so_far.left - 1) {
+                Ok(Some(came)) => push_row(&mut so_far, came)?,
+                Ok(None) => {
+                    drop(so_far);
+                    return Ok(None);
                 }
-                None => return Ok(None),
+                Err(error) => {
+                    drop(so_far);
+                    return Err(error);
+                }
             }
         }
-        Ok(None)
-    }
-
-    /// Reads rows up to just this place.
-    #[cycle(read)]
-    fn read_to<'a>(
-        &self,
-        name: &'a Option<Word>,
-        row: &'a [Field],
-        stop: u32,
-        learnt: &mut Learnt<'a>,
-        at: u32,
-        left: u32,
-    ) -> Result<Option<RowsCame>, NoMemory>
-        requires fits { AreFit (plain_body row.now) }
-        requires at { at ≤ length (seen self.now.view.now) }
-        requires marks { length learnt.old.marks ≤ at }
-        ensures rows { IfOk result (λ came. option_map (lines_in learnt.new) came
-            ≡ few lines_count left (rows_to (row_at self.now.facts.now (seen self.now.view.now) name.now (plain_body row.now) (met learnt.old.notes.items) (known learnt.old.notes.items)) stop (suc (length (seen self.now.view.now))) 1 at (marked at learnt.old.marks))) }
-        ensures left { IfOk result (λ came. IfSome came (λ r. r.left + rows_count r.rows ≡ left)) }
-        ensures within { IfOk result (λ came. IfSome came (λ r. r.after ≤ length (seen self.now.view.now))) }
-        ensures marks { IfOk result (λ came. IfSome came (λ r. length learnt.new.marks ≤ r.after)) }
-        ensures notes { IfOk result (λ came. IfSome came (λ r. learnt.new.notes.items ≡ learnt.old.notes.items)) }
-    {
-        let mut rows = RowList::new(self.alloc);
-        let mut places = Vec::new(self.alloc);
-        let mut end = at;
-        let mut more = left;
-        for _turn in 0..self.view.len() + 1 {
-            if end == stop {
-                return Ok(Some(RowsCame {
-                    rows,
-                    places,
-                    after: end,
-                    left: more,
-                }));
-            }
-            if stop < end {
-                return Ok(None);
-            }
-            if more == 0 {
-                return Ok(None);
-            }
-            match self.read_body(row, row_behind(name, &rows), learnt, end, more - 1)? {
-                Some(came) => {
-                    end = came.after;
-                    more = came.left;
-                    push_row(&mut rows, &mut places, came)?;
-                }
-                None => return Ok(None),
-            }
-        }
-        Ok(None)
+        Ok(until.over(so_far))
     }
 
     /// Reads the first case whose key stands there.

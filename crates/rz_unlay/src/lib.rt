@@ -19,6 +19,7 @@ mod leaf;
 mod points;
 mod resource;
 mod row;
+mod rows;
 mod spelled;
 mod steps;
 mod text;

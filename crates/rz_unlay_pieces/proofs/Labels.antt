@@ -5,14 +5,14 @@ use Rattle.std.proofs.lemmas.Bool.Decides.{leb_tells, nat_tests}
 use Rattle.rz_core.specs.Lists.{or_else}
 use Rattle.rz_bits.specs.BitBuf.{missing}
 use Rattle.rz_bits.specs.View.{seen}
-use Rattle.rz_expr.specs.Environment.{count_of, place_in, row_in, rows_of, Environment, Key}
+use Rattle.rz_expr.specs.Environment.{count_key, place_in_key, row_key, rows_key, Environment, Key}
 use Rattle.rz_types_fields.specs.Field.{field_and, no_fields, plain_body, plain_field, Align, Array, Fill, Label, Number, PlainBody, PlainField, Points, Switch, Text}
 use Rattle.rz_types_fields.specs.Passed.{is_label, stands_at}
 use Rattle.rz_types_fields.specs.Width.{capped, fixed_width}
 use Rattle.rz_types_fields.specs.declared.field.Field.{Field}
 use Rattle.rz_types_fields.proofs.Bodies.{body_end, body_next}
 use Rattle.rz_unlay_pieces.specs.Ahead.{behind_measured, label_place, near_place, place_within, told_label, wider, Told}
-use Rattle.rz_unlay_pieces.specs.Seen.{behind_capped, near_names, told_capped}
+use Rattle.rz_unlay_pieces.specs.Seen.{behind_capped, near_value, told_capped}
 use Rattle.rz_unlay_pieces.specs.declared.spot.Spot.{Spot}
 
 some_is : (a b : ℕ) → ◌≡◌ {A = Option ℕ} (Some a) (Some b) → a ≡ b
@@ -117,28 +117,21 @@ module _ (key : Key) (other : (name : List ℕ) → stands_at name key ≡ false
       by None further = refl
       by (Some n) further = further n
 
-  pub seen_known : (spot : Spot) (names : Environment) → names.give key ≡ (near_names spot names).give key
-  seen_known spot names =
-      sym (
-      ap (λ (p : Option ℕ). or_else (names.give key) (option_map (λ q. pos q) (place_within (length (seen spot.view.now)) (option_map (λ q. pos q) p)))) (none_near (plain_body spot.fields.now) spot.first)
-      ∙ or_none (names.give key)
-      )
-    where
-      or_none : (value : Option ℤ) → or_else value None ≡ value
-      or_none None = refl
-      or_none (Some value) = refl
+  pub not_near : (spot : Spot) → None ≡ near_value spot key
+  not_near spot =
+      sym (ap (λ (p : Option ℕ). option_map (λ q. pos q) (place_within (length (seen spot.view.now)) (option_map (λ q. pos q) p))) (none_near (plain_body spot.fields.now) spot.first))
 
-pub count_seen : (spot : Spot) (names : Environment) (name : List ℕ) → names.give (count_of name) ≡ (near_names spot names).give (count_of name)
-count_seen spot names name = seen_known (count_of name) (λ label. refl) spot names
+pub count_far : (spot : Spot) (name : List ℕ) → None ≡ near_value spot (count_key name)
+count_far spot name = not_near (count_key name) (λ label. refl) spot
 
-pub rows_seen : (spot : Spot) (names : Environment) (label : List ℕ) → names.give (rows_of label) ≡ (near_names spot names).give (rows_of label)
-rows_seen spot names label = seen_known (rows_of label) (λ other. refl) spot names
+pub rows_far : (spot : Spot) (label : List ℕ) → None ≡ near_value spot (rows_key label)
+rows_far spot label = not_near (rows_key label) (λ other. refl) spot
 
-pub place_in_seen : (spot : Spot) (names : Environment) (label : List ℕ) (number : ℤ) → names.give (place_in label number) ≡ (near_names spot names).give (place_in label number)
-place_in_seen spot names label number = seen_known (place_in label number) (λ other. refl) spot names
+pub place_in_far : (spot : Spot) (label : List ℕ) (number : ℤ) → None ≡ near_value spot (place_in_key label number)
+place_in_far spot label number = not_near (place_in_key label number) (λ other. refl) spot
 
-pub row_seen : (spot : Spot) (names : Environment) (array : List ℕ) → names.give (row_in array) ≡ (near_names spot names).give (row_in array)
-row_seen spot names array = seen_known (row_in array) (λ label. refl) spot names
+pub row_far : (spot : Spot) (array : List ℕ) → None ≡ near_value spot (row_key array)
+row_far spot array = not_near (row_key array) (λ label. refl) spot
 
 module _ (len : ℕ) (fields : List Field) (i : ℕ) (field : Field) (less : i < length fields) (item : field ≡ get_or fields i field) (at : ℕ) (key : Key) (total : Option ℕ)
     (so : near_within len (plain_body (drop i fields)) at key ≡ total) where

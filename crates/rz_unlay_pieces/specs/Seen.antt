@@ -1,14 +1,15 @@
 -- What an expression sees where a field is read, as the code has it.
-use Rattle.std.specs.Prelude.{ℕ, ◌+◌, Bool, false, ◌&&◌, ◌||◌, if◌then◌else◌, List, Option, Some, None, option_map}
-use Rattle.rz_expr.specs.Environment.{Environment, Sight}
+use Rattle.std.specs.Prelude.{ℕ, ◌+◌, ℤ, pos, Bool, false, ◌&&◌, ◌||◌, if◌then◌else◌, List, length, Option, Some, None, option_map}
+use Rattle.rz_expr.specs.Environment.{Environment, Key, Sight}
 use Rattle.rz_bits.specs.BitBuf.{missing}
-use Rattle.rz_types_fields.specs.Field.{Align, PlainBody, PlainField}
+use Rattle.rz_bits.specs.View.{seen}
+use Rattle.rz_types_fields.specs.Field.{plain_body, Align, PlainBody, PlainField}
 use Rattle.rz_types_fields.specs.Known.{known, met}
 use Rattle.rz_types_fields.specs.Passed.{gives_count, gives_rows, stands_at, Names}
 use Rattle.rz_types_fields.specs.Sees.{hit}
 use Rattle.rz_types_fields.specs.Width.{capped, fixed_width}
 use Rattle.rz_core.specs.declared.resource.Word.{Word}
-use Rattle.rz_unlay_pieces.specs.Ahead.{Told}
+use Rattle.rz_unlay_pieces.specs.Ahead.{in_resource, near_place, Told}
 use Rattle.rz_unlay_pieces.specs.Came.{here_of}
 use Rattle.rz_unlay_pieces.specs.Pieces.{seen_at, with_near}
 use Rattle.rz_unlay_pieces.specs.declared.ahead.LabelAhead.{LabelAhead}
@@ -19,6 +20,10 @@ use Rattle.rz_unlay_pieces.specs.declared.spot.Spot.{Spot}
 -- what is known of names at a field, with the labels that are near
 abbrev pub near_names : Spot → Environment → Environment
 near_names spot names = with_near (here_of spot (λ key. false)) names
+
+-- the place of a label that is near, where the key is one
+abbrev pub near_value : Spot → Key → Option ℤ
+near_value spot key = in_resource (length (seen spot.view.now)) (option_map (λ place. pos place) (near_place (plain_body spot.fields.now) spot.first key))
 
 -- what an expression sees at a place of a field, where so much is learnt
 abbrev pub sight_at : Spot → Learnt → ℕ → Sight

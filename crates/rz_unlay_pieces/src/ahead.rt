@@ -16,7 +16,8 @@ use crate::learnt::Learnt;
 use crate::spot::Spot;
 use rz_bits::{BitView, missing};
 use rz_core::Word;
-use rz_types_fields::{Field, KeyRef, Note, fixed_width, fixed_widths, place_of, stands_at};
+use rz_expr::Key;
+use rz_types_fields::{Field, Note, fixed_width, fixed_widths, stands_at, value_noted};
 
 /// One bit more than the most bits of a resource.
 const TOO_MANY_BITS: u64 = 134_217_697;
@@ -55,20 +56,20 @@ fn label_place(field: &Field, notes: &[Note<'_>], len: u32) -> Option<u32>
     ensures place { result ≡ label_place len (plain_field field.now) (known notes.now) }
 {
     match field {
-        Field::Label(name) => place_within(len, place_of(notes, name)),
+        Field::Label(name) => place_within(len, value_noted(notes, Key::Place(name))),
         _ => None,
     }
 }
 
 /// A place, where it lies in a resource of so many bits.
-fn place_within(len: u32, place: Option<i32>) -> Option<u32>
+fn place_within(len: u32, place: Option<i128>) -> Option<u32>
     ensures within { IfSome result (λ p. p ≤ len) }
     ensures place { result ≡ place_within len place }
 {
     match place {
         Some(place) => {
-            if place >= 0 && place.unsigned_abs() <= len {
-                Some(place.unsigned_abs())
+            if place >= 0 && place <= i128::from(len) {
+                Some(place as u32)
             } else {
                 None
             }
@@ -112,7 +113,7 @@ fn is_label(field: &Field, name: &Word) -> bool
     ensures { result ≡ is_label (plain_field field.now) (place_key name.now.bytes) }
 {
     match field {
-        Field::Label(label) => stands_at(label, KeyRef::Place(name)),
+        Field::Label(label) => stands_at(label, Key::Place(name)),
         _ => false,
     }
 }

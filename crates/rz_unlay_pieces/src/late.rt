@@ -16,8 +16,8 @@ use crate::learnt::Learnt;
 use crate::seen::SpotEnv;
 use crate::spot::Spot;
 use rz_core::NoMemory;
-use rz_expr::{Expr, value_in};
-use rz_types_fields::{Note, TextField, is_met, labelled_rows, text_expressions};
+use rz_expr::{Expr, Key, value_in};
+use rz_types_fields::{Note, TextField, is_met, text_expressions};
 use std::alloc::Global;
 
 /// The value of an expression, and whether a number with it is late.
@@ -75,14 +75,16 @@ fn names_later(expr: &Expr, notes: &[Note<'_>]) -> bool
 {
     match expr {
         Expr::Number(_) | Expr::Count(_) | Expr::ArrayIndex(_) | Expr::Fact(_) => false,
-        Expr::Name(name) => !is_met(notes, name),
+        Expr::Name(name) => !is_met(notes, Key::Place(name)),
         Expr::Indexed(name, index) => {
-            labelled_rows(notes, name).is_none() || names_later(index, notes)
+            !is_met(notes, Key::Rows(name)) || names_later(index, notes)
         }
         Expr::Unary(_, operand) => names_later(operand, notes),
         Expr::Binary(_, left, right) => names_later(left, notes) || names_later(right, notes),
         Expr::Bits(name, start, width) => {
-            !is_met(notes, name) || names_later(start, notes) || names_later(width, notes)
+            !is_met(notes, Key::Place(name))
+                || names_later(start, notes)
+                || names_later(width, notes)
         }
     }
 }

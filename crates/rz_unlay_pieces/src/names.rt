@@ -13,7 +13,8 @@ ghost use Rattle.rz_unlay_pieces.specs.Seen.{met_counted, met_in_rows, met_place
 
 use crate::learnt::Learnt;
 use rz_core::{NoMemory, Word};
-use rz_types_fields::{Field, InRow, Note, note_rows, place_of, rows_of};
+use rz_expr::Key;
+use rz_types_fields::{Field, InRow, Note, note_rows, value_noted};
 
 /// Enters a body, with one note: what was known of its own names is hidden, the stated numbers of its arrays are known, and so
 /// is the number of the row, where it is one of an array with a name.
@@ -56,7 +57,10 @@ fn claim_rows<'a>(name: &'a Word, rows: i64, learnt: &mut Learnt<'a>) -> Result<
     ensures grew { IfOk result (λ holds. Grew learnt.old.notes.items learnt.new.notes.items) }
     ensures marks { IfOk result (λ holds. learnt.new.marks ≡ learnt.old.marks) }
 {
-    if agrees(rows_of(learnt.notes.as_slice(), name), rows) {
+    if agrees(
+        value_noted(learnt.notes.as_slice(), Key::Count(name)),
+        i128::from(rows),
+    ) {
         learnt.notes.push(Note::Counted(name, rows))?;
         Ok(true)
     } else {
@@ -89,7 +93,10 @@ pub fn claim_place<'a>(name: &'a Word, at: i32, learnt: &mut Learnt<'a>) -> Resu
     ensures grew { IfOk result (λ holds. Grew learnt.old.notes.items learnt.new.notes.items) }
     ensures marks { IfOk result (λ holds. learnt.new.marks ≡ learnt.old.marks) }
 {
-    if agrees_place(place_of(learnt.notes.as_slice(), name), at) {
+    if agrees(
+        value_noted(learnt.notes.as_slice(), Key::Place(name)),
+        i128::from(at),
+    ) {
         learnt.notes.push(Note::Placed(name, at))?;
         Ok(true)
     } else {
@@ -98,21 +105,11 @@ pub fn claim_place<'a>(name: &'a Word, at: i32, learnt: &mut Learnt<'a>) -> Resu
 }
 
 /// Whether no other value is known.
-fn agrees(known: Option<i64>, value: i64) -> bool
+fn agrees(known: Option<i128>, value: i128) -> bool
     ensures { result ≡ agrees known value }
 {
     match known {
         Some(known) => known == value,
-        None => true,
-    }
-}
-
-/// Whether no other place is known.
-fn agrees_place(known: Option<i32>, place: i32) -> bool
-    ensures { result ≡ agrees known place }
-{
-    match known {
-        Some(known) => known == place,
         None => true,
     }
 }

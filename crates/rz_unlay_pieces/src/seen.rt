@@ -1,20 +1,19 @@
 //! What expressions see where a field is read. What they see is in `specs/Seen`.
 
-ghost use Rattle.std.specs.Prelude.{◌≡◌, ◌≤◌, ◌&&◌, if◌then◌else◌, IfSome, None, option_map, pos};
+ghost use Rattle.std.specs.Prelude.{◌≡◌, ◌≤◌, ◌&&◌, if◌then◌else◌, None, option_map, pos};
 ghost use Rattle.rz_bits.specs.View.{seen};
-ghost use Rattle.rz_expr.specs.Environment.{place_key, IsSeenIn};
-ghost use Rattle.rz_expr.specs.Value.{reduced};
+ghost use Rattle.rz_expr.specs.Environment.{IsSeenIn};
+ghost use Rattle.rz_expr.specs.NameKey.{key_of};
 ghost use Rattle.rz_types_fields.specs.Known.{known};
 ghost use Rattle.rz_types_fields.specs.Sees.{bits_before, hit};
-ghost use Rattle.rz_unlay_pieces.specs.Seen.{env_sight, near_names};
+ghost use Rattle.rz_unlay_pieces.specs.Seen.{env_sight, near_names, near_value};
 
 use crate::ahead::near_place;
 use crate::learnt::Learnt;
 use crate::spot::Spot;
 use rz_bits::{BitBuf, BitView};
-use rz_core::Word;
-use rz_expr::{Env, FactWord, signed};
-use rz_types_fields::{fact_of, labelled_rows, place_in, place_of, row_around, rows_of};
+use rz_expr::{Env, FactWord, Key};
+use rz_types_fields::{fact_of, value_noted};
 
 /// What an expression sees at a place of a field: what is noted of names, the labels ahead at a known distance, and the
 /// bits before the place. A name is looked for from the newest note on, and then through the fields ahead.
@@ -35,44 +34,19 @@ impl Env for SpotEnv<'_> {
 
     ghost belongs = { λ env finished. IsSeenIn (env_sight env) finished };
 
-    fn place(&self, name: &Word) -> Option<i32> {
-        place_seen(name, self.spot, self.learnt)
+    fn give(&self, key: Key<'_>) -> Option<i128> {
+        value_seen(key, self.spot, self.learnt)
     }
 
-    fn count(&self, name: &Word) -> Option<i32> {
-        match rows_of(self.learnt.notes.as_slice(), name) {
-            Some(rows) => Some(reduced(rows)),
-            None => None,
-        }
-    }
-
-    fn rows(&self, label: &Word) -> Option<u64> {
-        labelled_rows(self.learnt.notes.as_slice(), label)
-    }
-
-    fn place_at(&self, label: &Word, row: i32) -> Option<i32> {
-        place_in(self.learnt.notes.as_slice(), label, row)
-    }
-
-    fn row(&self, array: &Word) -> Option<i32> {
-        match row_around(self.learnt.notes.as_slice(), array) {
-            Some(number) => Some(reduced_count(number)),
-            None => None,
-        }
-    }
-
-    fn bits(&self, name: &Word, start: i32, width: i32) -> Option<u32> {
-        match place_seen(name, self.spot, self.learnt) {
-            Some(place) => number_seen(
-                self.spot.view,
-                &self.learnt.marks,
-                self.hides,
-                self.at,
-                i64::from(place) + i64::from(start),
-                width as u8,
-            ),
-            None => None,
-        }
+    fn bits(&self, first: i64, width: i32) -> Option<u32> {
+        number_seen(
+            self.spot.view,
+            &self.learnt.marks,
+            self.hides,
+            self.at,
+            first,
+            width as u8,
+        )
     }
 
     fn fact(&self, which: FactWord) -> i32 {
@@ -82,41 +56,28 @@ impl Env for SpotEnv<'_> {
     ghost law = { λ env finished seen. seen };
 }
 
-/// The value of a name: the place that is noted, or that of a label ahead.
-pub fn place_seen(name: &Word, spot: &Spot<'_>, learnt: &Learnt<'_>) -> Option<i32>
-    ensures { result ≡ (near_names spot.now (known learnt.now.notes.items)).give (place_key name.now.bytes) }
+/// The value of a key: what is noted, or the place of a label ahead.
+pub fn value_seen(key: Key<'_>, spot: &Spot<'_>, learnt: &Learnt<'_>) -> Option<i128>
+    ensures { result ≡ (near_names spot.now (known learnt.now.notes.items)).give (key_of key.entry) }
 {
-    match place_of(learnt.notes.as_slice(), name) {
-        Some(place) => Some(place),
-        None => near_value(near_place(spot.fields, spot.first, name, spot.view.len())),
+    match value_noted(learnt.notes.as_slice(), key) {
+        Some(value) => Some(value),
+        None => value_near(key, spot),
     }
 }
 
-/// A place as the value of its label.
-fn near_value(place: Option<u32>) -> Option<i32>
-    requires { IfSome place (λ p. p ≤ 134217696) }
-    ensures { result ≡ option_map (λ p. pos p) place }
+/// The place of a label ahead, where the key is one.
+#[tactic(auto, using(crate::proofs::Labels::count_far, crate::proofs::Labels::rows_far, crate::proofs::Labels::place_in_far, crate::proofs::Labels::row_far))]
+fn value_near(key: Key<'_>, spot: &Spot<'_>) -> Option<i128>
+    ensures { result ≡ near_value spot.now (key_of key.entry) }
 {
-    match place {
-        Some(place) => Some(place as i32),
-        None => None,
+    match key {
+        Key::Place(name) => match near_place(spot.fields, spot.first, name, spot.view.len()) {
+            Some(place) => Some(i128::from(place)),
+            None => None,
+        },
+        Key::Count(_) | Key::Rows(_) | Key::PlaceIn(..) | Key::Row(_) => None,
     }
-}
-
-/// A number, reduced to 32 bits with a sign.
-#[tactic(auto, using(rz_types_fields::proofs::Noting::reduced_again))]
-fn reduced(number: i64) -> i32
-    ensures { result ≡ reduced number }
-{
-    signed((number.cast_unsigned() % 4_294_967_296) as u32)
-}
-
-/// The number of a row, reduced to 32 bits with a sign.
-#[tactic(auto, using(rz_types_fields::proofs::Noting::count_again))]
-fn reduced_count(count: u64) -> i32
-    ensures { result ≡ reduced (pos count) }
-{
-    signed((count % 4_294_967_296) as u32)
 }
 
 /// The number in so many bits from a bit on, where they all stand before a place, and none of them is late, where the late

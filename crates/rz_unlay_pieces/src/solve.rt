@@ -4,10 +4,10 @@ ghost use Rattle.std.specs.Prelude.{◌≡◌, ◌≤◌, ◌%◌, ◌^◌, ◌+
 ghost use Rattle.std.specs.Int.{cast_unsigned, w64};
 ghost use Rattle.std.specs.Result.{result_ok};
 ghost use Rattle.rz_expr.specs.Environment.{count_key, place_key};
+ghost use Rattle.rz_expr.specs.NameKey.{key_of};
 ghost use Rattle.rz_expr.specs.Term.{term_of};
 ghost use Rattle.rz_expr.specs.Value.{value_of};
 ghost use Rattle.rz_types_fields.specs.Known.{known, met, Grew};
-ghost use Rattle.rz_types_fields.specs.NameKey.{key_of};
 ghost use Rattle.rz_types_fields.specs.Solve.{exact, found_if, has_key, in_64_bits, solve, undo_left, undo_one, undo_right};
 ghost use Rattle.rz_unlay_pieces.specs.Ahead.{in_resource};
 ghost use Rattle.rz_unlay_pieces.specs.Asked.{asked_sight, solves};
@@ -17,11 +17,11 @@ ghost use Rattle.rz_unlay_pieces.specs.Power.{power_of};
 ghost use Rattle.rz_unlay_pieces.specs.Seen.{env_sight, near_names};
 
 use crate::learnt::Learnt;
-use crate::seen::{SpotEnv, place_seen};
+use crate::seen::{SpotEnv, value_seen};
 use crate::spot::Spot;
 use rz_core::{NoMemory, Word};
-use rz_expr::{BinaryOp, Expr, UnaryOp, value_in};
-use rz_types_fields::{KeyRef, Note, is_same_key, rows_of, standing_of};
+use rz_expr::{BinaryOp, Expr, Key, UnaryOp, value_in};
+use rz_types_fields::{Note, is_same_key, standing_of};
 
 /// An expression that is stored as a number.
 #[derive(Clone, Copy)]
@@ -80,7 +80,7 @@ fn solve_place<'a>(
     ensures grew { IfOk result (λ holds. Grew learnt.old.notes.items learnt.new.notes.items) }
     ensures marks { IfOk result (λ holds. learnt.new.marks ≡ learnt.old.marks) }
 {
-    match place_seen(name, asked.spot, learnt) {
+    match value_seen(Key::Place(name), asked.spot, learnt) {
         Some(_) => Ok(true),
         None => match solved_place(name, asked, learnt) {
             Some(place) => {
@@ -105,7 +105,7 @@ fn solve_count<'a>(
     ensures grew { IfOk result (λ holds. Grew learnt.old.notes.items learnt.new.notes.items) }
     ensures marks { IfOk result (λ holds. learnt.new.marks ≡ learnt.old.marks) }
 {
-    match rows_of(learnt.notes.as_slice(), name) {
+    match value_seen(Key::Count(name), asked.spot, learnt) {
         Some(_) => Ok(true),
         None => match solved_count(name, asked, learnt) {
             Some(rows) => {
@@ -121,7 +121,7 @@ fn solve_count<'a>(
 fn solved_place(name: &Word, asked: &Asked<'_>, learnt: &Learnt<'_>) -> Option<i32>
     ensures { result ≡ solves asked.now (place_key name.now.bytes) (known learnt.now.notes.items) }
 {
-    let solved = solve_whole(KeyRef::Place(name), asked, learnt);
+    let solved = solve_whole(Key::Place(name), asked, learnt);
     in_resource(asked.spot.view.len(), solved)
 }
 
@@ -147,7 +147,7 @@ fn solved_count(name: &Word, asked: &Asked<'_>, learnt: &Learnt<'_>) -> Option<i
     requires { asked.now.width ≤ 32 }
     ensures { result ≡ solves asked.now (count_key name.now.bytes) (known learnt.now.notes.items) }
 {
-    match solve_whole(KeyRef::Count(name), asked, learnt) {
+    match solve_whole(Key::Count(name), asked, learnt) {
         Some(number) => Some(lowest(number, asked.width)),
         None => None,
     }
@@ -162,7 +162,7 @@ fn lowest(number: i64, width: u32) -> i64
 }
 
 /// The value of a name with which the whole expression comes to the number.
-fn solve_whole(key: KeyRef<'_>, asked: &Asked<'_>, learnt: &Learnt<'_>) -> Option<i64>
+fn solve_whole(key: Key<'_>, asked: &Asked<'_>, learnt: &Learnt<'_>) -> Option<i64>
     ensures { result ≡ solve (key_of key.entry) (asked_sight asked.now (known learnt.now.notes.items)) (term_of asked.now.whole.now) (pos asked.now.stored) }
 {
     let env = SpotEnv {
@@ -175,12 +175,12 @@ fn solve_whole(key: KeyRef<'_>, asked: &Asked<'_>, learnt: &Learnt<'_>) -> Optio
 }
 
 /// The value that a name has for the expression to come to a number.
-fn solve(key: KeyRef<'_>, expr: &Expr, env: &SpotEnv<'_>, number: i64) -> Option<i64>
+fn solve(key: Key<'_>, expr: &Expr, env: &SpotEnv<'_>, number: i64) -> Option<i64>
     ensures { result ≡ solve (key_of key.entry) (env_sight env.now) (term_of expr.now) number }
 {
     match expr {
-        Expr::Name(other) => found_if(is_same_key(key, KeyRef::Place(other)), number),
-        Expr::Count(other) => found_if(is_same_key(key, KeyRef::Count(other)), number),
+        Expr::Name(other) => found_if(is_same_key(key, Key::Place(other)), number),
+        Expr::Count(other) => found_if(is_same_key(key, Key::Count(other)), number),
         Expr::Unary(op, operand) => match undo_one(*op, number) {
             Some(inner) => solve(key, operand, env, inner),
             None => None,
@@ -220,7 +220,7 @@ fn found_if(holds: bool, number: i64) -> Option<i64>
 }
 
 /// Whether a name stands in an expression.
-fn has_key(expr: &Expr, key: KeyRef<'_>) -> bool
+fn has_key(expr: &Expr, key: Key<'_>) -> bool
     ensures { result ≡ has_key (key_of key.entry) (term_of expr.now) }
 {
     standing_of(key, expr).stands

@@ -4,6 +4,7 @@ ghost use Rattle.std.specs.Prelude.{◌≡◌, List, Some, None};
 ghost use Rattle.rz_words.specs.Attribute.{attribute_among, attribute_word, bit_of, clearing_word, every_attribute, setting_word};
 
 use crate::keyword::is;
+use rz_core::Attr;
 
 /// A bit of the attributes that has words. (MPW Rez; Inside Macintosh: More Macintosh Toolbox, Resource
 /// Manager.)
@@ -37,22 +38,22 @@ pub const ATTRIBUTES: [Attribute; 6] = [
 #[derive(Clone, Copy, Debug, PartialEq, Eq)]
 pub struct AttributeWord {
     /// The bit of the attributes.
-    pub bit: u8,
+    pub bit: Attr,
     /// Whether the word sets the bit; else it clears it.
     pub sets: bool,
 }
 
 /// The bit of an attribute.
-pub fn bit_of(attribute: Attribute) -> u8
+pub fn bit_of(attribute: Attribute) -> Attr
     ensures { result ≡ bit_of attribute }
 {
     match attribute {
-        Attribute::SystemHeap => 0x40,
-        Attribute::Purgeable => 0x20,
-        Attribute::Locked => 0x10,
-        Attribute::Protected => 0x08,
-        Attribute::Preload => 0x04,
-        Attribute::Changed => 0x02,
+        Attribute::SystemHeap => Attr::SYSTEM_HEAP,
+        Attribute::Purgeable => Attr::PURGEABLE,
+        Attribute::Locked => Attr::LOCKED,
+        Attribute::Protected => Attr::PROTECTED,
+        Attribute::Preload => Attr::PRELOAD,
+        Attribute::Changed => Attr::CHANGED,
     }
 }
 

@@ -7,7 +7,6 @@ ghost use Rattle.rz_set.specs.Wanted.{is_wanted};
 
 use crate::entries::Key;
 use crate::pick::{Pick, SetFault};
-use crate::protection::is_protected;
 use crate::res_set::ResSet;
 use crate::wanted::{Ids, Wanted};
 use rz_core::{OsType, Resource, Stop};
@@ -52,7 +51,7 @@ impl ResSet {
             return None;
         }
         for resource in self.map.values() {
-            if wanted.holds(resource.kind, resource.id) && is_protected(resource) {
+            if wanted.holds(resource.kind, resource.id) && resource.is_protected() {
                 return Some(SetFault::Protected(resource.kind, resource.id));
             }
         }

@@ -19,4 +19,4 @@ returns c row decided =
     (subst (λ (known : Facts). Texts (declared_for (table_of c.args.types.now) c.args.resource.now) known c.as_slice.result.now) c.in_ok-facts.ensures
     (subst (λ (fields : Option PlainBody). Texts fields c.in_ok-facts.facts c.as_slice.result.now) c.template_for.ensures c.in_ok-texts.ensures.texts)) in
     let count = c.len.ensures ∙ ap length (texts row decided) in
-    λ i. record { leaves = count i; protected = c.is_protected.ensures row i }
+    λ i. record { leaves = count i; protected = c.is_protected.ensures i }

@@ -1,5 +1,5 @@
 use Rattle.std.proofs.Common.{◌≡◌, ◌||◌, is_some, true, ap, ◌∙◌, sym}
-use Rattle.rz_fork.specs.Admit.{data_area_outside, map_outside, short_map, type_list_outside, types_outside}
+use Rattle.rz_fork.specs.Rules.{data_area_outside, map_outside, short_map, type_list_outside, types_outside}
 use Rattle.rz_fork.specs.Layout.{types_of, outline_of}
 use Rattle.rz_det.proofs.Table.{short_exit, map_exit, list_exit, type_exit, sound_exit, none_from, either}
 use Rattle.rz_det.proofs.heads.read_heads.Goals.{then-is_some-2-via-then-is_some-2, then-is_some-2-via-else-is_some-2+then-is_some-3}

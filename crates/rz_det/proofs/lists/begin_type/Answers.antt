@@ -1,5 +1,5 @@
 use Rattle.std.proofs.Common.{◌≡◌, ◌+◌, take, is_some, None, sym, ap, ◌∙◌, arith}
-use Rattle.rz_fork.specs.Admit.{list_rule, references_outside}
+use Rattle.rz_fork.specs.Rules.{list_rule, references_outside}
 use Rattle.rz_fork.specs.Breaks.{listed}
 use Rattle.rz_fork.specs.Layout.{entries}
 use Rattle.rz_fork.proofs.Holding.{list_within}

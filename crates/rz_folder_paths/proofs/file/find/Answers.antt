@@ -17,6 +17,7 @@ loop-k-preserved g c = record {
     unchanged = c.in-Missing.ensures.unchanged ∙ c.loop-k.invariant.reads.unchanged;
     counted = omega (arith, c.in-Missing.ensures.counted, c.loop-k.invariant.reads.counted);
     other_count = c.in-Missing.ensures.other_count ∙ c.loop-k.invariant.reads.other_count;
+    unwritten = c.in-Missing.ensures.unwritten ∙ c.loop-k.invariant.reads.unwritten;
     cause = λ never. absurd never;
   };
 }

@@ -8,7 +8,7 @@ abbrev pub invariant-loop-k : goal.invariant-loop-k
 invariant-loop-k g l = record {
   left : (files : Files) → g.F.Folder.files l.fn.folder ≡ Some files → file_of files l.names ≡ file_of files (drop l.k l.names);
   within : l.k ≤ length l.names;
-  reads : OnlyReads g.F.Folder.files g.F.Folder.read_faults g.F.Folder.write_faults l.fn.folder l.folder ⊥;
+  reads : OnlyReads g.F.Folder l.fn.folder l.folder ⊥;
 }
 
 abbrev pub decreases-loop-k : goal.decreases-loop-k

@@ -1,7 +1,8 @@
 use Rattle.std.proofs.Common.{sym, ◌∙◌, arith, take}
 use Rattle.rz_core.proofs.Lists.{first_in_more, first_in_stop, first_in_end}
 use Rattle.rz_fork.specs.Layout.{references}
-use Rattle.rz_fork.specs.Admit.{reference_rule, in_type}
+use Rattle.rz_fork.specs.Rules.{reference_rule}
+use Rattle.rz_fork.specs.Code.{in_type}
 use Rattle.rz_fork.specs.Code.{tested_by}
 use Rattle.rz_fork.proofs.Items.{length-references}
 use Rattle.rz_fork.proofs.admit.in_type.Goals as goal

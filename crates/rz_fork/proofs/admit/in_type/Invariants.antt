@@ -1,7 +1,7 @@
 use Rattle.std.proofs.Common.{◌≡◌, take, drop, []}
 use Rattle.rz_core.specs.Lists.{first_in}
 use Rattle.rz_fork.specs.Layout.{references}
-use Rattle.rz_fork.specs.Admit.{reference_rule}
+use Rattle.rz_fork.specs.Rules.{reference_rule}
 use Rattle.rz_fork.specs.Code.{tested_by}
 use Rattle.rz_fork.proofs.admit.in_type.Given as goal
 

@@ -3,7 +3,7 @@ use Rattle.rz_core.proofs.Lists.{first_in_more, first_in_stop, first_in_end}
 use Rattle.rz_fork.specs.declared.fault.ForkFault.{ForkFault}
 use Rattle.rz_fork.specs.declared.layout.TypeEntry.{TypeEntry}
 use Rattle.rz_fork.specs.Layout.{entries}
-use Rattle.rz_fork.specs.Admit.{in_type}
+use Rattle.rz_fork.specs.Code.{in_type}
 use Rattle.rz_fork.specs.Code.{tested_by}
 use Rattle.rz_fork.proofs.Items.{length-entries}
 use Rattle.rz_fork.proofs.Holding.{lists_within}

@@ -1,7 +1,7 @@
 use Rattle.std.proofs.Common.{◌≡◌, take, drop, []}
 use Rattle.rz_core.specs.Lists.{first_in}
 use Rattle.rz_fork.specs.Layout.{entries}
-use Rattle.rz_fork.specs.Admit.{in_type}
+use Rattle.rz_fork.specs.Code.{in_type}
 use Rattle.rz_fork.specs.Code.{tested_by}
 use Rattle.rz_fork.proofs.admit.in_types.Given as goal
 

@@ -1,7 +1,7 @@
 use Rattle.std.proofs.Common.{◌≡◌, sym, ap, ◌∙◌, arith, take, Some, None}
 use Rattle.rz_core.proofs.Lists.{first_in_more, first_in_stop, first_in_end}
 use Rattle.rz_fork.specs.Layout.{entries}
-use Rattle.rz_fork.specs.Admit.{list_rule, references_outside}
+use Rattle.rz_fork.specs.Rules.{list_rule, references_outside}
 use Rattle.rz_fork.proofs.Items.{length-entries, count_more}
 use Rattle.rz_fork.proofs.admit.lists_outside.Goals as goal
 

@@ -1,7 +1,7 @@
 use Rattle.std.proofs.Common.{sym, ◌∙◌, arith}
 use Rattle.rz_core.proofs.Lists.{first_in_more, first_in_stop, first_in_end}
 use Rattle.rz_fork.specs.Layout.{entries}
-use Rattle.rz_fork.specs.Admit.{type_rule}
+use Rattle.rz_fork.specs.Rules.{type_rule}
 use Rattle.rz_fork.proofs.Items.{length-entries}
 use Rattle.rz_fork.proofs.repeats.first_repeated.Goals as goal
 

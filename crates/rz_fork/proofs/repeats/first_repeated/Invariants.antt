@@ -1,7 +1,7 @@
 use Rattle.std.proofs.Common.{◌≡◌, take, drop, []}
 use Rattle.rz_core.specs.Lists.{first_in}
 use Rattle.rz_fork.specs.Layout.{entries}
-use Rattle.rz_fork.specs.Admit.{type_rule}
+use Rattle.rz_fork.specs.Rules.{type_rule}
 use Rattle.rz_fork.proofs.repeats.first_repeated.Given as goal
 
 abbrev pub invariant-loop-position : goal.invariant-loop-position

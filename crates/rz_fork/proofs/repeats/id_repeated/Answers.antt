@@ -3,7 +3,8 @@ use Rattle.rz_core.proofs.Lists.{first_in_more, first_in_stop, first_in_end}
 use Rattle.rz_fork.specs.declared.fault.ForkFault.{ForkFault}
 use Rattle.rz_fork.specs.declared.layout.TypeEntry.{TypeEntry}
 use Rattle.rz_fork.specs.Layout.{entries}
-use Rattle.rz_fork.specs.Admit.{in_type, Id}
+use Rattle.rz_fork.specs.Rules.{Id}
+use Rattle.rz_fork.specs.Code.{in_type}
 use Rattle.rz_fork.proofs.Items.{length-entries}
 use Rattle.rz_fork.proofs.Holding.{lists_within}
 use Rattle.rz_fork.proofs.Marks.{ids_in, unmarked}

@@ -1,7 +1,8 @@
 use Rattle.std.proofs.Common.{◌≡◌, take, drop, []}
 use Rattle.rz_core.specs.Lists.{first_in}
 use Rattle.rz_fork.specs.Layout.{entries}
-use Rattle.rz_fork.specs.Admit.{in_type, Id}
+use Rattle.rz_fork.specs.Rules.{Id}
+use Rattle.rz_fork.specs.Code.{in_type}
 use Rattle.rz_fork.specs.Code.{AreMarked}
 use Rattle.rz_fork.proofs.repeats.id_repeated.Given as goal
 

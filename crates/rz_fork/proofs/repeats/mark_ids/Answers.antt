@@ -4,7 +4,7 @@ use Rattle.std.specs.List.{list_any}
 use Rattle.rz_core.proofs.Lists.{take_at_more, first_in_more, first_in_stop, first_in_end}
 use Rattle.rz_fork.specs.declared.layout.Reference.{Reference}
 use Rattle.rz_fork.specs.Layout.{references}
-use Rattle.rz_fork.specs.Admit.{id_rule}
+use Rattle.rz_fork.specs.Rules.{id_rule}
 use Rattle.rz_fork.specs.Code.{AreMarked}
 use Rattle.rz_fork.proofs.Items.{length-references}
 use Rattle.rz_fork.proofs.repeats.mark_ids.Goals as goal

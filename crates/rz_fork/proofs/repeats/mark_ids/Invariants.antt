@@ -1,7 +1,7 @@
 use Rattle.std.proofs.Common.{◌≡◌, take, drop, []}
 use Rattle.rz_core.specs.Lists.{first_in}
 use Rattle.rz_fork.specs.Layout.{references}
-use Rattle.rz_fork.specs.Admit.{id_rule}
+use Rattle.rz_fork.specs.Rules.{id_rule}
 use Rattle.rz_fork.specs.Code.{AreMarked}
 use Rattle.rz_fork.proofs.repeats.mark_ids.Given as goal
 

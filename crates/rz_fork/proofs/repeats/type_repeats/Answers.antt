@@ -1,5 +1,5 @@
 use Rattle.std.proofs.Common.{Bool, sym, ap, ◌∙◌, Some}
-use Rattle.rz_fork.specs.Admit.{broken, fault}
+use Rattle.rz_fork.specs.Rules.{broken, fault}
 use Rattle.rz_fork.proofs.repeats.type_repeats.Goals as goal
 
 pub returns-then-has_code-clause-rule : goal.returns-then-has_code-clause-rule

@@ -1,7 +1,7 @@
 use Rattle.std.proofs.Common.{ap, ◌∙◌, arith}
 use Rattle.std.proofs.lemmas.List.{take_all}
 use Rattle.rz_fork.specs.Layout.{entries}
-use Rattle.rz_fork.specs.Admit.{count_of}
+use Rattle.rz_fork.specs.Rules.{count_of}
 use Rattle.rz_fork.proofs.Items.{length-entries, count_more}
 use Rattle.rz_fork.proofs.view.reference_count.Goals as goal
 

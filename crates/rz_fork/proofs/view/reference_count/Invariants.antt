@@ -1,6 +1,6 @@
 use Rattle.std.proofs.Common.{◌≡◌, ◌≤◌, ◌*◌, take}
 use Rattle.rz_fork.specs.Layout.{entries}
-use Rattle.rz_fork.specs.Admit.{count_of}
+use Rattle.rz_fork.specs.Rules.{count_of}
 use Rattle.rz_fork.proofs.view.reference_count.Given as goal
 
 abbrev pub invariant-loop-position : goal.invariant-loop-position

@@ -33,9 +33,9 @@ push_bytes-requires c = record {
 
 pub returns-in_ok-push_sized-in-Zero : goal.returns-in_ok-push_sized-in-Zero
 returns-in_ok-push_sized-in-Zero c =
-    on_ok c.push_bytes.result (c.push_bytes.new.bits ≡ c.push_sized-in-Zero.new.bits ++ bits_of (0 ∷ []))
-    (c.push_bytes.new.bits ≡ c.args.bits.now ++ bits_of (stored_text c.args.form c.args.size c.args.bytes.now))
-    (λ so. zero_end c.args.bits.now c.push_sized-in-Zero.new.bits c.push_bytes.new.bits (to_size (before_zero c.args.size) c.args.bytes.now)
+    on_ok c.push_bytes.result (c.push_bytes.new.self ≡ c.push_sized-in-Zero.new.bits ++ bits_of (0 ∷ []))
+    (c.push_bytes.new.self ≡ c.args.bits.now ++ bits_of (stored_text c.args.form c.args.size c.args.bytes.now))
+    (λ so. zero_end c.args.bits.now c.push_sized-in-Zero.new.bits c.push_bytes.new.self (to_size (before_zero c.args.size) c.args.bytes.now)
     (c.in_ok-push_sized-in-Zero.ensures ∙ ap (λ (s : Option ℕ). c.args.bits.now ++ bits_of (to_size s c.args.bytes.now)) c.before_zero.ensures) so
     ∙ ap (λ (f : TextForm). c.args.bits.now ++ bits_of (stored_text f c.args.size c.args.bytes.now)) (sym c.in-Zero.is))
-    c.push_bytes.ensures
+    c.push_bytes.ensures.ok

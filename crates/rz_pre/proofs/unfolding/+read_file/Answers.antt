@@ -81,8 +81,8 @@ loop-opens-preserved g t c = record {
   ];
   file = c.next.ensures.file ∙ c.loop-opens.invariant.file;
   reads = elim c.match-branch-4.branch [
-    | in-Some-2+in_ok-text+in_ok-read_file w ↦ rw w.folder-is (reads_on g.F.Folder.files g.F.Folder.read_faults g.F.Folder.write_faults _ _ _ _ _ _
-        (reads_on g.F.Folder.files g.F.Folder.read_faults g.F.Folder.write_faults _ _ _ _ _ ⊥ c.loop-opens.invariant.reads w.in_ok-text.ensures.reads (λ never. absurd never))
+    | in-Some-2+in_ok-text+in_ok-read_file w ↦ rw w.folder-is (reads_on g.F.Folder _ _ _ _ _ _
+        (reads_on g.F.Folder _ _ _ _ _ ⊥ c.loop-opens.invariant.reads w.in_ok-text.ensures.reads (λ never. absurd never))
         w.in_ok-read_file.ensures.reads (λ never. absurd never))
     | in_default-2 w ↦ rw w.folder-is c.loop-opens.invariant.reads
   ];

@@ -17,7 +17,7 @@ invariant-loop-opens g l = record {
       → LinesLead (IncludedGoes l.setting.tool files l.setting.paths.now l.levels) l.setting.tool l.fn.source.file l.fn.source.ahead (state_of l.fn.reading)
       l.source.ahead (reverse l.opens.items) (state_of l.reading);
   file : l.source.file ≡ l.fn.source.file;
-  reads : OnlyReads g.F.Folder.files g.F.Folder.read_faults g.F.Folder.write_faults l.fn.folder l.folder ⊥;
+  reads : OnlyReads g.F.Folder l.fn.folder l.folder ⊥;
   placed : IsPlaced l.reading;
   lexed : IsLexedReading l.fn.reading → IsLexedReading l.reading;
   more : length l.fn.reading.files ≤ length l.reading.files;

@@ -25,7 +25,7 @@ loop-k-preserved g c = record {
       (drop_at c.args.names.now c.loop-k.k c.at.result.now c.at.ensures) (c.loop-k.invariant.leads files told))
       _ (at_some _ files (c.loop-k.invariant.reads.unchanged ∙ told) _ c.in_ok-read_named.ensures.read);
   within = let lt = slice_get_within c.args.names.now c.loop-k.k c.at.result.now c.at.ensures in omega (arith, lt);
-  reads = reads_on g.F.Folder.files g.F.Folder.read_faults g.F.Folder.write_faults _ _ _ _ _ ⊥ c.loop-k.invariant.reads c.in_ok-read_named.ensures.reads (λ never. absurd never);
+  reads = reads_on g.F.Folder _ _ _ _ _ ⊥ c.loop-k.invariant.reads c.in_ok-read_named.ensures.reads (λ never. absurd never);
   placed = c.in_ok-read_named.ensures.placed;
   lexed = λ before. c.in_ok-read_named.ensures.lexed (c.loop-k.invariant.lexed before);
   more = omega (arith, c.in_ok-read_named.ensures.more, c.loop-k.invariant.more);

@@ -12,7 +12,7 @@ invariant-loop-k g l = record {
   leads : (files : Files) → g.F.Folder.files l.fn.folder ≡ Some files
       → NamesLead l.setting.tool files l.setting.paths.now l.names (drop l.k l.names) (state_of l.fn.reading) (state_of l.reading);
   within : l.k ≤ length l.names;
-  reads : OnlyReads g.F.Folder.files g.F.Folder.read_faults g.F.Folder.write_faults l.fn.folder l.folder ⊥;
+  reads : OnlyReads g.F.Folder l.fn.folder l.folder ⊥;
   placed : IsPlaced l.reading;
   lexed : IsLexedReading l.fn.reading → IsLexedReading l.reading;
   more : length l.fn.reading.files ≤ length l.reading.files;

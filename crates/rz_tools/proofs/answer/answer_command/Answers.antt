@@ -2,6 +2,7 @@ use Rattle.std.proofs.Common.{◌≡◌, ℕ, List, [], rules, sym, ap, subst, �
 use Rattle.std.specs.FinMap as finite
 use Rattle.std.specs.Prelude.{IfOk, IfSome}
 use Rattle.rz_core.specs.declared.stop.Halt.TheVariants.{ReadFault}
+use Rattle.rz_folder.proofs.Reading.{reads_as}
 use Rattle.rz_pre.specs.Lexed.{HaveLexedTexts}
 use Rattle.rz_tools_answer.proofs.Warnings.{no_lines}
 use Rattle.rz_tools_answer.specs.Answer.{shown}
@@ -20,7 +21,7 @@ use Rattle.rz_tools.specs.Rez.{rez_asked, RezAsked}
 use Rattle.rz_tools_output.specs.Bridge.{bridge, bridge_asked}
 use Rattle.rz_tools_output.specs.Det.{det, det_asked}
 use Rattle.rz_tools.proofs.Planned.{as_bridge, as_derez, as_det, as_held, as_named, as_planned, as_restring, as_rez, as_sample, as_strings, plan_named}
-use Rattle.rz_tools.proofs.Replied.{plan_end, plan_held, plan_no_usage, plan_sound, reads_as}
+use Rattle.rz_tools.proofs.Replied.{plan_end, plan_held, plan_no_usage, plan_sound}
 use Rattle.rz_tools.proofs.answer.answer_command.Goals as goal
 
 pub plan_rez-plan-requires : goal.plan_rez-plan-requires
@@ -52,7 +53,7 @@ returns-in_ok-words-in-Rez-clause-no_usage g c = plan_no_usage c.plan_rez-plan.r
 
 pub returns-in_ok-words-in-Rez-clause-reads : goal.returns-in_ok-words-in-Rez-clause-reads
 returns-in_ok-words-in-Rez-clause-reads g c =
-    reads_as g.F.Folder.files g.F.Folder.read_faults g.F.Folder.write_faults c.args.folder.now c.plan_rez-plan.new.folder
+    reads_as g.F.Folder c.args.folder.now c.plan_rez-plan.new.folder
     (plan_end c.plan_rez-plan.result c.planned.result c.planned.ensures ReadFault) c.plan_rez-plan.ensures.reads
 
 pub returns-in_ok-words-in-Bridge-clause-answered : goal.returns-in_ok-words-in-Bridge-clause-answered
@@ -70,7 +71,7 @@ returns-in_ok-words-in-Bridge-clause-no_usage g c = plan_no_usage c.plan_bridge-
 
 pub returns-in_ok-words-in-Bridge-clause-reads : goal.returns-in_ok-words-in-Bridge-clause-reads
 returns-in_ok-words-in-Bridge-clause-reads g c =
-    reads_as g.F.Folder.files g.F.Folder.read_faults g.F.Folder.write_faults c.args.folder.now c.plan_bridge-plan.new.folder
+    reads_as g.F.Folder c.args.folder.now c.plan_bridge-plan.new.folder
     (plan_end c.plan_bridge-plan.result c.planned-in-Bridge.result c.planned-in-Bridge.ensures ReadFault) c.plan_bridge-plan.ensures.reads
 
 pub returns-in_ok-words-in-Det-clause-answered : goal.returns-in_ok-words-in-Det-clause-answered
@@ -88,7 +89,7 @@ returns-in_ok-words-in-Det-clause-no_usage g c = plan_no_usage c.plan_det-plan.r
 
 pub returns-in_ok-words-in-Det-clause-reads : goal.returns-in_ok-words-in-Det-clause-reads
 returns-in_ok-words-in-Det-clause-reads g c =
-    reads_as g.F.Folder.files g.F.Folder.read_faults g.F.Folder.write_faults c.args.folder.now c.plan_det-plan.new.folder
+    reads_as g.F.Folder c.args.folder.now c.plan_det-plan.new.folder
     (plan_end c.plan_det-plan.result c.planned-in-Det.result c.planned-in-Det.ensures ReadFault) c.plan_det-plan.ensures.reads
 
 pub returns-in_ok-words-in-Strings-clause-answered : goal.returns-in_ok-words-in-Strings-clause-answered
@@ -106,7 +107,7 @@ returns-in_ok-words-in-Strings-clause-no_usage g c = plan_no_usage c.plan_string
 
 pub returns-in_ok-words-in-Strings-clause-reads : goal.returns-in_ok-words-in-Strings-clause-reads
 returns-in_ok-words-in-Strings-clause-reads g c =
-    reads_as g.F.Folder.files g.F.Folder.read_faults g.F.Folder.write_faults c.args.folder.now c.plan_strings-plan.new.folder
+    reads_as g.F.Folder c.args.folder.now c.plan_strings-plan.new.folder
     (plan_end c.plan_strings-plan.result c.planned-in-Strings.result c.planned-in-Strings.ensures ReadFault) c.plan_strings-plan.ensures.reads
 
 pub returns-in_ok-words-in-Restring-clause-answered : goal.returns-in_ok-words-in-Restring-clause-answered
@@ -124,7 +125,7 @@ returns-in_ok-words-in-Restring-clause-no_usage g c = plan_no_usage c.plan_restr
 
 pub returns-in_ok-words-in-Restring-clause-reads : goal.returns-in_ok-words-in-Restring-clause-reads
 returns-in_ok-words-in-Restring-clause-reads g c =
-    reads_as g.F.Folder.files g.F.Folder.read_faults g.F.Folder.write_faults c.args.folder.now c.plan_restring-plan.new.folder
+    reads_as g.F.Folder c.args.folder.now c.plan_restring-plan.new.folder
     (plan_end c.plan_restring-plan.result c.planned-in-Restring.result c.planned-in-Restring.ensures ReadFault) c.plan_restring-plan.ensures.reads
 
 pub returns-in-Sample-clause-answered : goal.returns-in-Sample-clause-answered

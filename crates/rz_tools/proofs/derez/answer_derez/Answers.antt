@@ -3,6 +3,7 @@ use Rattle.std.specs.FinMap as map
 use Rattle.std.specs.Prelude.{◌≡◌, IfOk}
 use Rattle.std.specs.String.{string_bytes}
 use Rattle.rz_core.specs.declared.stop.Halt.TheVariants.{ReadFault}
+use Rattle.rz_folder.proofs.Reading.{reads_as}
 use Rattle.rz_tools_answer.specs.Answer.{shown}
 use Rattle.rz_tools_answer.specs.declared.outcome.Outcome.TheVariants.{Done}
 use Rattle.rz_tools.specs.Again.{HoldsFile}
@@ -10,7 +11,7 @@ use Rattle.rz_tools.specs.DeRez.{AnswersDeRez, Shows}
 use Rattle.rz_tools.specs.Held.{derez}
 use Rattle.rz_tools.specs.Reply.{outcome_of}
 use Rattle.rz_tools.proofs.Planned.{or_stopped}
-use Rattle.rz_tools.proofs.Replied.{always_held, held_too, plan_answered, plan_end, plan_not_done, plan_refused, plan_sound, reads_as, shown_replied}
+use Rattle.rz_tools.proofs.Replied.{always_held, held_too, plan_answered, plan_end, plan_not_done, plan_refused, plan_sound, shown_replied}
 use Rattle.rz_tools.proofs.derez.answer_derez.Goals as goal
 
 pub returns-in-Ok-clause-answered : goal.returns-in-Ok-clause-answered
@@ -41,5 +42,5 @@ returns-in-Err-clause-held g c =
 
 pub returns-in-Err-clause-reads : goal.returns-in-Err-clause-reads
 returns-in-Err-clause-reads g c =
-    reads_as g.F.Folder.files g.F.Folder.read_faults g.F.Folder.write_faults c.args.folder.now c.read_and_show.new.folder
+    reads_as g.F.Folder c.args.folder.now c.read_and_show.new.folder
     (λ is. ap Err (c.stopped.ensures.read_fault (plan_end c.stopped.result c.planned.result c.planned.ensures ReadFault is))) c.in-Err.ensures.reads

@@ -1,6 +1,7 @@
 use Rattle.std.proofs.Common.{◌≡◌, length, Err, sym, subst}
 use Rattle.std.specs.Prelude.{IfSome}
 use Rattle.rz_core.specs.declared.stop.Halt.{Halt}
+use Rattle.rz_folder.proofs.Reading.{reads_as}
 use Rattle.rz_pre.specs.Program.{State}
 use Rattle.rz_pre.specs.Reading.{IsProgram}
 use Rattle.rz_tools.specs.Held.{rez}
@@ -11,7 +12,6 @@ use Rattle.rz_tools_answer.specs.declared.made.Made.{Made}
 use Rattle.rz_tools_output.specs.Base.{base_of, begun_of}
 use Rattle.rz_tools.specs.Rez.{IsMadeBehind, IsMadeUnder}
 use Rattle.rz_tools.proofs.Compiling.{still_told}
-use Rattle.rz_tools.proofs.Replied.{reads_as}
 use Rattle.rz_tools.proofs.Sourced.{begun_made, not_begun, unsaid_read, unsaid_sayable}
 use Rattle.rz_tools.proofs.rez.compile_from_base.Goals as goal
 use Rattle.rz_types_table.specs.TypeTable.{table_of}
@@ -41,5 +41,5 @@ returns-in-Err-clause-sayable g c =
 
 pub returns-in-Err-clause-reads : goal.returns-in-Err-clause-reads
 returns-in-Err-clause-reads g c =
-    reads_as g.F.Folder.files g.F.Folder.read_faults g.F.Folder.write_faults c.args.folder.now c.read_base.new.folder
+    reads_as g.F.Folder c.args.folder.now c.read_base.new.folder
     (λ is. unsaid_read Beginning Made c.args.program.files c.in-Err.halt (rw c.unsaid.ensures at is)) c.in-Err.ensures.reads

@@ -6,4 +6,4 @@ use Rattle.rz_tools.proofs.sample.compile_source.Goals as goal
 pub returns-clause-made : goal.returns-clause-made
 returns-clause-made c =
     compiles_so c.args.moment _ _ _ _ (c.rez_words.ensures.asked ∙ ap rez_of (one_name _ _ _ c.new-files.ensures c.in_ok-push.ensures.ok))
-    (one_file _ _ _ _ _ c.new-shelf.ensures (c.as_slice.ensures ∙ c.in_ok-source.ensures) c.in_ok-hold.ensures) c.compile.result c.compile.ensures.made
+    (one_file _ _ _ _ _ c.new-shelf.ensures.files (c.as_slice.ensures ∙ c.in_ok-source.ensures) c.in_ok-hold.ensures) c.compile.result c.compile.ensures.made

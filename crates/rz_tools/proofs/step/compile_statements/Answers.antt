@@ -22,7 +22,7 @@ loop-reader-preserved g c =
           (λ statements are. subst (λ (o : Option (List Token)). BeginsWith o statements c.next_statement.new.reader) c.in-Some.is (c.in_ok-statement.ensures.first statements are))
           (g.F.Folder.files c.args.folder.now) (g.F.Folder.files c.loop-reader.folder) c.loop-reader.invariant.reads.unchanged c.loop-reader.invariant.leads
           (work_of c.step.new.work) c.in-Ok.ensures.stepped;
-      reads = reads_on g.F.Folder.files g.F.Folder.read_faults g.F.Folder.write_faults _ _ _ _ _ ⊥ c.loop-reader.invariant.reads c.in-Ok.ensures.reads (λ never. absurd never);
+      reads = reads_on g.F.Folder _ _ _ _ _ ⊥ c.loop-reader.invariant.reads c.in-Ok.ensures.reads (λ never. absurd never);
       lexed = (lexed_parts c.in-Some.statement c.next_statement.new.reader (subst AreLexed front.0 c.loop-reader.invariant.lexed)).1;
       within = λ files within. (within_parts files c.in-Some.statement c.next_statement.new.reader (subst (AreWithin files) front.0 (c.loop-reader.invariant.within files within))).1;
       warned = λ files within are.

@@ -10,7 +10,7 @@ use Rattle.rz_tools.proofs.step.compile_statements.Given as goal
 abbrev pub invariant-loop-reader : goal.invariant-loop-reader
 invariant-loop-reader g l = record {
   leads : LeadsIn l.setting l.paths (g.F.Folder.files l.fn.folder) (work_of l.fn.work) l.fn.tokens l.reader (work_of l.work);
-  reads : OnlyReads g.F.Folder.files g.F.Folder.read_faults g.F.Folder.write_faults l.fn.folder l.folder ⊥;
+  reads : OnlyReads g.F.Folder l.fn.folder l.folder ⊥;
   lexed : AreLexed l.reader;
   within : (files : ℕ) → AreWithin files l.fn.tokens → AreWithin files l.reader;
   warned : (files : ℕ) → AreWithin files l.fn.tokens → AreWarnings files l.fn.work.warnings → AreWarnings files l.work.warnings;

@@ -46,8 +46,8 @@ returns-in-Raw-clause-nameable g c files within =
 
 pub returns-in-Raw-clause-reads : goal.returns-in-Raw-clause-reads
 returns-in-Raw-clause-reads g c =
-    reads_on g.F.Folder.files g.F.Folder.read_faults g.F.Folder.write_faults _ _ _ ⊥ _ _
-    (reads_nothing g.F.Folder.files g.F.Folder.read_faults g.F.Folder.write_faults c.args.folder.now) c.resource_of-made.ensures.reads c.put_made.ensures.unread
+    reads_on g.F.Folder _ _ _ ⊥ _ _
+    (reads_nothing g.F.Folder c.args.folder.now) c.resource_of-made.ensures.reads c.put_made.ensures.unread
 
 pub returns-in-List-clause-stepped : goal.returns-in-List-clause-stepped
 returns-in-List-clause-stepped g c = IfSome_then (g.F.Folder.files c.args.folder.now) c.list_step-ended.ensures.stepped (λ files so.
@@ -81,8 +81,8 @@ returns-in-Compile-clause-nameable g c files within =
 
 pub returns-in-Compile-clause-reads : goal.returns-in-Compile-clause-reads
 returns-in-Compile-clause-reads g c =
-    reads_on g.F.Folder.files g.F.Folder.read_faults g.F.Folder.write_faults _ _ _ ⊥ _ _
-    (reads_nothing g.F.Folder.files g.F.Folder.read_faults g.F.Folder.write_faults c.args.folder.now) c.resource_of_items-made.ensures.reads c.put_made-in-Compile.ensures.unread
+    reads_on g.F.Folder _ _ _ ⊥ _ _
+    (reads_nothing g.F.Folder c.args.folder.now) c.resource_of_items-made.ensures.reads c.put_made-in-Compile.ensures.unread
 
 pub declare_type-requires : goal.declare_type-requires
 declare_type-requires g c = record {

@@ -1,10 +1,10 @@
 use Rattle.std.specs.FinMap as map
 use Rattle.std.specs.String.{string_bytes}
+use Rattle.rz_folder.proofs.Reading.{reads_as}
 use Rattle.rz_tools.specs.Held.{compiled_of, strings}
 use Rattle.rz_tools.specs.Strings.{HasFileCatalogue}
 use Rattle.rz_tools.proofs.Listing.{beside_told}
 use Rattle.rz_tools.proofs.Showing.{made_held}
-use Rattle.rz_tools.proofs.Replied.{reads_as}
 use Rattle.rz_types_table.specs.TypeTable.{table_of}
 use Rattle.rz_tools.proofs.strings.list_under.Goals as goal
 
@@ -16,7 +16,7 @@ returns-clause-made g c =
 
 pub returns-clause-reads : goal.returns-clause-reads
 returns-clause-reads g c =
-    reads_as g.F.Folder.files g.F.Folder.read_faults g.F.Folder.write_faults c.args.folder.now c.catalogue_of-output.new.folder c.halt_beside.ensures.read_fault c.catalogue_of-output.ensures.reads
+    reads_as g.F.Folder c.args.folder.now c.catalogue_of-output.new.folder c.halt_beside.ensures.read_fault c.catalogue_of-output.ensures.reads
 
 pub returns-clause-held : goal.returns-clause-held
 returns-clause-held g c =

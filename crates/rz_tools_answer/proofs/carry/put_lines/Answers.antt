@@ -3,7 +3,8 @@ use Rattle.rz_tools_answer.proofs.Said.{failed_said, then_said}
 use Rattle.rz_tools_answer.proofs.carry.put_lines.Goals as goal
 
 pub returns-in-Done : goal.returns-in-Done
-returns-in-Done g c = then_said c.args.lines.now c.args.line.now _ _ _ _ _ _ c.in-Done.ensures.told c.put.ensures.counted c.put_line-in-Done.ensures
+returns-in-Done g c =
+    then_said c.args.lines.now c.args.line.now _ _ _ _ _ _ c.put_out.result c.in-Done.ensures.told c.put.ensures.counted c.put_out.ensures.told c.put_out.ensures.cause
 
 pub returns-in-Failed : goal.returns-in-Failed
 returns-in-Failed g c = failed_said c.args.lines.now c.args.line.now _ _ _ _ c.in-Failed.ensures.told (c.in-Failed.ensures.cause refl)

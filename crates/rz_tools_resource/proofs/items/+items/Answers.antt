@@ -30,7 +30,7 @@ read_items-loop-item-preserved g t c =
             subst (AreItemsWithin files) (sym grown) (within_more files (plain_items loop.made) (plain_item c.in-Ok.item) both.0 (c.in-Ok.ensures.within files left.0)),
             left.1,
           );
-      reads = reads_on g.F.Folder.files g.F.Folder.read_faults g.F.Folder.write_faults _ _ _ _ _ ⊥ loop.invariant.reads c.in-Ok.ensures.reads (λ never. absurd never);
+      reads = reads_on g.F.Folder _ _ _ _ _ ⊥ loop.invariant.reads c.in-Ok.ensures.reads (λ never. absurd never);
       rest = loop.invariant.rest ∙ ap (λ (l : List Item). loop.yielded ++ l) c.in-Some.ensures.steps.0 ∙ sym (append_assoc loop.yielded (c.in-Some.item ∷ []) rest);
     }
 

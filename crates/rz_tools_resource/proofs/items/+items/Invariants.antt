@@ -11,6 +11,6 @@ invariant-read_items-loop-item g l = record {
   leads : (files : Files) → g.F.Folder.files l.fn.folder ≡ Some files
       → Leads l.paths files l.mark l.known (plain_items l.fn.items) (plain_items l.made) (plain_items l.item-iterator.rest.items);
   within : (files : ℕ) → AreItemsWithin files (plain_items l.fn.items) → AreItemsWithin files (plain_items l.made) × AreItemsWithin files (plain_items l.item-iterator.rest.items);
-  reads : OnlyReads g.F.Folder.files g.F.Folder.read_faults g.F.Folder.write_faults l.fn.folder l.folder ⊥;
+  reads : OnlyReads g.F.Folder l.fn.folder l.folder ⊥;
   rest : l.fn.items ≡ l.yielded ++ l.item-iterator.rest.items;
 }

@@ -4,7 +4,7 @@ use Rattle.rz_tools_text.proofs.shown.put_lines.Given as goal
 
 abbrev pub invariant-loop-line : goal.invariant-loop-line
 invariant-loop-line g l = record {
-  put : ArePut l.fn.lines l.left (g.O.Sink.written l.fn.out) (g.O.Sink.written l.out);
+  put : ArePut l.fn.lines l.left (g.O.Sink.stream l.fn.out) (g.O.Sink.stream l.out);
   counted : g.O.Sink.faults l.fn.out ≤ g.O.Sink.faults l.out;
 }
 

@@ -11,7 +11,7 @@ put_under-requires-clause-declared g c = sym c.in-Some.ensures
 pub returns-in_err-facts-clause-told : goal.returns-in_err-facts-clause-told
 returns-in_err-facts-clause-told g c text shown =
     let p = err_from_is_err_and c.from_residual.result c.from_residual.ensures.1 in
-    rw p.1 (nothing_put text _ p.0)
+    rw p.1 (nothing_put (known_of c.args.known.now) (lent c.args.view.now) text shown _ p.0)
 
 pub returns-clause-told : goal.returns-clause-told
 returns-clause-told g c text shown =

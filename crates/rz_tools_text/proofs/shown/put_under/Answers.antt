@@ -1,11 +1,12 @@
 use Rattle.std.proofs.Common.{ap, subst, ◌∙◌}
+use Rattle.std.proofs.lemmas.Result.{err_from_is_err_and}
 use Rattle.rz_core.specs.Decided.{Decided}
 use Rattle.rz_fork.specs.View.{lent}
 use Rattle.rz_types.specs.Field.{plain_body}
 use Rattle.rz_types.specs.Template.{template_of}
 use Rattle.rz_tools_text.specs.Held.{known_of}
 use Rattle.rz_tools_text.specs.Shown.{TellsRow}
-use Rattle.rz_tools_text.proofs.Rows.{row_put, told_is_row, untold_put}
+use Rattle.rz_tools_text.proofs.Rows.{nothing_put, row_put, told_is_row, untold_put}
 use Rattle.rz_tools_text.proofs.shown.put_under.Goals as goal
 
 pub of_tree-requires-clause-is : goal.of_tree-requires-clause-is
@@ -13,6 +14,11 @@ of_tree-requires-clause-is g c =
     told_is_row c.spelled_rows_are_rows.ensures (known_of c.args.known.now) (lent c.args.view.now) (template_of c.args.template.now) (plain_body c.as_slice.result.now)
     c.in-Some.row c.as_slice-in-Some.result.now (ap plain_body c.as_slice.ensures ∙ c.body-fields.ensures.body) c.as_slice-in-Some.ensures
     (subst (Decided (TellsRow (known_of c.args.known.now) (lent c.args.view.now) (template_of c.args.template.now))) c.in-Some.is c.in_ok-row.ensures)
+
+pub returns-in_err-row-clause-told : goal.returns-in_err-row-clause-told
+returns-in_err-row-clause-told g c text shown =
+    let p = err_from_is_err_and c.from_residual.result c.from_residual.ensures.1 in
+    rw p.1 (nothing_put (known_of c.args.known.now) (lent c.args.view.now) text shown _ p.0)
 
 pub returns-in-Some-clause-told : goal.returns-in-Some-clause-told
 returns-in-Some-clause-told g c text shown =

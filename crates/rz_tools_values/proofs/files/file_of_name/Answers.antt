@@ -12,7 +12,7 @@ returns-in-Ok-clause-file g c = IfSome_then (g.F.Folder.files c.args.folder.now)
 
 pub returns-in-Ok-clause-reads : goal.returns-in-Ok-clause-reads
 returns-in-Ok-clause-reads g c =
-    reads_first g.F.Folder.files g.F.Folder.read_faults g.F.Folder.write_faults c.args.folder.now c.file_named.new.folder (IsReadFault c.file_told.result)
+    reads_first g.F.Folder c.args.folder.now c.file_named.new.folder (IsReadFault c.file_told.result)
     c.file_told.ensures.unread c.in-Ok.ensures.reads
 
 pub returns-in-Err-clause-file : goal.returns-in-Err-clause-file

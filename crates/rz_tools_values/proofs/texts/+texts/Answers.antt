@@ -35,7 +35,7 @@ read_arguments-loop-argument-preserved g t c =
           (at_some _ files (loop.invariant.reads.unchanged ∙ told) _ c.in-Ok.ensures.read)
           (ap (map plain_argument) c.in_ok-push-in-Ok.ensures.ok ∙ map-append plain_argument loop.made (c.in-Ok.argument ∷ []));
       rest = loop.invariant.rest ∙ ap (λ (l : List FormatArg). loop.yielded ++ l) c.in-Some.ensures.steps.0 ∙ sym (append_assoc loop.yielded (c.in-Some.argument ∷ []) rest);
-      reads = reads_on g.F.Folder.files g.F.Folder.read_faults g.F.Folder.write_faults _ _ _ _ _ ⊥ loop.invariant.reads c.in-Ok.ensures.reads (λ never. absurd never);
+      reads = reads_on g.F.Folder _ _ _ _ _ ⊥ loop.invariant.reads c.in-Ok.ensures.reads (λ never. absurd never);
     }
 
 pub read_arguments-returns-clause-read : goal.read_arguments-returns-clause-read
@@ -59,7 +59,7 @@ read_texts-loop-part-preserved g t c =
           (at_some _ files (loop.invariant.reads.unchanged ∙ told) _ c.in-Ok.ensures.read)
           (ap (map plain_part) c.in_ok-push-in-Ok.ensures.ok ∙ map-append plain_part loop.made (c.in-Ok.part ∷ []));
       rest = loop.invariant.rest ∙ ap (λ (l : List TextPart). loop.yielded ++ l) c.in-Some.ensures.steps.0 ∙ sym (append_assoc loop.yielded (c.in-Some.part ∷ []) rest);
-      reads = reads_on g.F.Folder.files g.F.Folder.read_faults g.F.Folder.write_faults _ _ _ _ _ ⊥ loop.invariant.reads c.in-Ok.ensures.reads (λ never. absurd never);
+      reads = reads_on g.F.Folder _ _ _ _ _ ⊥ loop.invariant.reads c.in-Ok.ensures.reads (λ never. absurd never);
     }
 
 pub read_texts-returns-clause-read : goal.read_texts-returns-clause-read

@@ -12,7 +12,7 @@ invariant-read_texts-loop-part g l = record {
       → texts_read l.paths files l.mark l.known (plain_parts l.fn.texts)
       ≡ so_far (λ part parts. part ∷ parts) (plain_parts l.made) (texts_read l.paths files l.mark l.known (plain_parts l.part-iterator.rest.items));
   rest : l.fn.texts ≡ l.yielded ++ l.part-iterator.rest.items;
-  reads : OnlyReads g.F.Folder.files g.F.Folder.read_faults g.F.Folder.write_faults l.fn.folder l.folder ⊥;
+  reads : OnlyReads g.F.Folder l.fn.folder l.folder ⊥;
 }
 
 abbrev pub invariant-read_arguments-loop-argument : goal.invariant-read_arguments-loop-argument
@@ -21,5 +21,5 @@ invariant-read_arguments-loop-argument g l = record {
       → arguments_read l.paths files l.mark l.known (arguments_of (plain_arguments l.fn.arguments))
       ≡ so_far argument_and (plain_arguments l.made) (arguments_read l.paths files l.mark l.known (arguments_of (plain_arguments l.argument-iterator.rest.items)));
   rest : l.fn.arguments ≡ l.yielded ++ l.argument-iterator.rest.items;
-  reads : OnlyReads g.F.Folder.files g.F.Folder.read_faults g.F.Folder.write_faults l.fn.folder l.folder ⊥;
+  reads : OnlyReads g.F.Folder l.fn.folder l.folder ⊥;
 }

@@ -33,7 +33,7 @@ returns-in-Ok-clause-nameable g c files within = halted_refuses c.include_fork.r
 
 pub returns-in-Ok-clause-reads : goal.returns-in-Ok-clause-reads
 returns-in-Ok-clause-reads g c =
-    reads_first g.F.Folder.files g.F.Folder.read_faults g.F.Folder.write_faults c.args.folder.now c.file_of_name.new.folder (IsReadFault c.halted.result)
+    reads_first g.F.Folder c.args.folder.now c.file_of_name.new.folder (IsReadFault c.halted.result)
     (halted_unread c.include_fork.result c.halted.result c.halted.ensures) c.in-Ok.ensures.reads
 
 pub returns-in-Err-clause-included : goal.returns-in-Err-clause-included

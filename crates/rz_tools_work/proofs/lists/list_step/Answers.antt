@@ -40,7 +40,7 @@ returns-in-Change-clause-nameable g c files within =
 
 pub returns-in-Change-clause-reads : goal.returns-in-Change-clause-reads
 returns-in-Change-clause-reads g c =
-    reads_nothing g.F.Folder.files g.F.Folder.read_faults g.F.Folder.write_faults c.args.folder.now (IsReadFault c.halted.result)
+    reads_nothing g.F.Folder c.args.folder.now (IsReadFault c.halted.result)
     (halted_unread c.change_resources.result c.halted.result c.halted.ensures)
 
 pub returns-in-Delete-clause-stepped : goal.returns-in-Delete-clause-stepped
@@ -58,5 +58,5 @@ returns-in-Delete-clause-nameable g c files within =
 
 pub returns-in-Delete-clause-reads : goal.returns-in-Delete-clause-reads
 returns-in-Delete-clause-reads g c =
-    reads_nothing g.F.Folder.files g.F.Folder.read_faults g.F.Folder.write_faults c.args.folder.now (IsReadFault c.halted-in-Delete.result)
+    reads_nothing g.F.Folder c.args.folder.now (IsReadFault c.halted-in-Delete.result)
     (halted_unread c.delete_resources.result c.halted-in-Delete.result c.halted-in-Delete.ensures)

@@ -11,7 +11,7 @@ returns-in-Ok-clause-read g c = IfSome_then (g.F.Folder.files c.args.folder.now)
 
 pub returns-in-Ok-clause-reads : goal.returns-in-Ok-clause-reads
 returns-in-Ok-clause-reads g c =
-    reads_first g.F.Folder.files g.F.Folder.read_faults g.F.Folder.write_faults c.args.folder.now c.file_named.new.folder (IsReadFault c.short_contents.result)
+    reads_first g.F.Folder c.args.folder.now c.file_named.new.folder (IsReadFault c.short_contents.result)
     c.short_contents.ensures.unread c.in-Ok.ensures.reads
 
 pub returns-in-Err-clause-read : goal.returns-in-Err-clause-read

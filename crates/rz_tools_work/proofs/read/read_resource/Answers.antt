@@ -19,7 +19,7 @@ returns-in-Ok-clause-nameable g c files within = halted_refuses c.put.result c.h
 
 pub returns-in-Ok-clause-reads : goal.returns-in-Ok-clause-reads
 returns-in-Ok-clause-reads g c =
-    reads_first g.F.Folder.files g.F.Folder.read_faults g.F.Folder.write_faults c.args.folder.now c.resource_read.new.folder (IsReadFault c.halted.result)
+    reads_first g.F.Folder c.args.folder.now c.resource_read.new.folder (IsReadFault c.halted.result)
     (halted_unread c.put.result c.halted.result c.halted.ensures) c.in-Ok.ensures.reads
 
 pub returns-in-Err-clause-read : goal.returns-in-Err-clause-read

@@ -32,5 +32,5 @@ returns-in-Err-clause-nameable g c files within =
 
 pub returns-in-Err-clause-reads : goal.returns-in-Err-clause-reads
 returns-in-Err-clause-reads g c =
-    reads_nothing g.F.Folder.files g.F.Folder.read_faults g.F.Folder.write_faults c.args.folder.now (IsReadFault {X = Resource} (Err c.from.result))
+    reads_nothing g.F.Folder c.args.folder.now (IsReadFault {X = Resource} (Err c.from.result))
     (stop_unread Resource c.in-Err.stop c.from.result c.from.ensures)

@@ -23,7 +23,6 @@ pub returns-in-Ok-clause-attributes : goal.returns-in-Ok-clause-attributes
 returns-in-Ok-clause-attributes c =
     given c.args.mark c.args.known.now (map attribute_of c.args.attributes.now) (mapped c.args.attributes.now (λ none. false≢true (c.if-is_empty.ensures.1 none)))
     ∙ ap (λ (a : Result ℕ Fault). a >>= λ byte. Ok (Some byte)) c.in-Ok.ensures.bits
-    ∙ ap (λ (byte : ℕ). Ok (Some byte)) (sym c.of.ensures)
 
 pub returns-in-Err-clause-attributes : goal.returns-in-Err-clause-attributes
 returns-in-Err-clause-attributes c =

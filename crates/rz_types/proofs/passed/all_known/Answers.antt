@@ -1,6 +1,6 @@
 use Rattle.rz_expr.specs.Term.{term_of}
 use Rattle.rz_types_fields.specs.Field.{plain_body}
-use Rattle.rz_types_fields.specs.NameKey.{key_of}
+use Rattle.rz_expr.specs.NameKey.{key_of}
 use Rattle.rz_types.specs.Notes.{known, passed}
 use Rattle.rz_types.proofs.Unknown.{all_are}
 use Rattle.rz_types.proofs.passed.all_known.Goals as goal

@@ -1,5 +1,5 @@
 use Rattle.std.proofs.Common.{◌≡◌, ◌-◌, length, take}
-use Rattle.rz_types_fields.specs.NameKey.{key_of}
+use Rattle.rz_expr.specs.NameKey.{key_of}
 use Rattle.rz_types.specs.Notes.{passed}
 use Rattle.rz_types.proofs.passed.is_told.Given as goal
 

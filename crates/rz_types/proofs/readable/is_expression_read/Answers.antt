@@ -2,7 +2,7 @@ use Rattle.std.proofs.Common.{List, sym, ap, ◌∙◌}
 use Rattle.std.specs.Prelude.{drop, option_map}
 use Rattle.rz_expr.specs.Term.{term_of}
 use Rattle.rz_types_fields.specs.Field.{plain_body}
-use Rattle.rz_types_fields.specs.NameKey.{key_of}
+use Rattle.rz_expr.specs.NameKey.{key_of}
 use Rattle.rz_types_fields.specs.Passed.{at_field}
 use Rattle.rz_types.specs.Notes.{first_unknown, known, passed, passed_at}
 use Rattle.rz_types.specs.declared.passed.Note.{Note}

@@ -1,5 +1,5 @@
 use Rattle.std.proofs.Common.{ap, ◌∙◌}
-use Rattle.rz_types_fields.specs.NameKey.{key_of}
+use Rattle.rz_expr.specs.NameKey.{key_of}
 use Rattle.rz_types.specs.Notes.{passed}
 use Rattle.rz_types.proofs.Noted.{known_told, passed_more}
 use Rattle.rz_types.proofs.readable.push_told.Goals as goal

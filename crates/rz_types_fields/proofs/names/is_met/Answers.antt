@@ -1,14 +1,14 @@
 use Rattle.std.proofs.Common.{◌≡◌, ℕ, ◌+◌, ◌-◌, length, take, ap, sym, ◌∙◌, arith}
 use Rattle.std.specs.Option.{is_some}
-use Rattle.rz_expr.specs.Environment.{place_key}
+use Rattle.rz_expr.specs.NameKey.{key_of}
 use Rattle.rz_types_fields.specs.Known.{met}
-use Rattle.rz_types_fields.proofs.Noting.{older_met, place_outside}
+use Rattle.rz_types_fields.proofs.Noting.{given_outside, older_met}
 use Rattle.rz_types_fields.proofs.names.is_met.Goals as goal
 
 pub returns-in-Some : goal.returns-in-Some
 returns-in-Some c =
     let notes = c.args.notes.now in
-    let key = place_key c.args.name.now.bytes in
+    let key = key_of c.args.key in
     sym (c.in-Some.ensures (met (take (length notes - (c.loop-newer.newer + 1)) notes) key))
     ∙ older_met notes c.loop-newer.newer c.index-notes-notes.result key c.loop-newer-test.true c.index-notes-notes.is
     ∙ c.loop-newer.invariant
@@ -16,7 +16,7 @@ returns-in-Some c =
 pub loop-newer-preserved : goal.loop-newer-preserved
 loop-newer-preserved c =
     let notes = c.args.notes.now in
-    let key = place_key c.args.name.now.bytes in
+    let key = key_of c.args.key in
     sym (c.in-None.ensures (met (take (length notes - (c.loop-newer.newer + 1)) notes) key))
     ∙ older_met notes c.loop-newer.newer c.index-notes-notes.result key c.loop-newer-test.true c.index-notes-notes.is
     ∙ c.loop-newer.invariant
@@ -24,9 +24,9 @@ loop-newer-preserved c =
 pub returns : goal.returns
 returns c =
     let notes = c.args.notes.now in
-    let key = place_key c.args.name.now.bytes in
+    let key = key_of c.args.key in
     let none : 0 ≡ length notes - c.loop-newer.newer = omega (arith, c.loop-newer-test.false, c.loop-newer.auto) in
     c.is_some.ensures
-    ∙ ap is_some (c.predefined.ensures ∙ place_outside c.args.name.now.bytes)
+    ∙ ap is_some (c.value_outside.ensures ∙ given_outside key)
     ∙ ap (λ (n : ℕ). met (take n notes) key) none
     ∙ c.loop-newer.invariant

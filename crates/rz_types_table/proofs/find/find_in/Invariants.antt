@@ -1,13 +1,13 @@
-use Rattle.std.proofs.Common.{◌≡◌, map, take}
+use Rattle.std.proofs.Common.{◌≡◌, take}
 use Rattle.std.specs.Prelude.{option_map}
-use Rattle.rz_types_table.specs.Listed.{declaration_of}
+use Rattle.rz_types_table.specs.Listed.{declaration_of, listed}
 use Rattle.rz_types_table.specs.Table.{is_any, is_for, is_id, is_range_of, last_such}
 use Rattle.rz_types_table.proofs.Placed.{at_positions}
 use Rattle.rz_types_table.proofs.find.find_in.Given as goal
 
 abbrev pub invariant-loop-position : goal.invariant-loop-position
 invariant-loop-position l = record {
-  by_id : option_map (λ one. declaration_of one.now) l.by_id ≡ last_such (is_for l.kind (is_id l.id)) (map declaration_of (at_positions l.table (take l.position-index l.own)));
-  by_range : option_map (λ one. declaration_of one.now) l.by_range ≡ last_such (is_for l.kind (is_range_of l.id)) (map declaration_of (at_positions l.table (take l.position-index l.own)));
-  for_any : option_map (λ one. declaration_of one.now) l.for_any ≡ last_such (is_for l.kind is_any) (map declaration_of (at_positions l.table (take l.position-index l.own)));
+  by_id : option_map (λ one. declaration_of one.now) l.by_id ≡ last_such (is_for l.kind (is_id l.id)) (listed (at_positions l.slots (take l.position-index l.own)));
+  by_range : option_map (λ one. declaration_of one.now) l.by_range ≡ last_such (is_for l.kind (is_range_of l.id)) (listed (at_positions l.slots (take l.position-index l.own)));
+  for_any : option_map (λ one. declaration_of one.now) l.for_any ≡ last_such (is_for l.kind is_any) (listed (at_positions l.slots (take l.position-index l.own)));
 }

@@ -5,24 +5,24 @@ use Rattle.rz_types_table.specs.Table.{is_any, is_for}
 use Rattle.rz_types_table.proofs.Placed.{last_own, later_at, not_for, own_within}
 use Rattle.rz_types_table.proofs.find.last_for_any.Goals as goal
 
-pub bounds-table-position : goal.bounds-table-position
-bounds-table-position c = own_within c.args.kind.code c.args.table.now c.args.own.now c.requires c.loop-position.position-index c.loop-position-test.true
+pub bounds-slots-position : goal.bounds-slots-position
+bounds-slots-position c = own_within c.args.kind.code c.args.slots.now c.args.own.now c.requires c.loop-position.position-index c.loop-position-test.true
 
-pub offset_bounds-table-position : goal.offset_bounds-table-position
-offset_bounds-table-position c =
-    let within : get_or c.args.own.now c.loop-position.position-index 0 < length c.args.table.now =
-    own_within c.args.kind.code c.args.table.now c.args.own.now c.requires c.loop-position.position-index c.loop-position-test.true in
+pub offset_bounds-slots-position : goal.offset_bounds-slots-position
+offset_bounds-slots-position c =
+    let within : get_or c.args.own.now c.loop-position.position-index 0 < length c.args.slots.now =
+    own_within c.args.kind.code c.args.slots.now c.args.own.now c.requires c.loop-position.position-index c.loop-position-test.true in
     search rules
 
 pub loop-position-preserved : goal.loop-position-preserved
 loop-position-preserved c =
     let i = c.loop-position.position-index in
-    let within : get_or c.args.own.now i 0 < length c.args.table.now = own_within c.args.kind.code c.args.table.now c.args.own.now c.requires i c.loop-position-test.true in
-    later_at (is_for c.args.kind is_any) declaration_of c.args.table.now c.args.own.now i c.index-table-position.result c.loop-position-test.true within c.index-table-position.is
+    let within : get_or c.args.own.now i 0 < length c.args.slots.now = own_within c.args.kind.code c.args.slots.now c.args.own.now c.requires i c.loop-position-test.true in
+    later_at (is_for c.args.kind is_any) declaration_of c.args.slots.now c.args.own.now i c.index-slots-position.result c.loop-position-test.true within c.index-slots-position.is
     c.is_for_any.result (option_map (λ one. declaration_of one.now) c.loop-position.for_any) (option_map (λ one. declaration_of one.now) c.later-for_any.result)
     c.later-for_any.ensures c.is_for_any.ensures c.loop-position.invariant
 
 pub returns : goal.returns
 returns c =
     c.loop-position.invariant
-    ∙ last_own c.args.kind.code c.args.table.now c.args.own.now c.requires (is_for c.args.kind is_any) (not_for c.args.kind is_any) c.loop-position.position-index c.loop-position-test.false
+    ∙ last_own c.args.kind.code c.args.slots.now c.args.own.now c.requires (is_for c.args.kind is_any) (not_for c.args.kind is_any) c.loop-position.position-index c.loop-position-test.false

@@ -1,9 +1,9 @@
-use Rattle.std.proofs.Common.{◌≡◌, map, take}
+use Rattle.std.proofs.Common.{◌≡◌, take}
 use Rattle.std.specs.Prelude.{option_map}
-use Rattle.rz_types_table.specs.Listed.{declaration_of}
+use Rattle.rz_types_table.specs.Listed.{declaration_of, listed}
 use Rattle.rz_types_table.specs.Table.{is_any, is_for, last_such}
 use Rattle.rz_types_table.proofs.Placed.{at_positions}
 use Rattle.rz_types_table.proofs.find.last_for_any.Given as goal
 
 abbrev pub invariant-loop-position : goal.invariant-loop-position
-invariant-loop-position l = option_map (λ one. declaration_of one.now) l.for_any ≡ last_such (is_for l.kind is_any) (map declaration_of (at_positions l.table (take l.position-index l.own)))
+invariant-loop-position l = option_map (λ one. declaration_of one.now) l.for_any ≡ last_such (is_for l.kind is_any) (listed (at_positions l.slots (take l.position-index l.own)))

@@ -1,6 +1,7 @@
-use Rattle.std.proofs.Common.{w32, ℤ, List, Option, Some, ap, ◌∙◌}
+use Rattle.std.proofs.Common.{rules, w32, ℤ, List, Option, Some, ap, ◌∙◌}
 use Rattle.std.specs.Prelude.{if◌then◌else◌}
 use Rattle.std.proofs.lemmas.Int.{to_z-of_z}
+use mir.Syntax.{w128}
 use Rattle.rz_expr.specs.Environment.{place_key}
 use Rattle.rz_types_fields.specs.Known.{known}
 use Rattle.rz_types_fields.specs.Solve.{is_same_key}
@@ -14,9 +15,9 @@ returns-in_ok-push-clause-known c =
     let same = to_z-of_z w32 c.args.at c.ranges.at in
     claims c.args.learnt.now.notes.items _ _ c.in_ok-push.ensures.items (place_key c.args.name.now.bytes) c.args.at
     (λ other before. ap (λ (v : ℤ). if is_same_key (place_key c.args.name.now.bytes) other then Some v else before) same)
-    (c.if-agrees_place.ensures
-    ∙ (λ i. agrees c.place_of.result (same i))
-    ∙ ap (λ (o : Option ℤ). agrees o c.args.at) (c.place_of.ensures ∙ ap (λ (ns : List Note). (known ns).give (place_key c.args.name.now.bytes)) c.as_slice.ensures.value))
+    (c.if-agrees.ensures
+    ∙ ap (agrees c.value_noted.result) (to_z-of_z w128 c.from.result (search rules) ∙ c.from.ensures ∙ same)
+    ∙ ap (λ (o : Option ℤ). agrees o c.args.at) (c.value_noted.ensures ∙ ap (λ (ns : List Note). (known ns).give (place_key c.args.name.now.bytes)) c.as_slice.ensures.value))
 
 pub returns-in_ok-push-clause-met : goal.returns-in_ok-push-clause-met
 returns-in_ok-push-clause-met c = λ holds. met_now c.args.learnt.now.notes.items _ _ c.in_ok-push.ensures.items

@@ -6,7 +6,7 @@ use Rattle.rz_expr.specs.Term.{term_of}
 use Rattle.rz_expr.specs.Value.{value_of}
 use Rattle.rz_expr.specs.declared.expr.Expr.{Expr}
 use Rattle.rz_types_fields.specs.Solve.{has_key, in_64_bits, solve, undo_left, undo_right}
-use Rattle.rz_types_fields.specs.NameKey.{key_of}
+use Rattle.rz_expr.specs.NameKey.{key_of}
 use Rattle.rz_unlay_pieces.specs.Seen.{env_sight}
 use Rattle.rz_unlay_pieces.proofs.Undone.{left_none, left_not, left_solved, right_none, right_not, right_solved}
 use Rattle.rz_unlay_pieces.proofs.solve.+solve.Goals as goal

@@ -1,10 +1,17 @@
-use Rattle.std.proofs.Common.{rules, ◌≡◌, ◌<◌, length, arith}
+use Rattle.std.proofs.Common.{rules, ◌≡◌, ◌<◌, length, ap, arith}
+use Rattle.rz_core.specs.Lists.{unless_fault}
+use Rattle.rz_fork.specs.Contents.{contents}
+use Rattle.rz_fork.proofs.Breaking.{none_broken}
 use Rattle.rz_fork.proofs.Lending.{admitted_lent, has_room, nothing_lent}
 use Rattle.rz_fork.proofs.view.ForkView.admit.Goals as goal
 
 pub invariant_of-result : goal.invariant_of-result
 invariant_of-result c =
     let empty : length c.args.bytes.now ≡ 0 = search rules in (nothing_lent c.args.bytes.now empty, omega (arith, c.requires.short))
+
+pub returns-then-is_empty-clause-ok : goal.returns-then-is_empty-clause-ok
+returns-then-is_empty-clause-ok c =
+    let empty : length c.args.bytes.now ≡ 0 = search rules in ap (λ broken. unless_fault broken (contents c.args.bytes.now)) (none_broken c.args.bytes.now empty)
 
 pub returns-then-is_empty-clause-keys : goal.returns-then-is_empty-clause-keys
 returns-then-is_empty-clause-keys c =

@@ -21,5 +21,5 @@ returns-clause-line c =
       name_front rest c.args.text front.piece.now front.rest (c.front-front.ensures 1 (head_end attr))
           ∙ ap (λ (p : Part). one ∷ part_left rest p) (sym c.part_behind-self.ensures)
           ∙ ap (λ (r : List (List Written)). one ∷ r) (sym (same_part rest part part)),
-      c.name_line.ensures ∙ (λ i. cut (as_line (margin 1 ++ piece_written c.args.text.hex front.piece.now ∷ end_if (none_or_some front.rest c.is_none.result c.is_none.ensures i) (c.byte.ensures i)))),
+      c.name_line.ensures ∙ (λ i. cut (as_line (margin 1 ++ piece_written c.args.text.hex front.piece.now ∷ end_if (none_or_some front.rest c.is_none.result c.is_none.ensures i) attr))),
     )

@@ -1,5 +1,5 @@
 use Rattle.std.proofs.Common.{◌∷◌, ◌++◌, List, ap, sym, ◌∙◌}
-use Rattle.rz_show.specs.Head.{head_front}
+use Rattle.rz_show_lines.specs.Head.{head_front}
 use Rattle.rz_show.specs.Lines.{end_left, named, part_left}
 use Rattle.rz_show_lines.specs.Written.{Written}
 use Rattle.rz_show.proofs.Heads.{behind_head_is, head_is, same_part}

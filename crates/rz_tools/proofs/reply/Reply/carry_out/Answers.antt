@@ -12,7 +12,7 @@ returns-in-Text-clause-carried g c =
     let fork = (subst IsSound c.in-Text.is c.requires).0.1 in
     let text = c.every_list_is_shown.ensures (known_of t.known) (chosen t.only t.skip fork.0.list) in
     text_replied c.args.self c.in-Text.shown c.in-Text.is c.say_end.result text.0 (fork.0, fork.1, text.1) _ _
-    (text_ends (making_with text.0 c.in-Text.shown) _ _ refl c.put-put.result _ _ c.as_slice.ensures c.say_end.ensures.outcome
+    (text_ends (making_with text.0 c.in-Text.shown) _ _ refl refl c.put-put.result _ _ c.as_slice.ensures c.say_end.ensures.outcome
     (c.put-put.ensures.told text.0 (fork.0, fork.1, text.1)) c.put-put.ensures.cause c.say_end.ensures.says)
 
 pub returns-in-Text-clause-ended : goal.returns-in-Text-clause-ended

@@ -8,7 +8,7 @@ use Rattle.rz_tools_text.proofs.text.ForkText.put_each.Given as goal
 abbrev pub invariant-loop-one : goal.invariant-loop-one
 invariant-loop-one g l = record {
   told : (text : List ℕ) → ShowsEach (known_of l.self.known) (chosen l.self.only l.self.skip l.fork.list) text
-      → HasPut (known_of l.self.known) l.self.only l.self.skip text l.walk (g.O.Sink.written l.fn.out) (g.O.Sink.written l.out);
+      → HasPut (known_of l.self.known) l.self.only l.self.skip text l.walk (g.O.Sink.stream l.fn.out) (g.O.Sink.stream l.out);
   counted : g.O.Sink.faults l.fn.out ≤ g.O.Sink.faults l.out;
 }
 

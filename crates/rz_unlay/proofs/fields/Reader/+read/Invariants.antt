@@ -1,9 +1,9 @@
-use Rattle.std.proofs.Common.{◌≡◌, ◌+◌, ◌-◌, ◌≤◌, suc, drop, length}
+use Rattle.std.proofs.Common.{◌≡◌, ◌+◌, ◌-◌, ◌≤◌, drop, length}
 use Rattle.rz_bits.specs.View.{seen}
 use Rattle.rz_types_fields.specs.Spells.{values_in}
 use Rattle.rz_types.specs.Field.{plain_body, plain_cases}
-use Rattle.rz_unlay.specs.Came.{row_at}
-use Rattle.rz_unlay.specs.Cursor.{body_found, case_found, rows_at, rows_to, rows_while}
+use Rattle.rz_unlay.specs.Came.{array_row}
+use Rattle.rz_unlay.specs.Cursor.{body_found, case_found, most_rows, rows_until}
 use Rattle.rz_unlay_pieces.specs.Few.{few}
 use Rattle.rz_unlay.specs.Few.{found_count, lines_count, rows_count}
 use Rattle.rz_unlay.specs.Fits.{AreFit, CasesFit}
@@ -24,36 +24,15 @@ invariant-read_fields-loop-field l = record {
   behind : l.behind ≡ l.field-index;
 }
 
-abbrev pub invariant-read_so_many-loop-turn : goal.invariant-read_so_many-loop-turn
-invariant-read_so_many-loop-turn l = record {
-  read : with_lines l.rows l.places.items (few lines_count l.more (rows_at (row_at l.self.facts.now (seen l.self.view.now) l.name (plain_body l.row) (met l.fn.learnt.notes.items) (known l.fn.learnt.notes.items)) (l.count - l._turn) (l._turn + 1) l.end (marked l.end l.learnt.marks)))
-      ≡ few lines_count l.left (rows_at (row_at l.self.facts.now (seen l.self.view.now) l.name (plain_body l.row) (met l.fn.learnt.notes.items) (known l.fn.learnt.notes.items)) l.count 1 l.at (marked l.at l.fn.learnt.marks));
-  left : l.more + rows_count l.rows ≡ l.left;
-  number : length l.rows ≡ l._turn;
-  within : l.end ≤ length (seen l.self.view.now);
-  marks : length l.learnt.marks ≤ l.end;
-  notes : l.learnt.notes.items ≡ l.fn.learnt.notes.items;
-}
-
-abbrev pub invariant-read_while-loop-turn : goal.invariant-read_while-loop-turn
-invariant-read_while-loop-turn l = record {
-  read : with_lines l.rows l.places.items (few lines_count l.more (rows_while (row_at l.self.facts.now (seen l.self.view.now) l.name (plain_body l.row) (met l.fn.learnt.notes.items) (known l.fn.learnt.notes.items)) l.stop (suc (length (seen l.self.view.now)) - l._turn) (l._turn + 1) l.end (marked l.end l.learnt.marks)))
-      ≡ few lines_count l.left (rows_while (row_at l.self.facts.now (seen l.self.view.now) l.name (plain_body l.row) (met l.fn.learnt.notes.items) (known l.fn.learnt.notes.items)) l.stop (suc (length (seen l.self.view.now))) 1 l.at (marked l.at l.fn.learnt.marks));
-  left : l.more + rows_count l.rows ≡ l.left;
-  number : length l.rows ≡ l._turn;
-  within : l.end ≤ length (seen l.self.view.now);
-  marks : length l.learnt.marks ≤ l.end;
-  notes : l.learnt.notes.items ≡ l.fn.learnt.notes.items;
-}
-
-abbrev pub invariant-read_to-loop-turn : goal.invariant-read_to-loop-turn
-invariant-read_to-loop-turn l = record {
-  read : with_lines l.rows l.places.items (few lines_count l.more (rows_to (row_at l.self.facts.now (seen l.self.view.now) l.name (plain_body l.row) (met l.fn.learnt.notes.items) (known l.fn.learnt.notes.items)) l.stop (suc (length (seen l.self.view.now)) - l._turn) (l._turn + 1) l.end (marked l.end l.learnt.marks)))
-      ≡ few lines_count l.left (rows_to (row_at l.self.facts.now (seen l.self.view.now) l.name (plain_body l.row) (met l.fn.learnt.notes.items) (known l.fn.learnt.notes.items)) l.stop (suc (length (seen l.self.view.now))) 1 l.at (marked l.at l.fn.learnt.marks));
-  left : l.more + rows_count l.rows ≡ l.left;
-  number : length l.rows ≡ l._turn;
-  within : l.end ≤ length (seen l.self.view.now);
-  marks : length l.learnt.marks ≤ l.end;
+abbrev pub invariant-read_rows-loop-turn : goal.invariant-read_rows-loop-turn
+invariant-read_rows-loop-turn l = record {
+  read : with_lines l.so_far.rows l.so_far.places.items (few lines_count l.so_far.left (rows_until (array_row l.self.facts.now (seen l.self.view.now) l.array (met l.fn.learnt.notes.items) (known l.fn.learnt.notes.items)) l.until
+      (most_rows l.until (length (seen l.self.view.now)) - l._turn) (length l.so_far.rows) l.so_far.after (marked l.so_far.after l.learnt.marks)))
+      ≡ few lines_count l.left (rows_until (array_row l.self.facts.now (seen l.self.view.now) l.array (met l.fn.learnt.notes.items) (known l.fn.learnt.notes.items)) l.until
+      (most_rows l.until (length (seen l.self.view.now))) 0 l.at (marked l.at l.fn.learnt.marks));
+  left : l.so_far.left + rows_count l.so_far.rows ≡ l.left;
+  within : l.so_far.after ≤ length (seen l.self.view.now);
+  marks : length l.learnt.marks ≤ l.so_far.after;
   notes : l.learnt.notes.items ≡ l.fn.learnt.notes.items;
 }
 

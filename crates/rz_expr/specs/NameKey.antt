@@ -1,0 +1,12 @@
+-- A key as the code has it, as what can have a value.
+use Rattle.rz_expr.specs.Environment.{count_key, place_in_key, place_key, row_key, rows_key}
+use Rattle.rz_expr.specs.Environment as names
+use Rattle.rz_expr.specs.declared.env.Key.{Key}
+use Rattle.rz_expr.specs.declared.env.Key.TheVariants.{Count, Place, PlaceIn, Row, Rows}
+
+abbrev pub key_of : Key → names.Key
+key_of (Place name) = place_key name.now.bytes
+key_of (Count name) = count_key name.now.bytes
+key_of (Rows name) = rows_key name.now.bytes
+key_of (PlaceIn name number) = place_in_key name.now.bytes number
+key_of (Row name) = row_key name.now.bytes

@@ -1,7 +1,0 @@
-use Rattle.std.proofs.Common.{◌≡◌, ◌-◌, length, take}
-use Rattle.rz_expr.specs.Environment.{row_key}
-use Rattle.rz_types_fields.specs.Known.{known}
-use Rattle.rz_types_fields.proofs.names.row_around.Given as goal
-
-abbrev pub invariant-loop-newer : goal.invariant-loop-newer
-invariant-loop-newer l = (known (take (length l.notes - l.newer) l.notes)).give (row_key l.array.bytes) ≡ (known l.notes).give (row_key l.array.bytes)
