@@ -78,8 +78,8 @@ first_refused over stock entries = first_in (entry_fault over stock) [] entries
 abbrev pub with_bytes : Resource → List ℕ → Resource
 with_bytes r bytes = record { kind = r.kind; id = r.id; name = r.name; attr = r.attr; bytes = bytes }
 
--- a resource whose bytes tell a row, and its entries, of which there is a first one: it has bytes that tell the row with the texts in
--- place, or else there are no such bytes, which is 464
+-- a resource whose bytes tell a row, and its entries, of which there is a first one: the answer is the resource with bytes that
+-- tell the row with the texts in place, or 464 where no bytes do
 abbrev pub IsChangedBy : (Tell : List ℕ → List Tree → Type 0) → Resource → List Tree → List Entry → Entry → Result Resource Fault → Type 0
 IsChangedBy Tell r row entries first answer =
     (new : List Tree) × HasTexts (placed entries (leaves row)) row new
@@ -92,7 +92,7 @@ IsPutBy Tell r tree [] answer = answer ≡ Ok r
 IsPutBy Tell r None (first ∷ others) answer = answer ≡ Ok r
 IsPutBy Tell r (Some row) (first ∷ others) answer = IsChangedBy Tell r row (first ∷ others) first answer
 
--- other bytes tell a row where the resource has it with them as its tree
+-- bytes tell a row where the resource with these bytes has that row as its tree
 abbrev pub IsChanged : List Declaration → Moment → Resource → List Tree → List Entry → Entry → Result Resource Fault → Type 0
 IsChanged types moment r row entries first answer = IsChangedBy (λ bytes new. HasTree types moment (with_bytes r bytes) new) r row entries first answer
 

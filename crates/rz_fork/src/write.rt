@@ -30,9 +30,8 @@ const TYPES_AT: u16 = 28;
 /// list. Resources stand grouped by type, types in the order of their first resources, and share
 /// nothing; a resource without a name has the name offset FFFF. `attributes` are those of the map. Each
 /// name has at most 255 bytes, pairs of type and id differ, and there are at most 240 reserved bytes.
-/// [`ForkView::admit`](crate::ForkView::admit) of
-/// the fork gives the resources grouped by type, the attributes and the 240 reserved bytes again. The
-/// time is linear in the resources and their bytes.
+/// [`ForkView::admit`](crate::ForkView::admit) of the fork gives the resources grouped by type, the
+/// attributes and the 240 reserved bytes again. The time is linear in the resources and their bytes.
 ///
 /// Refused with the first of three lengths in bytes that passes its limit: 302, the data area has more
 /// than 16,777,216; 303, the map without its name list, which is `28 + 2 + 8 * types + 12 * resources`,

@@ -12,7 +12,7 @@ use Rattle.rz_words.specs.Attribute.{bit_of, setting_word}
 use Rattle.rz_words.specs.declared.attribute.Attribute.{Attribute}
 use Rattle.rz_words.specs.declared.attribute.Attribute.TheVariants.{Changed, Locked, Preload, Protected, Purgeable, SystemHeap}
 use Rattle.rz_show.specs.Head.{head_end, head_lines, name_lines}
-use Rattle.rz_show_lines.specs.Head.{attr_written, behind_comma, head_front, word_written}
+use Rattle.rz_show_lines.specs.Head.{after_comma, attr_written, head_front, word_written}
 use Rattle.rz_show_lines.specs.Cut.{IsShort}
 use Rattle.rz_show_lines.specs.Pieces.{in_pieces, text_pieces}
 use Rattle.rz_show_lines.specs.Print.{signed_written}
@@ -106,7 +106,7 @@ head_short word code id name attr few fits =
     (λ h. by_test (AllByRecursion IsShort (head_lines word code id name attr)) (nat_le (length name) 64)
     (λ k. let rest = a_text name ∷ head_end attr in
     let small : length name ≤ 64 = low (length name) k in
-    rw (h, k) (is_short (front ++ behind_comma rest) (omega (arith, size_both front (behind_comma rest), size_one (a_text name) (head_end attr), quoted_short 34 name, front_few, end_size attr, small)), tt))
+    rw (h, k) (is_short (front ++ after_comma rest) (omega (arith, size_both front (after_comma rest), size_one (a_text name) (head_end attr), quoted_short 34 name, front_few, end_size attr, small)), tt))
     (λ k. rw (h, k) (is_short (front ++ a_sign signs.Comma ∷ []) (omega (arith, size_both front (a_sign signs.Comma ∷ []), front_few)), name_short attr name)))
   where
     low : (n : ℕ) → nat_le n 64 ≡ true → n ≤ 64

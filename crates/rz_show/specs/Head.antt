@@ -1,7 +1,7 @@
 -- The lines that begin a statement. (As MPW DeRez shows them.)
 use Rattle.std.specs.Prelude.{ℕ, ℤ, nat_le, ◌==◌, if◌then◌else◌, false, List, [], ◌∷◌, ◌++◌, length}
 use Rattle.rz_lex.specs.declared.sign.Sign.TheVariants as signs
-use Rattle.rz_show_lines.specs.Head.{attr_written, behind_comma, head_front}
+use Rattle.rz_show_lines.specs.Head.{after_comma, attr_written, head_front}
 use Rattle.rz_show_lines.specs.Pieces.{text_pieces}
 use Rattle.rz_show_lines.specs.Print.{piece_lines}
 use Rattle.rz_show_lines.specs.Written.{a_blank, a_sign, a_text, Written}
@@ -19,5 +19,5 @@ name_lines name attr = piece_lines 1 (head_end attr) false (text_pieces false na
 unfoldable pub head_lines : (word : List ℕ) → (code : ℕ) → (id : ℤ) → (name : List ℕ) → (attr : ℕ) → List (List Written)
 head_lines word code id name attr =
     if length name == 0 then (head_front word code id ++ head_end attr) ∷ []
-    else if nat_le (length name) 64 then (head_front word code id ++ behind_comma (a_text name ∷ head_end attr)) ∷ []
+    else if nat_le (length name) 64 then (head_front word code id ++ after_comma (a_text name ∷ head_end attr)) ∷ []
     else (head_front word code id ++ a_sign signs.Comma ∷ []) ∷ name_lines name attr

@@ -15,7 +15,7 @@ use Rattle.rz_show.specs.declared.open_list.OpenList.{OpenList}
 use Rattle.rz_show_lines.specs.declared.text.Text.{Text}
 use Rattle.rz_show_lines.specs.Cut.{cut, IsShort}
 use Rattle.rz_show.specs.Head.{head_end, head_lines, name_lines}
-use Rattle.rz_show_lines.specs.Head.{behind_comma}
+use Rattle.rz_show_lines.specs.Head.{after_comma}
 use Rattle.rz_show_lines.specs.Print.{block, comma, list_lines, margin, named_block, print, single, text_lines, Print, Prints}
 use Rattle.rz_show.specs.Printable.{HasName, HasNames, HasWidth, HasWidths}
 use Rattle.rz_show.specs.Shown.{field_print, row_prints, rows_prints, text_print}
@@ -46,7 +46,7 @@ opening (Some name) = a_word name ∷ a_blank ∷ a_sign signs.OpenBrace ∷ []
 abbrev pub named : (name : List ℕ) → (attr : ℕ) → List Written
 named name attr =
     if length name == 0 then head_end attr
-    else if nat_le (length name) 64 then behind_comma (a_text name ∷ head_end attr)
+    else if nat_le (length name) 64 then after_comma (a_text name ∷ head_end attr)
     else a_sign signs.Comma ∷ []
 
 -- the lines of a name that is too long for it

@@ -9,18 +9,18 @@ use Rattle.rz_show_lines.specs.Print.{signed_written}
 use Rattle.rz_show_lines.specs.Written.{a_blank, a_hex_byte, a_literal, a_sign, a_word, Written}
 
 -- something more stands after a comma
-abbrev pub behind_comma : List Written → List Written
-behind_comma more = a_sign signs.Comma ∷ a_blank ∷ more
+abbrev pub after_comma : List Written → List Written
+after_comma more = a_sign signs.Comma ∷ a_blank ∷ more
 
 -- the word of an attribute, where its bit is set
 abbrev pub word_written : ℕ → Attribute → List Written
-word_written attr attribute = if attr / bit_of attribute % 2 == 1 then behind_comma (a_word (setting_word attribute) ∷ []) else []
+word_written attr attribute = if attr / bit_of attribute % 2 == 1 then after_comma (a_word (setting_word attribute) ∷ []) else []
 
 -- the attributes that are set: by their words, or as a number where the bit 80 or 01 is set, which have no word
 abbrev pub attr_written : ℕ → List Written
 attr_written attr =
     if attr == 0 then []
-    else if nat_le 128 attr || (attr % 2 == 1) then behind_comma (a_hex_byte attr ∷ [])
+    else if nat_le 128 attr || (attr % 2 == 1) then after_comma (a_hex_byte attr ∷ [])
     else word_written attr SystemHeap ++ word_written attr Purgeable ++ word_written attr Locked
     ++ word_written attr Protected ++ word_written attr Preload ++ word_written attr Changed
 

@@ -136,7 +136,8 @@ pub record Listed : Type 0 where
   pub place : Mark
   pub all : List PlainItem
 
--- the next item has a fault for a field that takes it, or it fits and those after it have the fault; or there is none for the field
+-- for a field that takes an item: the next item has a fault, or it fits and the items after it have the fault; or no item is
+-- left
 abbrev pub TakenUnfit : Asked → (ℕ → List PlainItem → Fault → Type 0) → Listed → (before : ℕ) → List PlainItem → Fault → Type 0
 TakenUnfit field Others list before [] fault = fault ≡ too_few list.place list.all
 TakenUnfit field Others list before (item ∷ rest) fault =

@@ -25,8 +25,8 @@ entry_bytes entry = length entry.label ∷ (entry.label ++ entry.code)
 
 -- Faults.
 
--- how it stands where an entry begins: no list more may be open, no list is open, a count waits in the innermost body, and a
--- row of that body has a value
+-- what holds before an entry: no further list may be opened; no list is open; a count waits in the innermost body; a row of
+-- that body has a value
 pub record Standing : Type 0 where
   pub full : Bool
   pub outermost : Bool
@@ -56,7 +56,7 @@ entry_fault s End = first_where ((s.outermost, 453) ∷ (s.waiting, 454) ∷ (no
 abbrev pub end_fault : Standing → Option ℕ
 end_fault s = first_where ((not s.outermost, 453) ∷ (s.waiting, 454) ∷ [])
 
--- that of an entry of this code
+-- the fault of an entry of this code; 452 where no entry has the code
 abbrev pub code_fault : Standing → Option Entry → Option ℕ
 code_fault s None = Some 452
 code_fault s (Some entry) = entry_fault s entry

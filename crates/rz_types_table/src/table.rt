@@ -28,9 +28,9 @@ pub struct Declared {
     pub template: Template,
 }
 
-/// The declarations of types, in the order in which they were made. Contracts see it as their list. It holds a slot for
-/// each declaration that was ever made, empty once the declaration was taken out, and beside the slots in which of them
-/// the declarations of each type stand.
+/// The declarations of types, in the order in which they were made. Contracts see them as a list. The table holds a slot
+/// for each declaration that was ever made, empty once that declaration was taken out, and for each type the positions of
+/// the slots of its declarations.
 #[derive(Drop)]
 pub struct TypeTable {
     declared: Vec<Option<Declared>>,

@@ -51,24 +51,26 @@ no_lines at late = record { rows = []; places = []; after = at; late = late }
 abbrev pub and_lines : Line → Lines → Lines
 and_lines line lines = record { rows = line.row ∷ lines.rows; places = line.places ++ lines.places; after = lines.after; late = lines.late }
 
--- one row more is read where so many are done, at a place
+-- whether one row more is read at a place, where so many rows are done
 abbrev pub goes_on : Until → (done at : ℕ) → Bool
 goes_on (ends.Count count) done at = nat_lt done count
 goes_on (ends.Before stop) done at = nat_le (at + 8) stop
 goes_on (ends.At stop) done at = nat_lt at stop
 
--- the rows have come to their end there: with so many rows, before or at just that place
+-- the rows end at a place: so many are done, fewer than eight bits stand before the stop, or the place is the stop
 abbrev pub is_over : Until → (done at : ℕ) → Bool
 is_over (ends.Count count) done at = done == count
 is_over (ends.Before stop) done at = nat_lt stop (at + 8)
 is_over (ends.At stop) done at = at == stop
 
--- how many rows there may be in a resource of so many bits: rows without bits never come to a place
+-- how many rows are read at most: so many as are counted, or as the resource has bits, since rows without bits never come to
+-- a place
 abbrev pub most_rows : Until → (len : ℕ) → ℕ
 most_rows (ends.Count count) len = count
 most_rows (ends.Before stop) len = len
 most_rows (ends.At stop) len = len
 
+-- no further rows, where the rows end here
 abbrev pub rows_over : Until → (done at : ℕ) → Late → Option Lines
 rows_over until done at late = if is_over until done at then Some (no_lines at late) else None
 

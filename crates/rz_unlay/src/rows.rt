@@ -65,58 +65,9 @@ impl Until {
     }
 }
 
-/// Which row of the array of this name stands after these.
-pub fn row_after<'a>(name: &'a Option<Word>, rows: &RowsCame) -> Option<InRow<'a>>
-    requires { length rows.now.rows < 4294967295 }
-    ensures { which_of result ≡ row_of name.now (length rows.now.rows + 1) }
-{
-    Some(InRow {
-        array: name,
-        number: rows.rows.len() as u64 + 1,
-    })
-}
-
-/// Appends a row to others, and the places of its labels to theirs.
-pub fn push_row(rows: &mut RowsCame, came: RowCame) -> Result<(), NoMemory>
-    ensures rows { OnOk result (rows.new.rows ≡ rows.old.rows ++ came.row ∷ []) }
-    ensures places { OnOk result (rows.new.places.items ≡ rows.old.places.items ++ came.places.items) }
-    ensures after { OnOk result (rows.new.after ≡ came.after) }
-    ensures left { OnOk result (rows.new.left ≡ came.left) }
-{
-    rows.places.extend_from_slice(came.places.as_slice())?;
-    rows.after = came.after;
-    rows.left = came.left;
-    rows.rows.push(came.row)
-}
-
-/// The number of rows, where it is stated or known.
-pub fn count_known(name: &Option<Word>, count: Option<i32>, notes: &[Note<'_>]) -> Option<i128>
-    ensures { result ≡ count_known (known notes.now) name.now count }
-{
-    match count {
-        Some(count) => Some(i128::from(count)),
-        None => match name {
-            Some(name) => value_noted(notes, Key::Count(name)),
-            None => None,
-        },
-    }
-}
-
-/// The place that is so many bits before another.
-pub fn place_before(place: u32, width: u64) -> Option<u32>
-    ensures { result ≡ place_before place width }
-{
-    let place = u64::from(place);
-    if place < width {
-        None
-    } else {
-        Some((place - width) as u32)
-    }
-}
-
 /// Where the rows of an array of this name end: after as many as are stated or known, or else where the fields after the
-/// array come to a label whose place is told, or to the end of the resource. None where nothing tells, and where the
-/// number is negative or the place would lie before the resource.
+/// array come to a label whose place is told, or to the end of the resource. `None` where nothing tells the end, where the
+/// number is negative, or where the place would lie before the resource.
 pub fn until_of(
     view: &BitView<'_>,
     name: &Option<Word>,
@@ -139,4 +90,53 @@ pub fn until_of(
             None => Some(Until::Before(place_before(view.len(), fixed_widths(rest)?)?)),
         },
     }
+}
+
+/// The number of rows, where it is stated or known.
+fn count_known(name: &Option<Word>, count: Option<i32>, notes: &[Note<'_>]) -> Option<i128>
+    ensures { result ≡ count_known (known notes.now) name.now count }
+{
+    match count {
+        Some(count) => Some(i128::from(count)),
+        None => match name {
+            Some(name) => value_noted(notes, Key::Count(name)),
+            None => None,
+        },
+    }
+}
+
+/// The place that is so many bits before another.
+fn place_before(place: u32, width: u64) -> Option<u32>
+    ensures { result ≡ place_before place width }
+{
+    let place = u64::from(place);
+    if place < width {
+        None
+    } else {
+        Some((place - width) as u32)
+    }
+}
+
+/// Which row of the array of this name stands after these.
+pub fn row_after<'a>(name: &'a Option<Word>, rows: &RowsCame) -> Option<InRow<'a>>
+    requires { length rows.now.rows < 4294967295 }
+    ensures { which_of result ≡ row_of name.now (length rows.now.rows + 1) }
+{
+    Some(InRow {
+        array: name,
+        number: rows.rows.len() as u64 + 1,
+    })
+}
+
+/// Appends a row to others, and the places of its labels to theirs.
+pub fn push_row(rows: &mut RowsCame, came: RowCame) -> Result<(), NoMemory>
+    ensures rows { OnOk result (rows.new.rows ≡ rows.old.rows ++ came.row ∷ []) }
+    ensures places { OnOk result (rows.new.places.items ≡ rows.old.places.items ++ came.places.items) }
+    ensures after { OnOk result (rows.new.after ≡ came.after) }
+    ensures left { OnOk result (rows.new.left ≡ came.left) }
+{
+    rows.places.extend_from_slice(came.places.as_slice())?;
+    rows.after = came.after;
+    rows.left = came.left;
+    rows.rows.push(came.row)
 }

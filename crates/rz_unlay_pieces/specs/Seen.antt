@@ -21,7 +21,7 @@ use Rattle.rz_unlay_pieces.specs.declared.spot.Spot.{Spot}
 abbrev pub near_names : Spot → Environment → Environment
 near_names spot names = with_near (here_of spot (λ key. false)) names
 
--- the place of a label that is near, where the key is one
+-- the place of the label that a key names, where that label is near
 abbrev pub near_value : Spot → Key → Option ℤ
 near_value spot key = in_resource (length (seen spot.view.now)) (option_map (λ place. pos place) (near_place (plain_body spot.fields.now) spot.first key))
 

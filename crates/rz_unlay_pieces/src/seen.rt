@@ -66,7 +66,7 @@ pub fn value_seen(key: Key<'_>, spot: &Spot<'_>, learnt: &Learnt<'_>) -> Option<
     }
 }
 
-/// The place of a label ahead, where the key is one.
+/// The place of the label that the key names, where the label stands ahead at a known distance.
 #[tactic(auto, using(crate::proofs::Labels::count_far, crate::proofs::Labels::rows_far, crate::proofs::Labels::place_in_far, crate::proofs::Labels::row_far))]
 fn value_near(key: Key<'_>, spot: &Spot<'_>) -> Option<i128>
     ensures { result ≡ near_value spot.now (key_of key.entry) }
