@@ -104,7 +104,7 @@ PRINTED = [
      './one.cases:1: a case: the file "x" is wrong on purpose, and doesn\'t differ\n'
      "./one.cases:1: a case: the piece of err that fails is wrong on purpose, and doesn't differ\n"
      "1 cases, 1 differ", 1),
-    (["case a text", "words --version", "fail folder 1", "fail out 2 0", "fail err 1 0", "status 1", "leaves open x", "| y", "out text",
+    (["case a text", "words --version", "fail folder 1", "fail out 3 0", "fail err 1 0", "status 1", "leaves open x", "| y", "out text",
       "| rezkit 0.1.1", "err open", "| z"],
      "./one.cases:1: a text: the status differs\n  wanted: 1\n  came:   0\n"
      './one.cases:1: a text: the file "x" differs\n  wanted: 1 bytes, from 0 on "y"\n  came:   no file\n'
@@ -146,17 +146,17 @@ PRINTED = [
      './one.cases:1: a source: run 3: the file "x" differs\n  wanted: 1 bytes, from 0 on "\\x00"\n'
      '  came:   286 bytes, from 0 on "' + "\\x00\\x00\\x01\\x00" * 2 + "\\x00" * 7 + "\\x1e" + "\\x00" * 64 + '"\n'
      "1 sweeps, 3 runs\n1 cases, 1 differ", 1),
-    (["case a text", "words --version", "sweep out 1 3", "status 0", "out text", "| rezkit 0.1.0"], "1 sweeps, 2 runs\n1 cases, 0 differ", 0),
-    (["case a text", "words --version", "sweep out 1 3", "status 0", "out text", "| rez"],
+    (["case a text", "words --version", "sweep out 2 3", "status 0", "out text", "| rezkit 0.1.0"], "1 sweeps, 3 runs\n1 cases, 0 differ", 0),
+    (["case a text", "words --version", "sweep out 2 3", "status 0", "out text", "| rez"],
      './one.cases:1: a text: run 2: out differs\n  wanted: 4 bytes, from 0 on "rez\\n"\n  came:   13 bytes, from 0 on "rezkit 0.1.0\\n"\n'
-     "1 sweeps, 2 runs\n1 cases, 1 differ", 1),
-    (["case a text", "words --version", "sweep out 1 3", "status 0", "out text", "| kit"],
+     "1 sweeps, 3 runs\n1 cases, 1 differ", 1),
+    (["case a text", "words --version", "sweep out 2 3", "status 0", "out text", "| kit"],
      './one.cases:1: a text: run 1: out differs\n  wanted: 4 bytes, from 0 on "kit\\n"\n  came:   3 bytes, from 0 on "rez"\n'
-     "1 sweeps, 2 runs\n1 cases, 1 differ", 1),
-    (RUN[:-1] + ["| rezkit: error 102"] + ["sweep err 1 17"],
+     "1 sweeps, 3 runs\n1 cases, 1 differ", 1),
+    (RUN[:-1] + ["| rezkit: error 102"] + ["sweep err 2 17"],
      './one.cases:1: a case: run 1: err differs\n  wanted: 18 bytes, from 0 on "rezkit: error 102\\n"\n'
      '  came:   17 bytes, from 0 on "rezkit: error 101"\n'
-     "1 sweeps, 2 runs\n1 cases, 1 differ", 1),
+     "1 sweeps, 3 runs\n1 cases, 1 differ", 1),
     (["case a folder", "words rez s.r", "file open s.r", "| ;", "status 0", "differs status"],
      './one.cases:1: a folder: the file "Rez.Out" differs\n  wanted: no file\n'
      '  came:   286 bytes, from 0 on "' + "\\x00\\x00\\x01\\x00" * 2 + "\\x00" * 7 + "\\x1e" + "\\x00" * 64 + '"\n'

@@ -1,11 +1,11 @@
 #!/usr/bin/env python3
-"""Writes sweeps.cases: cases of other files, each run once for each read, write or piece that fails in turn.
+"""Writes sweeps.cases: cases of other files, each run once for each read, write, piece or flush that fails in turn.
 
     python3 tools/sweep_cases.py [--check]
 
 What a run must leave of which a call failed is no part of a case: crates/rezkit_cases/README.md has the rules. Here stand
-the calls of each command, by hand: its reads and then its writes, or the pieces of its output or of what it says. `derez`
-puts each line by itself, so the pieces of its output are the lines that the case wants. With --check nothing is written,
+the calls of each command, by hand: its reads and then its writes, or those of its output or of what it says, which put its
+pieces and then flush it. `derez` puts each line by itself, so the pieces of its output are the lines that the case wants. With --check nothing is written,
 and the status is 1 where the file would change.
 """
 import functools
@@ -14,7 +14,7 @@ import sys
 
 from casefile import DATA
 
-LINES = None  # as many pieces as the case wants lines
+LINES = None  # as many pieces as the case wants lines, and a flush
 
 # The file and the name of a case, and its sweep.
 SWEEPS = [
@@ -73,16 +73,16 @@ SWEEPS = [
         ("tmpl", "templates in macbin", "folder", 2, 0),
         ("tmpl", "derez: a broken template, and no fork", "folder", 1, 0),
         ("tmpl", "strings behind their number", "out", LINES, 0),
-        ("tmpl", "a type in place of a template", "err", 1, 30),
+        ("tmpl", "a type in place of a template", "err", 2, 30),
     ]),
     ("det: one read, and one piece of its output", [
         ("det", "a length of 3 and a name at the end of the map", "folder", 1, 0),
         ("det", "in double", "folder", 1, 0),
         ("det", "a text", "folder", 1, 0),
-        ("det", "a hundred faults", "out", 1, 0),
-        ("det", "a hundred faults", "out", 1, 20),
-        ("det", "a fork that is whole", "out", 1, 8),
-        ("det", "BinHex without its last colon", "err", 1, 12),
+        ("det", "a hundred faults", "out", 2, 0),
+        ("det", "a hundred faults", "out", 2, 20),
+        ("det", "a fork that is whole", "out", 2, 8),
+        ("det", "BinHex without its last colon", "err", 2, 12),
     ]),
     ("strings and restring: reads of the type file, the fork and the catalogue, and a write", [
         ("catalog", "listed: an application", "folder", 2, 0),
@@ -110,17 +110,17 @@ SWEEPS = [
         ("rows", "STR# 128: pstring; string[64]; @ 81 «62×129» «63×64»", "out", LINES, 0),
         ("rows", "STR# 128: «41×40»", "out", LINES, 0),
         ("rows", "Long -32768: byte; @ 05", "out", LINES, 0),
-        ("sample", "a sample of 2", "out", 1, 0),
-        ("sample", "a sample of 2", "out", 1, 20),
+        ("sample", "a sample of 2", "out", 2, 0),
+        ("sample", "a sample of 2", "out", 2, 20),
     ]),
     ("what is said: nothing else changes", [
-        ("rules", "a warning for a type with arrays that is declared again", "err", 1, 0),
-        ("typefiles", "two warnings, the second of a range", "err", 1, 60),
-        ("types", "warnings come before the line of the fault", "err", 1, 20),
-        ("widths", "over 8 bits", "err", 1, 0),
-        ("bridge", "a wrong CRC of MacBinary", "err", 1, 0),
-        ("bridge", "a wrong CRC of MacBinary", "err", 1, 9),
-        ("bridge", "words: no file", "err", 1, 0),
+        ("rules", "a warning for a type with arrays that is declared again", "err", 2, 0),
+        ("typefiles", "two warnings, the second of a range", "err", 2, 60),
+        ("types", "warnings come before the line of the fault", "err", 2, 20),
+        ("widths", "over 8 bits", "err", 2, 0),
+        ("bridge", "a wrong CRC of MacBinary", "err", 2, 0),
+        ("bridge", "a wrong CRC of MacBinary", "err", 2, 9),
+        ("bridge", "words: no file", "err", 2, 0),
     ]),
 ]
 
@@ -156,8 +156,8 @@ def without_comments_behind(lines):
 
 def made():
     """The lines of the file, and how many runs its sweeps are."""
-    out = ["# Cases of other files, each run once for each read, write or piece that fails in turn, and once more, where none does.",
-           "# Written by tools/sweep_cases.py.", ""]
+    out = ["# Cases of other files, each run once for each read, write, piece or flush that fails in turn, and",
+           "# once more, where none does. Written by tools/sweep_cases.py.", ""]
     runs = 0
     for says, sweeps in SWEEPS:
         out += ["# %s." % (says[:1].upper() + says[1:]), ""]
@@ -165,7 +165,7 @@ def made():
             if name not in cases_of(file):
                 sys.exit("%s.cases has no case %r" % (file, name))
             lines = without_comments_behind(cases_of(file)[name])
-            first = pieces_of(lines) if first is LINES else first
+            first = pieces_of(lines) + 1 if first is LINES else first
             runs += first + 1 + (second if target == "folder" else 0)
             out += ["case %s.cases: %s" % (file, name), "sweep %s %d %d" % (target, first, second)] + lines + [""]
     return out[:-1], runs

@@ -68,10 +68,10 @@ impl Failures {
     }
 }
 
-/// A piece that a stream doesn't take whole.
+/// A call of a stream that fails: a piece that it doesn't take whole, or a flush.
 #[derive(Clone, Copy)]
 pub struct Piece {
-    /// The number of the piece, from 1.
+    /// The number of the call, from 1; pieces and flushes are counted together.
     pub call: u64,
     /// How many of its bytes are taken.
     pub taken: u32,

@@ -148,7 +148,7 @@ fn add_failure(case: &mut Case, entry: &Entry<'_>) -> Result<(), Trouble> {
     }
 }
 
-/// The calls that fail in turn: `folder READS WRITES`, `out PIECES TAKEN` or `err PIECES TAKEN`.
+/// The calls that fail in turn: `folder READS WRITES`, `out CALLS TAKEN` or `err CALLS TAKEN`.
 fn set_sweep(case: &mut Case, entry: &Entry<'_>) -> Result<(), Trouble> {
     let [target, first, second, more] = parts_of(entry.argument);
     let target = target_of(target.unwrap_or(""), entry)?;

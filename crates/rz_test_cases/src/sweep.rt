@@ -6,16 +6,16 @@ use crate::case::{Case, Failures, Piece, Target};
 use crate::trouble::Trouble;
 use std::alloc::Global;
 
-/// The most reads of a sweep, and the most writes or pieces.
+/// The most reads of a sweep, and the most writes or calls of a stream.
 const MOST_CALLS: u32 = 100_000;
 
 /// What is said of a read that failed.
 const READ_FAULT: &[u8] = b"rezkit: read fault\n";
 
-/// What is said of a write that failed, or of a piece of the output.
+/// What is said of a write that failed, or of a call of the output.
 const WRITE_FAULT: &[u8] = b"rezkit: write fault\n";
 
-/// The status of a run of which a read, a write or a piece of the output failed.
+/// The status of a run of which a read, a write or a call of the output failed.
 const FAULT: u8 = 3;
 
 /// The calls of the folder or of a stream that fail in turn, one in each run.
@@ -24,7 +24,7 @@ pub struct Sweep {
     pub target: Target,
     /// The number of reads of the folder, which come before its writes; 0 for a stream.
     pub reads: u32,
-    /// The number of writes of the folder, or of pieces of the stream.
+    /// The number of writes of the folder, or of calls of the stream.
     pub puts: u32,
     /// How many bytes a piece takes that fails.
     pub taken: u32,
@@ -92,7 +92,7 @@ impl Sweep {
 
     /// What the run of this number must leave, whose call of this number failed: after a read all files as before, no
     /// output, and the line of a read fault alone; after a write the files before it, all that the command says, and the
-    /// line of a write fault; after a piece of the output a front of it, and that line too; and after a piece of what is
+    /// line of a write fault; after a call of the output a front of it, and that line too; and after a call for what is
     /// said only a front of it.
     pub fn demand(&self, alloc: Global, case: &Case, run: u64) -> Result<Demand, Trouble> {
         let out = stated(alloc, &case.out)?;

@@ -71,16 +71,16 @@ fn is_kept(names: &mut Vec<String>, name: &str) -> bool {
     }
 }
 
-/// A stream in memory whose pieces are counted, and which holds them back until a flush.
+/// A stream in memory whose pieces and flushes are counted, and which holds the pieces back until a flush.
 #[derive(Drop)]
 pub struct WatchedSink {
     pub sink: HeldSink,
-    /// The number of pieces so far.
+    /// The number of pieces and flushes so far.
     pub calls: u64,
 }
 
 impl WatchedSink {
-    /// The stream, before its first piece.
+    /// The stream, before its first call.
     pub(crate) fn over(sink: HeldSink) -> WatchedSink {
         WatchedSink { sink, calls: 0 }
     }
@@ -106,6 +106,7 @@ impl Sink for WatchedSink {
     }
 
     fn flush(&mut self) -> Put {
+        self.calls = self.calls.saturating_add(1);
         self.sink.flush()
     }
 
