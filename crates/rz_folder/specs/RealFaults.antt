@@ -1,4 +1,4 @@
--- What contracts see of a folder of the host's and of a sink of the host's: their counts of writes and faults.
+-- What contracts see of a folder of the host's (writes and faults) and of a sink (faults).
 use Rattle.std.specs.Prelude.{ℕ}
 use Rattle.rz_folder.specs.Counts.{next}
 use Rattle.rz_folder.specs.declared.folder.Read.{Read}
@@ -21,7 +21,7 @@ after_read s read.Missing = s
 after_read s read.Failed = record s { read_faults = next s.read_faults }
 after_read s read.NoMemory = s
 
--- the counts after a write that ended so: each counts, and a failure as one
+-- the counts after a write that ended so: every write counts as a write, and one that failed also as a failure
 abbrev pub after_write : RealCounts → Written → RealCounts
 after_write s written.Done = record s { writes = next s.writes }
 after_write s written.Failed = record s { write_faults = next s.write_faults; writes = next s.writes }

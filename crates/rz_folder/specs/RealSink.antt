@@ -6,7 +6,7 @@ use Rattle.rz_folder.specs.Sink.{Stream}
 use Rattle.rz_folder.specs.declared.sink.Put.{Put}
 use Rattle.rz_folder.specs.declared.sink.Put.TheVariants.{Done, Failed}
 
--- what it tells of its bytes, the number of calls that failed, and whether one did, after which nothing more is written
+-- what the sink tells of its bytes, how many calls failed, and whether any did, after which nothing more is written
 pub record RealState : Type 0 where
   pub stream : Option Stream
   pub faults : ℕ
@@ -17,7 +17,7 @@ abbrev pub stream_over : Option (List ℕ) → List ℕ → Option Stream
 stream_over None held = None
 stream_over (Some out) held = Some (record { out = out; held = held })
 
--- before the first call, over a writer that tells so much
+-- a sink before its first call, over a writer that tells these bytes, or nothing
 abbrev pub begun : Option (List ℕ) → RealState
 begun contents = record { stream = stream_over contents []; faults = 0; has_failed = false }
 

@@ -33,7 +33,7 @@ pub record Got (text : List ℕ) (before after : Stream) : Type 0 where
 abbrev pub GotBut : List ℕ → List ℕ → Stream → Stream → Type 0
 GotBut left text before after = (front : List ℕ) × (text ≡ front ++ left) × Got front before after
 
--- a front of the text was put, which may be empty, or the whole text
+-- a front of the text was put: none of it, a part, or all
 abbrev pub GotFront : List ℕ → Stream → Stream → Type 0
 GotFront text before after = (left : List ℕ) × GotBut left text before after
 
@@ -45,11 +45,11 @@ GotPart text before after = (left : List ℕ) × (left ≢ []) × GotBut left te
 abbrev pub IsFlushed : List ℕ → Stream → Stream → Type 0
 IsFlushed text before after = after ≡ all_out (written before ++ text)
 
--- the text is out so; or it is empty, and nothing was done
+-- the text is out after all that was put before, and nothing is held back; or the text is empty, and the stream is as before
 abbrev pub IsOut : List ℕ → Stream → Stream → Type 0
 IsOut text before after = IsFlushed text before after ⊎ ((text ≡ []) × (after ≡ before))
 
--- a sink that tells its bytes goes on telling them, and this holds of what it told before and what it tells after
+-- a sink that tells its bytes goes on telling them, and P holds of what it told before and what it tells after
 abbrev pub Told : (Stream → Stream → Type 0) → Option Stream → Option Stream → Type 0
 Told P None after = Unit {0}
 Told P (Some before) after = IsSomeAnd after (P before)
@@ -59,17 +59,19 @@ abbrev pub Puts : List ℕ → Option Stream → Option Stream → Put → Type 
 Puts piece before after Done = Told (Got piece) before after
 Puts piece before after Failed = Told (GotFront piece) before after
 
--- How a flush ended: after one that is done all that was put is out, and one that failed takes nothing back.
+-- How a flush ended: after one that is done all that was put is out; after one that failed the same bytes are put as before,
+-- and what was out is still out.
 abbrev pub Flushes : Option Stream → Option Stream → Put → Type 0
 Flushes before after Done = Told (IsFlushed []) before after
 Flushes before after Failed = Told (Got []) before after
 
--- How a text was put piece by piece, where memory may end, too: the whole text, or a front of it, or not the whole text.
+-- How a text was put piece by piece: the whole text; after a put that failed a front of it; where memory was refused, a front
+-- that is not the whole text.
 abbrev pub PutsFront : List ℕ → Option Stream → Option Stream → Result Put NoMemory → Type 0
 PutsFront text before after (Ok put) = Puts text before after put
 PutsFront text before after (Err refused) = Told (GotPart text) before after
 
--- the same of a text after which the sink is flushed
+-- the same, where the sink is flushed after the text
 abbrev pub PutsOut : List ℕ → Option Stream → Option Stream → Result Put NoMemory → Type 0
 PutsOut text before after (Ok Done) = Told (IsFlushed text) before after
 PutsOut text before after (Ok Failed) = Told (GotFront text) before after

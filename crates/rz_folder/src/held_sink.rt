@@ -85,6 +85,7 @@ impl Sink for HeldSink {
         ensures failed { (result ≡ Put.Failed) ↔ IsNextNamed self.old.sink }
         ensures sink { self.new.sink ≡ after_put self.old.sink [] }
         ensures out { result ≡ Put.Done → self.new.out ≡ length self.old.sink.written }
+        ensures kept { result ≡ Put.Failed → self.new.out ≡ self.old.out }
     {
         match self.sink.put(&[]) {
             Put::Done => {

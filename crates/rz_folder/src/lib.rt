@@ -3,7 +3,8 @@
 //! `Shelf` holds files in memory that are read and never written, for a command that has its files of its own, and
 //! `TextSink` has in memory what a call puts. `HeldSink` holds back in memory what is put until a flush, as standard
 //! output does.
-//! `RealFolder` and `RealSink` are the host's: what the host's calls do is trusted and tested, not proved.
+//! `RealFolder` and `RealSink` are the host's. `RealSink` is proved over a writer that tells its bytes; what the host
+//! does is trusted and tested.
 //! `replace` writes a regular file so that it is replaced whole or stays as it was; `temporary` names the file
 //! that it fills.
 //! A change there changes the tests in `rz_test_host`, and what README.md says of a write that fails.

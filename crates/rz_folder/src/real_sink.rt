@@ -1,4 +1,4 @@
-//! A writer of the host's as a sink: a trusted edge. How its count of faults rises is in `specs/Counts`, and what it
+//! A writer as a sink; over a writer of the host's it is a trusted edge. How its count of faults rises is in `specs/Counts`, and what it
 //! tells in `specs/RealSink`.
 
 ghost use Rattle.std.specs.Prelude.{◌≡◌, ◌≤◌, [], true, length, take, IfOk};
@@ -59,7 +59,7 @@ impl<W: Write + Drop> RealSink<W> {
     }
 
     /// The writer with a buffer of 64 KB before it, no faults so far. Pieces are held back as long as they fit in the
-    /// buffer, and then written together; one that doesn't fit in an empty buffer is written at once.
+    /// buffer, and then written together; one as long as the buffer or longer is written at once.
     pub fn buffered(alloc: Global, writer: W) -> Result<RealSink<W>, NoMemory>
         ensures { IfOk result (λ sink. sink ≡ begun (W.contents writer)) }
     {
@@ -81,6 +81,7 @@ impl<W: Write + Drop> RealSink<W> {
         ensures counted { self.old.faults ≤ self.new.faults }
         ensures after { self.new.faults ≡ after_put self.old.faults result }
         ensures stays { self.old.has_failed ≡ true → self.new.has_failed ≡ true }
+        ensures failed { result ≡ Put.Failed → self.new.has_failed ≡ true }
     {
         if is_done {
             return Put::Done;
@@ -106,6 +107,7 @@ impl<W: Write + Drop> Sink for RealSink<W> {
         ensures after { self.new.faults ≡ after_put self.old.faults result }
         ensures stays { self.old.has_failed ≡ true
             → (result ≡ Put.Failed) × (self.new.stream ≡ self.old.stream) × (self.new.has_failed ≡ true) }
+        ensures failed { result ≡ Put.Failed → self.new.has_failed ≡ true }
     {
         if self.has_failed {
             return self.ended(false);
@@ -123,6 +125,7 @@ impl<W: Write + Drop> Sink for RealSink<W> {
         ensures after { self.new.faults ≡ after_put self.old.faults result }
         ensures stays { self.old.has_failed ≡ true
             → (result ≡ Put.Failed) × (self.new.stream ≡ self.old.stream) × (self.new.has_failed ≡ true) }
+        ensures failed { result ≡ Put.Failed → self.new.has_failed ≡ true }
     {
         if self.has_failed {
             return self.ended(false);
@@ -154,7 +157,7 @@ impl<W: Write + Drop> Drop for RealSink<W> {
 }
 
 // Holds a piece back after what is held if it fits there, or in the whole buffer after that is written; a longer one
-// is written, too. Gives whether the piece is put; of one that isn't a front is.
+// is written, too. Gives whether the whole piece is put; if not, a front of it is.
 fn put_behind<W: Write>(piece: &[u8], held: &mut Vec<u8>, writer: &mut W) -> bool
     ensures { Puts piece.now (stream_over (W.contents writer.old) held.old.items)
         (stream_over (W.contents writer.new) held.new.items) (put_of result) }
@@ -212,8 +215,8 @@ fn write_out<W: Write>(bytes: &[u8], writer: &mut W) -> usize
     count
 }
 
-// Writes bytes once, and gives how many the writer took: 0 where the write failed. One that was interrupted is tried
-// again.
+// Writes bytes once, and gives how many the writer took: 0 where the write failed or took nothing. A write that was
+// interrupted is tried again.
 fn write_once<W: Write>(bytes: &[u8], writer: &mut W) -> usize
     ensures within { result ≤ length bytes.now }
     ensures written { Appends (W.contents writer.old) (W.contents writer.new) (take result bytes.now) }

@@ -19,7 +19,7 @@ pub enum Put {
 ///
 /// Some sinks tell their bytes, as one in memory does, and some tell nothing, as standard output. A
 /// sink that tells them goes on telling them. Bytes are put at the end, and some of them may be held
-/// back until a flush. No call takes back a byte that is out, also one that fails.
+/// back until a flush. No call takes back a byte that is out, not even one that fails.
 pub trait Sink {
     /// The bytes that are out, and those that the sink holds back, where it tells them.
     ghost stream: { Self → Option Stream };

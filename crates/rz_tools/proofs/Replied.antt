@@ -151,7 +151,7 @@ module _ (making : Making) (before after : World) (files : after.files ≡ befor
     ends = (refl, inr (cause refl), at_text (files_kept before.files after.files files) unwritten told);
     says = says;
   }
-  text_carried (Err refused) told cause says = record { ends = record { files = files; counted = unwritten; out = inr told }; says = inr (refl, says) }
+  text_carried (Err refused) told cause says = record { ends = record { files = files; counted = unwritten; out = inr told }; says = inr (refl, told, says) }
 
   pub text_ends : (put : Result Put NoMemoryAlone) (said : List ℕ) (result : Outcome) → said ≡ making.said → result ≡ end_of put → PutsOut making.bytes before.out after.out put
       → (put ≡ Ok puts.Failed → Rose before.out_faults after.out_faults) → SaysText (said_behind put said) before after → CarriesOut (shown making) before after result

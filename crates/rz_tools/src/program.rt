@@ -32,8 +32,8 @@ use std::alloc::Global;
 ///
 /// Usage comes exactly where the words are no command, and, if the folder tells its files, Refused only with the
 /// first fault. ReadFault and WriteFault come only where a read, or a write of the folder or of `out`, failed in this
-/// call. After Done the text is out, after all that `out` held back before, and `out` holds nothing back; an empty
-/// text needs no flush. After Usage, Refused and ReadFault the folder is as before and `out` has got nothing; after
+/// call. After Done the text is out, after all that `out` held back before, and `out` holds nothing back; if the text
+/// is empty, `out` may also be as before. After Usage, Refused and ReadFault the folder is as before and `out` has got nothing; after
 /// NoMemory the folder is as before, and `out` has got nothing, or a front of its text and not the whole text; after
 /// WriteFault the writes before the one that failed are done, and but for that one's file and a front of `out` all
 /// else is as before. No byte that was out is taken back. After `derez` of a fork, where the resources that are shown

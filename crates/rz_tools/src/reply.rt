@@ -35,7 +35,7 @@ pub enum Reply {
 
 impl Reply {
     /// Carries it out: a plan as [`carry_out`] does; of a fork the text is put line by line, and then what is to be
-    /// said is said, after it the line of what went wrong. NoMemory comes for a text alone, and before the whole text
+    /// said is said, after it the line of what went wrong. NoMemory comes only for the text of a fork, and before all of it
     /// is put: what `err` does changes no outcome.
     pub fn carry_out<F: Folder, O: Sink, E: Sink>(
         self,

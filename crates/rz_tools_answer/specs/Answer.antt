@@ -28,7 +28,7 @@ abbrev pub files_after : List Write → Files → Files
 files_after [] files = files
 files_after (write ∷ writes) files = files_after writes (map.insert files write.name write.bytes)
 
--- the count of a folder's writes after one of each of these
+-- a folder's count of writes after these writes, one each
 abbrev pub count_after : List Write → ℕ → ℕ
 count_after [] count = count
 count_after (write ∷ writes) count = count_after writes (next count)

@@ -27,14 +27,14 @@ pub record IsWritten (writes : List Write) (text : List ℕ) (before after : Wor
   pub counted : after.writes ≡ count_after writes before.writes
   pub out : Told (IsOut text) before.out after.out
 
--- The write of one file failed: those before it are written, its name may hold anything, and all else is as before. There was
--- one write of each of them, and none after the one that failed.
+-- The write of one file failed: those before it are written, its name may hold anything, and all else is as before. Each
+-- of the files before it and this one had one write, and there was no other.
 pub record IsCutAt (done : List Write) (one : Write) (before after : World) : Type 0 where
   pub files : IfSome before.files (λ files. IsSomeAnd after.files (λ left. map.remove left one.name ≡ map.remove (files_after done files) one.name))
   pub counted : after.writes ≡ count_after (done ++ one ∷ []) before.writes
   pub out : after.out ≡ before.out
 
--- a write failed: of one of the files, or, after one write of each of them, of the text, of which a front was put then
+-- a write failed: of one of the files, or, after one write of each of them, of the text, of which a front was put by then
 pub data IsPartlyWritten (writes : List Write) (text : List ℕ) (before after : World) : Type 0 where
   at_file : (done : List Write) (one : Write) (rest : List Write) → writes ≡ done ++ one ∷ rest → IsCutAt done one before after
       → IsPartlyWritten writes text before after
@@ -63,7 +63,8 @@ abbrev pub SaysOf : Answer → World → World → Outcome → Type 0
 SaysOf answer before after WriteFault = SaysText (answer.err ++ write_fault_line) before after
 SaysOf answer before after ReadFault = SaysText read_fault_line before after
 SaysOf answer before after NoMemory =
-    ((after.out ≡ before.out) × SaysText no_memory_line before after) ⊎ ((answer.outcome ≡ Done) × SaysText (answer.err ++ no_memory_line) before after)
+    ((after.out ≡ before.out) × SaysText no_memory_line before after)
+    ⊎ ((answer.outcome ≡ Done) × Told (GotPart answer.out) before.out after.out × SaysText (answer.err ++ no_memory_line) before after)
 SaysOf answer before after other = SaysText answer.err before after
 
 -- A run that carries out an answer. It ends as the answer does, but for want of memory, a failed read, or a failed write

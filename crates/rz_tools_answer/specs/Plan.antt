@@ -28,8 +28,8 @@ abbrev pub FailsAt : List answer.Write → answer.Write → Option Files → Opt
 FailsAt done one before after =
     IfSome before (λ files. IsSomeAnd after (λ left. finite.remove left one.name ≡ finite.remove (files_after done files) one.name))
 
--- the files are written one after the other, or up to one of them, whose write failed; each in one write, by these counts of
--- them before and after
+-- the files are written one after the other, or up to one of them, whose write failed; each in one write: `count`
+-- and `left` are the counts of writes before and after
 abbrev pub WritesEach : List answer.Write → Option Files → Option Files → ℕ → ℕ → Written → Type 0
 WritesEach writes before after count left ends.Done = IfSome before (λ files. after ≡ Some (files_after writes files)) × (left ≡ count_after writes count)
 WritesEach writes before after count left ends.Failed =
