@@ -32,7 +32,7 @@ use Rattle.rz_show_laws.proofs.HeadTokens.{all_of, head_of, id_is, id_is_inner, 
 use Rattle.rz_show_lines_laws.proofs.Tokens.{list_shapes}
 use Rattle.rz_show_laws.proofs.Keeping.{list_kept}
 use Rattle.rz_show_laws.proofs.Pass.{list_passes}
-use Rattle.rz_show_laws.proofs.Shapes.{behind_commas, head_pieces, id_shapes, statement_shapes}
+use Rattle.rz_show_laws.proofs.Shapes.{after_commas, head_pieces, id_shapes, statement_shapes}
 use Rattle.rz_show_lines_laws.proofs.Split.{front_and_back, none_left, one_and_more, shapes_in}
 use Rattle.rz_show_laws.proofs.Walks.{divided, ended_are, flat_passes, kept, kept_are, nothing_divides, nothing_opens, opened, opened_are}
 
@@ -57,7 +57,7 @@ module _ (keyword : Keyword) (said : List ℕ) (spelled : is_keyword keyword (wo
   -- The shapes of the statement.
 
   named : List Shape
-  named = behind_commas (head_pieces r name)
+  named = after_commas (head_pieces r name)
 
   front : List Shape
   front =
@@ -86,7 +86,7 @@ module _ (keyword : Keyword) (said : List ℕ) (spelled : is_keyword keyword (wo
   are : statement_shapes said r name (list_shapes prints) ≡ front ++ shapes.Sign signs.Semicolon ∷ []
   unfolding front named
   are = ap (λ (x : List Shape). word_of said ∷ shapes.Literal (be 4 r.kind.code) ∷ shapes.Sign signs.OpenParen ∷ x)
-      (split_last (id_shapes r.id) (behind_commas (head_pieces r name)) (list_shapes prints)
+      (split_last (id_shapes r.id) (after_commas (head_pieces r name)) (list_shapes prints)
       (shapes.Sign signs.CloseParen) (shapes.Sign signs.OpenBrace) (shapes.Sign signs.CloseBrace) (shapes.Sign signs.Semicolon))
 
   limits : heights prints ≤ 63 → kept 64 0 0 (statement_shapes said r name (list_shapes prints)) ≡ true

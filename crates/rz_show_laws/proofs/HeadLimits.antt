@@ -16,7 +16,7 @@ use Rattle.rz_stmt_brackets.specs.Statements.{open_behind}
 use Rattle.rz_stmt_data.specs.Head.{Attribute}
 use Rattle.rz_show_laws.specs.Statement.{attribute_part, attributes_of}
 use Rattle.rz_show_laws.proofs.HeadTokens.{is_flat, AreFlatShapes}
-use Rattle.rz_show_laws.proofs.Shapes.{attribute_tokens, behind_commas, head_pieces, id_shapes, name_pieces, shape_alone, text_shapes}
+use Rattle.rz_show_laws.proofs.Shapes.{attribute_tokens, after_commas, head_pieces, id_shapes, name_pieces, shape_alone, text_shapes}
 use Rattle.rz_show_laws.proofs.Walks.{kept}
 
 -- How many tokens of a head are no texts.
@@ -35,7 +35,7 @@ weight_texts : (pieces : List (List ℕ)) → weight (text_shapes pieces) ≡ 0
 weight_texts [] = refl
 weight_texts (piece ∷ pieces) = weight_texts pieces
 
-weight_name : (name : List (List ℕ)) → weight (behind_commas (name_pieces name)) ≤ 1
+weight_name : (name : List (List ℕ)) → weight (after_commas (name_pieces name)) ≤ 1
 weight_name [] = omega arith
 weight_name (piece ∷ name) = omega (arith, weight_both (text_shapes (piece ∷ name)) [], weight_texts name)
 
@@ -59,14 +59,14 @@ attributes_few attr = by_test (length (attributes_of attr) ≤ 6) (attr == 0)
     (λ k. rw (h, k) (both_few _ _ 5 1 (both_few _ _ 4 1 (both_few _ _ 3 1 (both_few _ _ 2 1 (both_few _ _ 1 1 (word_few attr SystemHeap) (word_few attr Purgeable))
     (word_few attr Locked)) (word_few attr Protected)) (word_few attr Preload)) (word_few attr Changed))))
 
-pub weight_head : (r : Resource) (name : List (List ℕ)) → weight (behind_commas (head_pieces r name)) ≤ 13
+pub weight_head : (r : Resource) (name : List (List ℕ)) → weight (after_commas (head_pieces r name)) ≤ 13
 weight_head r name =
     let attributes = attributes_of r.attr in
     let parts = flat_map-append (λ (piece : List Shape). shapes.Sign signs.Comma ∷ piece) (name_pieces name) (map shape_alone attributes) in
     omega (
       arith,
       ap weight parts,
-      weight_both (behind_commas (name_pieces name)) (attribute_tokens attributes),
+      weight_both (after_commas (name_pieces name)) (attribute_tokens attributes),
       weight_name name,
       weight_attributes attributes,
       attributes_few r.attr,

@@ -25,7 +25,7 @@ use Rattle.rz_stmt_data.specs.Texts.{begins_text, starts_text}
 use Rattle.rz_stmt_data.specs.declared.head.Subject.TheVariants.{New}
 use Rattle.rz_types_fields.specs.declared.place.TextPlace.TheVariants as places
 use Rattle.rz_show_laws.specs.Statement.{attribute_part, attributes_of, id_term, name_part, text_parts}
-use Rattle.rz_show_laws.proofs.Shapes.{behind_commas, head_pieces, id_shapes, name_pieces, shape_alone, text_shapes}
+use Rattle.rz_show_laws.proofs.Shapes.{after_commas, head_pieces, id_shapes, name_pieces, shape_alone, text_shapes}
 use Rattle.rz_show_lines_laws.proofs.Split.{front_and_back, none_left, one_and_more, shapes_in}
 use Rattle.rz_core.proofs.Lists.{all_append}
 use Rattle.rz_core.proofs.Tests.{by_test}
@@ -218,11 +218,11 @@ pieces_are_inner r name small = all_append (AllByRecursion (λ shape. is_inner s
     of_attributes [] shown = tt
     of_attributes (a ∷ attributes) shown = ((shown.0.inner, tt), of_attributes attributes shown.1)
 
-pub pieces_are_flat : (pieces : List (List Shape)) → ArePieces pieces → AreFlatShapes (behind_commas pieces)
+pub pieces_are_flat : (pieces : List (List Shape)) → ArePieces pieces → AreFlatShapes (after_commas pieces)
 pieces_are_flat [] inner = tt
 pieces_are_flat (piece ∷ pieces) inner =
     subst AreFlatShapes (sym (flat_map-cons (λ (piece : List Shape). shapes.Sign signs.Comma ∷ piece) piece pieces))
-    (refl, all_append (λ shape. is_flat shape ≡ true) piece (behind_commas pieces) (inner_is_flat piece inner.0) (pieces_are_flat pieces inner.1))
+    (refl, all_append (λ shape. is_flat shape ≡ true) piece (after_commas pieces) (inner_is_flat piece inner.0) (pieces_are_flat pieces inner.1))
 
 -- the tokens of a head are cut at their commas into the first piece and these
 pub record IsHeadOf (first named : List Token) (pieces : List (List Shape)) : Type 0 where
@@ -230,15 +230,15 @@ pub record IsHeadOf (first named : List Token) (pieces : List (List Shape)) : Ty
   pub are : map shapes_in others ≡ pieces
   pub cut : AreCut Comma (first ++ named) (first ∷ others)
 
-pub head_of : (first named : List Token) (pieces : List (List Shape)) → AreInner first → ArePieces pieces → shapes_in named ≡ behind_commas pieces → IsHeadOf first named pieces
+pub head_of : (first named : List Token) (pieces : List (List Shape)) → AreInner first → ArePieces pieces → shapes_in named ≡ after_commas pieces → IsHeadOf first named pieces
 head_of first named [] first_inner inner is = record {
   others = [];
   are = refl;
   cut = subst (λ (x : List Token). AreCut Comma x (first ∷ [])) (sym (ap (λ (x : List Token). first ++ x) (none_left named is) ∙ append-nil first)) (AreCut.last first (no_comma first first_inner));
 }
 head_of first named (piece ∷ pieces) first_inner inner is =
-    let comma = one_and_more named (shapes.Sign signs.Comma) (piece ++ behind_commas pieces) (is ∙ flat_map-cons (λ (piece : List Shape). shapes.Sign signs.Comma ∷ piece) piece pieces) in
-    let both = front_and_back comma.more piece (behind_commas pieces) comma.more_are in
+    let comma = one_and_more named (shapes.Sign signs.Comma) (piece ++ after_commas pieces) (is ∙ flat_map-cons (λ (piece : List Shape). shapes.Sign signs.Comma ∷ piece) piece pieces) in
+    let both = front_and_back comma.more piece (after_commas pieces) comma.more_are in
     let behind = head_of both.front both.back pieces (all_of (λ shape. is_inner shape ≡ true) both.front piece both.front_is inner.0) inner.1 both.back_is in
     let parted : Parted = record { front = first; behind = both.front ++ both.back } in
     record {

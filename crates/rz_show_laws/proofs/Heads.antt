@@ -19,14 +19,14 @@ use Rattle.rz_words.specs.Attribute.{bit_of, setting_word}
 use Rattle.rz_words.specs.declared.attribute.Attribute as words
 use Rattle.rz_words.specs.declared.attribute.Attribute.TheVariants.{Changed, Locked, Preload, Protected, Purgeable, SystemHeap}
 use Rattle.rz_show.specs.Head.{head_end, head_lines}
-use Rattle.rz_show_lines.specs.Head.{attr_written, behind_comma, head_front, word_written}
+use Rattle.rz_show_lines.specs.Head.{after_comma, attr_written, head_front, word_written}
 use Rattle.rz_show_lines.specs.Pieces.{text_pieces}
 use Rattle.rz_show_lines.specs.Print.{signed_written}
 use Rattle.rz_show_lines.specs.Written.{a_blank, a_sign, a_text, line_shapes, lines_shapes, IsPut, Written}
 use Rattle.rz_show_laws.specs.Showable.{IsStored}
 use Rattle.rz_show_laws.specs.Statement.{attribute_part, attributes_of}
 use Rattle.rz_show_lines_laws.proofs.CutLines.{none_live, pieces_lines, signed_apart, AreLines, IsBehind, IsLine}
-use Rattle.rz_show_laws.proofs.Shapes.{attribute_tokens, behind_commas, id_shapes, name_pieces, shape_alone, text_shapes}
+use Rattle.rz_show_laws.proofs.Shapes.{attribute_tokens, after_commas, id_shapes, name_pieces, shape_alone, text_shapes}
 use Rattle.rz_show_lines_laws.proofs.Texts.{all_pieces, four_bytes, pieces_join, pieces_small}
 use Rattle.rz_show_lines_laws.proofs.Tokens.{line_both, piece_tokens}
 
@@ -49,7 +49,7 @@ both {one} {other} {front} {back} first second = record {
   on = λ behind ends. subst EndsLine (sym (append_assoc one other behind)) (first.on (other ++ behind) (second.on behind ends));
   tokens = line_both one other ∙ (λ j. first.tokens j ++ second.tokens j)
       ∙ sym (flat_map-append (λ (piece : List Shape). shapes.Sign signs.Comma ∷ piece) (map shape_alone front) (map shape_alone back))
-      ∙ ap behind_commas (sym (map-append shape_alone front back));
+      ∙ ap after_commas (sym (map-append shape_alone front back));
 }
 
 word_attribute : (attr : ℕ) (attribute : words.Attribute) → is_word (setting_word attribute) ≡ true → length (setting_word attribute) ≤ 255
@@ -140,7 +140,7 @@ pub record IsHead (lines : List (List Written)) (said : List ℕ) (code : ℕ) (
   pub pieces : List (List ℕ)
   pub are : flat_map (λ piece. piece) pieces ≡ name
   pub lines_are : AreLines none_live lines
-  pub tokens : lines_shapes lines ≡ front_shapes said code id (behind_commas (name_pieces pieces) ++ end_shapes attr)
+  pub tokens : lines_shapes lines ≡ front_shapes said code id (after_commas (name_pieces pieces) ++ end_shapes attr)
 
 no_bytes : (name : List ℕ) → (length name == 0) ≡ true → [] ≡ name
 no_bytes [] is = refl
@@ -178,12 +178,12 @@ module _ (said : List ℕ) (is : is_word said ≡ true) (short : length said ≤
         pieces = r.name ∷ [];
         are = append-nil r.name;
         lines_are = (
-          line (behind_comma (a_text r.name ∷ head_end r.attr))
+          line (after_comma (a_text r.name ∷ head_end r.attr))
               (record { line = record { put = ((refl, tt), ((tt, tt), ((stored.name, tt), ends.line.put))); apart = ends.line.apart }; ends = refl }),
           tt,
         );
         tokens = append-nil _
-            ∙ tokens_of (behind_comma (a_text r.name ∷ head_end r.attr)) _ (ap (λ (x : List Shape). shapes.Sign signs.Comma ∷ shapes.Text r.name ∷ x) end_is);
+            ∙ tokens_of (after_comma (a_text r.name ∷ head_end r.attr)) _ (ap (λ (x : List Shape). shapes.Sign signs.Comma ∷ shapes.Text r.name ∷ x) end_is);
       }))
       (λ k. rw (h, k) (record {
         pieces = all_pieces cut;
@@ -195,5 +195,5 @@ module _ (said : List ℕ) (is : is_word said ≡ true) (short : length said ≤
         tokens = (λ j. tokens_of (a_sign signs.Comma ∷ []) _ refl j ++ piece_tokens 1 (head_end r.attr) false cut.first cut.others j)
             ∙ ap (λ (x : List Shape). word_of said ∷ shapes.Literal (be 4 r.kind.code) ∷ shapes.Sign signs.OpenParen ∷ x)
             (regroup (id_shapes r.id) (text_shapes (all_pieces cut)) (line_shapes (head_end r.attr)) (shapes.Sign signs.Comma)
-            ∙ ap (λ (x : List Shape). id_shapes r.id ++ (behind_commas (name_pieces (all_pieces cut)) ++ x)) end_is);
+            ∙ ap (λ (x : List Shape). id_shapes r.id ++ (after_commas (name_pieces (all_pieces cut)) ++ x)) end_is);
       })))

@@ -31,16 +31,16 @@ abbrev pub head_pieces : Resource → List (List ℕ) → List (List Shape)
 head_pieces r name = name_pieces name ++ map shape_alone (attributes_of r.attr)
 
 -- each of them after a comma
-abbrev pub behind_commas : List (List Shape) → List Shape
-behind_commas pieces = flat_map (λ piece. shapes.Sign signs.Comma ∷ piece) pieces
+abbrev pub after_commas : List (List Shape) → List Shape
+after_commas pieces = flat_map (λ piece. shapes.Sign signs.Comma ∷ piece) pieces
 
 -- and after commas
 abbrev pub attribute_tokens : List (Shape × Attribute) → List Shape
-attribute_tokens attributes = behind_commas (map shape_alone attributes)
+attribute_tokens attributes = after_commas (map shape_alone attributes)
 
 -- the statement with this word, with the name as a text of these pieces and these tokens in braces
 abbrev pub statement_shapes : (word : List ℕ) → Resource → (name : List (List ℕ)) → (inside : List Shape) → List Shape
 statement_shapes word r name inside =
     word_of word ∷ shapes.Literal (be 4 r.kind.code) ∷ shapes.Sign signs.OpenParen
-    ∷ (id_shapes r.id ++ (behind_commas (head_pieces r name) ++ shapes.Sign signs.CloseParen ∷ shapes.Sign signs.OpenBrace
+    ∷ (id_shapes r.id ++ (after_commas (head_pieces r name) ++ shapes.Sign signs.CloseParen ∷ shapes.Sign signs.OpenBrace
     ∷ (inside ++ shapes.Sign signs.CloseBrace ∷ shapes.Sign signs.Semicolon ∷ [])))

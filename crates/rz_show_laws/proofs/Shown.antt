@@ -44,7 +44,7 @@ use Rattle.rz_show_lines_laws.proofs.Tokens.{lines_both, list_shapes, list_token
 use Rattle.rz_show_laws.proofs.Items.{AreNamingPrints}
 use Rattle.rz_show_laws.proofs.Naming.{row_naming}
 use Rattle.rz_show_lines_laws.proofs.Pages.{has_tokens}
-use Rattle.rz_show_laws.proofs.Shapes.{attribute_tokens, behind_commas, id_shapes, name_pieces, shape_alone, statement_shapes}
+use Rattle.rz_show_laws.proofs.Shapes.{attribute_tokens, after_commas, id_shapes, name_pieces, shape_alone, statement_shapes}
 use Rattle.rz_show_lines_laws.proofs.Split.{front_and_back, none_left, shapes_in}
 use Rattle.rz_show_laws.proofs.Whole.{whole_data, whole_row}
 use Rattle.rz_show_laws.proofs.Words.{list_words, statement_words, words_both, AreWords}
@@ -69,12 +69,12 @@ regroup id named attributes a b within c d = simp append_assoc
 
 -- a head, what stands in braces, and the end
 tokens_are : (said : List ℕ) (r : Resource) (name : List (List ℕ)) (within : List Shape)
-    → front_shapes said r.kind.code r.id (behind_commas (name_pieces name) ++ end_shapes r.attr) ++ (within ++ shapes.Sign signs.CloseBrace ∷ shapes.Sign signs.Semicolon ∷ [])
+    → front_shapes said r.kind.code r.id (after_commas (name_pieces name) ++ end_shapes r.attr) ++ (within ++ shapes.Sign signs.CloseBrace ∷ shapes.Sign signs.Semicolon ∷ [])
     ≡ statement_shapes said r name within
 tokens_are said r name within =
     let parts = flat_map-append (λ (piece : List Shape). shapes.Sign signs.Comma ∷ piece) (name_pieces name) (map shape_alone (attributes_of r.attr)) in
     ap (λ (x : List Shape). word_of said ∷ shapes.Literal (be 4 r.kind.code) ∷ shapes.Sign signs.OpenParen ∷ x)
-    (regroup (id_shapes r.id) (behind_commas (name_pieces name)) (attribute_tokens (attributes_of r.attr)) (shapes.Sign signs.CloseParen) (shapes.Sign signs.OpenBrace) within
+    (regroup (id_shapes r.id) (after_commas (name_pieces name)) (attribute_tokens (attributes_of r.attr)) (shapes.Sign signs.CloseParen) (shapes.Sign signs.OpenBrace) within
     (shapes.Sign signs.CloseBrace) (shapes.Sign signs.Semicolon)
     ∙ ap (λ (x : List Shape). id_shapes r.id ++ (x ++ shapes.Sign signs.CloseParen ∷ shapes.Sign signs.OpenBrace
     ∷ (within ++ shapes.Sign signs.CloseBrace ∷ shapes.Sign signs.Semicolon ∷ []))) (sym parts))
@@ -119,7 +119,7 @@ module _ (law : Laws) (hidden : List ℕ → Bool) where
       let front = head_lines said r.kind.code r.id r.name r.attr in
       let inner = list_lines 1 items in
       let tokens = lines_both front (inner ++ close_lines) ∙ (λ j. head.tokens j ++ lines_both inner close_lines j)
-      ∙ ap (λ (x : List Shape). front_shapes said r.kind.code r.id (behind_commas (name_pieces head.pieces) ++ end_shapes r.attr) ++ (x ++ lines_shapes close_lines)) (list_tokens 1 items)
+      ∙ ap (λ (x : List Shape). front_shapes said r.kind.code r.id (after_commas (name_pieces head.pieces) ++ end_shapes r.attr) ++ (x ++ lines_shapes close_lines)) (list_tokens 1 items)
       ∙ tokens_are said r head.pieces (list_shapes items) in
       record {
         printed = all_append _ front (inner ++ close_lines) (all_printed law.cut none_live front head.lines_are)

@@ -22,7 +22,7 @@ use Rattle.rz_show_lines.specs.Written.{line_shapes, IsPut}
 use Rattle.rz_show_laws.specs.Statement.{attribute_part, attributes_of, is_shown, shown_words}
 use Rattle.rz_show_lines_laws.proofs.Tokens.{braced, group_tokens, list_shapes, number_prints, print_shapes}
 use Rattle.rz_show_laws.proofs.Items.{AreNamingPrints, IsNaming, IsNamingPrint, IsNamingSingle}
-use Rattle.rz_show_laws.proofs.Shapes.{attribute_tokens, behind_commas, id_shapes, name_pieces, shape_alone, statement_shapes, text_shapes}
+use Rattle.rz_show_laws.proofs.Shapes.{attribute_tokens, after_commas, id_shapes, name_pieces, shape_alone, statement_shapes, text_shapes}
 
 or_so : (a b : Bool) → b ≡ true → (a || b) ≡ true
 or_so true b is = refl
@@ -74,7 +74,7 @@ module _ (hidden : List ℕ → Bool) where
       (one_attribute_word attr Locked refl)) (one_attribute_word attr Protected refl))
       (one_attribute_word attr Preload refl)) (one_attribute_word attr Changed refl))))
 
-  head_words : (name : List (List ℕ)) (attributes : List (Shape × Attribute)) → AreAttributeWords attributes → AreWords (behind_commas (name_pieces name ++ map shape_alone attributes))
+  head_words : (name : List (List ℕ)) (attributes : List (Shape × Attribute)) → AreAttributeWords attributes → AreWords (after_commas (name_pieces name ++ map shape_alone attributes))
   head_words [] attributes words = words.each
   head_words (piece ∷ name) attributes words =
       subst AreWords (sym (flat_map-cons (λ (piece : List Shape). shapes.Sign signs.Comma ∷ piece) (text_shapes (piece ∷ name)) (map shape_alone attributes)))
