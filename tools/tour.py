@@ -7,7 +7,8 @@ In the code blocks of WALKS a line that begins with `$ ` is a command, lines tha
 with it, and what follows, up to the next command or the end of the block, is its output. The commands of the documents
 of one walk are run in their order, by `sh`, in a folder of their own that has `examples`, `types`, `tools`, `workbench`
 and, as `./rezkit`, the built program (the one that ./rezkit runs unless another is named). A command is skipped if it
-names a tool of TOOLS that isn't installed, or a program of MODULES whose module isn't. What differs is printed, and with
+names a tool of TOOLS that isn't installed, or a program of MODULES whose module isn't; and so is a later one of the
+document if it prints something else, since it may lack what the skipped one makes. What differs is printed, and with
 `--write` put into the document. The examples of the man page (tools/help.py) are run too: each has to end with the status 0
 and to print what EXAMPLES_PRINT says. The status is 1 if anything differs. The quick checks run it.
 """
@@ -101,6 +102,7 @@ def walk_document(document, folder, write):
     with open(path, encoding="utf-8") as file:
         parts = parts_of(file.read())
     count = wrong = skipped = 0
+    absent = None  # a tool for which a command of this document was skipped, so that later ones may lack what it makes
     for head, output in parts:
         if output is None:
             continue
@@ -108,11 +110,15 @@ def walk_document(document, folder, write):
         command = "\n".join(line[2:] for line in head)
         tool = missing_tool(command)
         if tool:
+            absent = tool
             skipped += 1
             print("%s: skipped, for there is no %s: %s" % (document, tool, head[0]))
             continue
         came = printed(command, folder)
-        if came != output:
+        if came != output and absent:
+            skipped += 1
+            print("%s: skipped, since there is no %s for a command before it: %s" % (document, absent, head[0]))
+        elif came != output:
             wrong += 1
             print("%s\n%s\n--- the document\n%s\n--- the program\n%s" % (document, "\n".join(head), "\n".join(output), "\n".join(came)))
             output[:] = came
