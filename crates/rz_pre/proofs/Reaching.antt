@@ -130,4 +130,4 @@ module _ {F : Type 0} (g : Ghosts F) (paths : List (List ℕ)) where
       can = (s.live, tool, innermost opens, (steps_in (λ name mark u answer. ⊥) tool line opens s own after t steps).does)
 
       includes : (name : List ℕ) → IsOneOf (names_of paths (utf8_name own)) name → IsIncluded paths file text name
-      includes name one = (line, own, are line (line_here file here line rest stands some), can, one)
+      includes name one = (own, (line, are line (line_here file here line rest stands some), can), one)

@@ -2,8 +2,7 @@
 use Rattle.std.specs.Prelude.{◌≡◌, ℕ, List, ◌∷◌, ◌++◌, Option, Some, Ok}
 use Rattle.std.specs.FinMap as finite
 use Rattle.rz_folder.specs.Folder.{Files}
-use Rattle.rz_folder.specs.MayRead.{IsOneOf}
-use Rattle.rz_folder_paths.specs.Names.{names_of, utf8_name}
+use Rattle.rz_folder_paths.specs.Names.{LooksFor}
 use Rattle.rz_lex.specs.Joined.{joined}
 use Rattle.rz_lex.specs.Lines.{HasLines}
 use Rattle.rz_lex.specs.declared.joined.Placed.{Placed}
@@ -25,10 +24,13 @@ HasLine file text line =
 abbrev pub CanInclude : RawLine → List ℕ → Type 0
 CanInclude line own = (live : Live) × (tool : Tool) × (around : Option Open) × Does live tool around line (Ok (Include own))
 
--- a line of the text includes a file that is looked for under this name
+-- a line of the text includes the file of this name
+abbrev pub Includes : ℕ → List Placed → List ℕ → Type 0
+Includes file text own = (line : RawLine) × HasLine file text line × CanInclude line own
+
+-- one of the names under which a file is looked for that a line of the text includes
 abbrev pub IsIncluded : List (List ℕ) → ℕ → List Placed → List ℕ → Type 0
-IsIncluded paths file text name =
-    (line : RawLine) × (own : List ℕ) × HasLine file text line × CanInclude line own × IsOneOf (names_of paths (utf8_name own)) name
+IsIncluded paths file text = LooksFor paths (Includes file text)
 
 -- the file of this name has this text in Mac Roman
 abbrev pub HoldsText : Files → List ℕ → List ℕ → Type 0
