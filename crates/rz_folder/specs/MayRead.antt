@@ -13,6 +13,11 @@ MayRead g folder Names = (name : List ℕ) → Names name → g.may_read folder 
 abbrev pub IsOneOf : List (List ℕ) → List ℕ → Type 0
 IsOneOf names name = (k : ℕ) × (slice_get names k ≡ Some name)
 
+-- the name, where one is given
+abbrev pub IsIt : Option (List ℕ) → List ℕ → Type 0
+IsIt None name = ⊥
+IsIt (Some one) name = name ≡ one
+
 -- the names that depend on what the files hold: where a folder doesn't tell its files, all names are
 abbrev pub ByFiles : (Files → List ℕ → Type 0) → Option Files → List ℕ → Type 0
 ByFiles Names None name = Unit {0}

@@ -25,12 +25,12 @@ abbrev pub CanInclude : RawLine → List ℕ → Type 0
 CanInclude line own = (live : Live) × (tool : Tool) × (around : Option Open) × Does live tool around line (Ok (Include own))
 
 -- a line of the text includes the file of this name
-abbrev pub Includes : ℕ → List Placed → List ℕ → Type 0
-Includes file text own = (line : RawLine) × HasLine file text line × CanInclude line own
+abbrev pub IncludesFile : ℕ → List Placed → List ℕ → Type 0
+IncludesFile file text own = (line : RawLine) × HasLine file text line × CanInclude line own
 
 -- one of the names under which a file is looked for that a line of the text includes
 abbrev pub IsIncluded : List (List ℕ) → ℕ → List Placed → List ℕ → Type 0
-IsIncluded paths file text = LooksFor paths (Includes file text)
+IsIncluded paths file text = LooksFor paths (IncludesFile file text)
 
 -- the file of this name has this text in Mac Roman
 abbrev pub HoldsText : Files → List ℕ → List ℕ → Type 0
