@@ -12,7 +12,7 @@ use Rattle.rz_pre.specs.declared.condition.Tool.TheVariants as tools
 use Rattle.rz_pre.specs.declared.program.Def.{Def}
 use Rattle.rz_stmt.specs.Grammar.{Compiles, Data, Declares, Empty, Lists, Parses, Statement}
 use Rattle.rz_stmt.specs.Statements.{AreStatements}
-use Rattle.rz_tools_args.specs.Command.{places_of, Asked, IsCommand, Item}
+use Rattle.rz_tools_args.specs.Command.{Asked, IsCommand, Item}
 use Rattle.rz_tools_args.specs.declared.name.CommandName.{CommandName}
 use Rattle.rz_tools_args.specs.declared.name.CommandName.TheVariants as names
 use Rattle.rz_tools_output.specs.Bridge.{bridge_asked, BridgeAsks}
@@ -52,9 +52,9 @@ AnyAsks tool tokens own =
 
 -- The sources of these names and what they include; and, where these are a program, what is asked for after it.
 abbrev pub SourcesAsk : Tool → List (List ℕ) → List (List ℕ) → List Def → (List Token → List ℕ → Type 0) → Files → List ℕ → Type 0
-SourcesAsk tool names paths defs AskedAfter files name =
-    IsReached paths files (IsOneOf names) name
-    ⊎ ((program : State) × ProgramGoes files tool names paths defs (Ok program) × AskedAfter program.tokens name)
+SourcesAsk tool sources paths defs AskedAfter files name =
+    IsReached paths files (IsOneOf sources) name
+    ⊎ ((program : State) × ProgramGoes files tool sources paths defs (Ok program) × AskedAfter program.tokens name)
 
 -- the file of templates, and the files that the statements of type files name, which are none
 abbrev pub TypesAskAfter : TypesAsked → List Token → List ℕ → Type 0
@@ -80,9 +80,12 @@ DeRezAsks asked files name = TypesAsk asked.types files name ⊎ (name ≡ asked
 abbrev pub StringsAsk : StringsAsked → Files → List ℕ → Type 0
 StringsAsk asked files name = TypesAsk asked.types files name ⊎ (name ≡ asked.file)
 
--- the fork, the catalogue, and what the type files ask for
+-- the fork and the catalogue, and what the type files ask for
+abbrev pub RestringAsksAfter : RestringAsked → List ℕ → Type 0
+RestringAsksAfter asked name = (name ≡ asked.file) ⊎ (name ≡ asked.catalogue)
+
 abbrev pub RestringAsks : RestringAsked → Files → List ℕ → Type 0
-RestringAsks asked files name = TypesAsk asked.types files name ⊎ (name ≡ asked.file) ⊎ (name ≡ asked.catalogue)
+RestringAsks asked files name = TypesAsk asked.types files name ⊎ RestringAsksAfter asked name
 
 -- which files a command of these items may read; each command is one case
 abbrev pub CommandAsks : CommandName → List Item → Files → List ℕ → Type 0

@@ -12,6 +12,8 @@ ghost use Rattle.rz_tools_answer.specs.Carried.{CarriesOut, EndsWith, IsAnswered
 ghost use Rattle.rz_tools_answer.specs.World.{ReadFailed, Runs, WriteFailed};
 ghost use Rattle.rz_tools_answer.specs.WellFormed.{IsWellFormed};
 ghost use Rattle.rz_tools.specs.DeRez.{DeRezAsked, IsDeRez};
+ghost use Rattle.rz_folder.specs.MayRead.{MayReadOf};
+ghost use Rattle.rz_tools.specs.Asked.{WordsAsk};
 ghost use Rattle.rz_tools_args.specs.Command.{IsMisplaced};
 
 use crate::answer::answer;
@@ -50,6 +52,7 @@ pub fn run<F: Folder, O: Sink, E: Sink>(
     err: &mut E,
     moment: Moment,
 ) -> Outcome
+    requires { MayReadOf F.Folder folder.old (WordsAsk (map string_bytes words.now)) }
     // Whatever the folder tells, an answer is carried out; where it tells its files, this is the answer to the words.
     ensures carried { Runs F.Folder O.Sink E.Sink folder.old folder.new out.old out.new err.old err.new
         (λ before after. (done : Answer) × IsWellFormed done × CarriesOut done before after result

@@ -5,6 +5,10 @@ ghost use Rattle.rz_core.specs.Stop.{seen, OnRefusal, Yields};
 ghost use Rattle.rz_core.specs.declared.stop.Halt.TheVariants.{ReadFault};
 ghost use Rattle.rz_tools_answer.specs.Made.{IsSayable};
 ghost use Rattle.rz_tools_answer.specs.Warning.{AreWarnings};
+ghost use Rattle.rz_folder.specs.MayRead.{IsOneOf, MayRead, MayReadOf};
+ghost use Rattle.rz_folder_paths.specs.Names.{LooksFor};
+ghost use Rattle.rz_pre.specs.Reached.{IsReached};
+ghost use Rattle.rz_tools.specs.Asked.{AnyAsks};
 ghost use Rattle.rz_folder.specs.OnlyReads.{OnlyReads};
 ghost use Rattle.rz_lex.specs.Lexeme.{AreLexed};
 ghost use Rattle.rz_lex.specs.Within.{AreWithin};
@@ -61,7 +65,8 @@ pub fn read_program<F: Folder>(
     paths: &FileNames,
     defs: &Defs,
 ) -> Result<Program, Halt<Failing>>
-    requires { HaveLexedTexts defs.now }
+    requires lexed { HaveLexedTexts defs.now }
+    requires may { MayReadOf F.Folder folder.old (λ files. IsReached paths.now files (IsOneOf names.now)) }
     ensures read { IfSome (F.files folder.old) (λ files. Yields result (OfProgram (Unsaid (ProgramGoes files tool names.now paths.now defs.now)))) }
     ensures sayable { OnRefusal result IsSayable }
     ensures within { IfOk result (λ program. AreWithin (length program.files) program.tokens) }
@@ -96,6 +101,7 @@ pub fn compile_program<F: Folder>(
     requires within { AreWithin (length program.files) program.tokens }
     requires lexed { AreLexed program.tokens }
     requires warnings { AreWarnings (length program.files) start.warnings }
+    requires may { MayRead F.Folder folder.old (LooksFor paths.now (AnyAsks setting.tool program.tokens)) }
     ensures compiled { IfSome (F.files folder.old) (λ files. (s : State) → IsProgram program s → Yields (seen compiled_of result) (HasWork (around setting paths.now files) (work_of start) s)) }
     ensures warned { IfOk result (λ compiled. AreWarnings (length compiled.files) compiled.work.warnings) }
     ensures sayable { OnRefusal result IsSayable }

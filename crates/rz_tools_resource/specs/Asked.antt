@@ -1,6 +1,6 @@
 -- Which files items name, each by its name in Mac Roman. (MPW Rez.)
-use Rattle.std.specs.Prelude.{◌⊎◌, ℕ, List, [], ◌∷◌}
-use Rattle.rz_stmt_items.specs.Item.{more, none, Braced, Named, Number, PlainItem, PlainItems, Text}
+use Rattle.std.specs.Prelude.{◌⊎◌, ℕ, List}
+use Rattle.rz_stmt_items.specs.Item.{items_of, more, none, Braced, Named, Number, PlainItem, PlainItems, Text}
 use Rattle.rz_tools_values.specs.Asked.{TextsAsk}
 
 -- a text of the item names the file, or a text of the items within it
@@ -17,5 +17,4 @@ abbrev mutual
 
 -- one of the items names it
 abbrev pub ItemsAsk : List PlainItem → List ℕ → Type 0
-ItemsAsk [] own = ⊥
-ItemsAsk (item ∷ items) own = ItemAsks item own ⊎ ItemsAsk items own
+ItemsAsk items = InnerAsk (items_of items)

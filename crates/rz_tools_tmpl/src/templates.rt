@@ -5,6 +5,7 @@ ghost use Rattle.std.specs.FinMap as finite;
 ghost use Rattle.rz_core.specs.Message.{IsNameable};
 ghost use Rattle.rz_core.specs.Stop.{seen, IsReadFault, OnRefusal, Yields};
 ghost use Rattle.rz_bridge_files.specs.Contents.{fork_in};
+ghost use Rattle.rz_folder.specs.MayRead.{IsIt, MayRead};
 ghost use Rattle.rz_folder.specs.OnlyReads.{OnlyReads};
 ghost use Rattle.rz_types_table.specs.TypeTable.{table_of};
 ghost use Rattle.rz_tools_tmpl.specs.Templates.{TypesAt, TypesIn, TypesOf};
@@ -34,6 +35,7 @@ pub fn read_templates<F: Folder>(
     folder: &mut F,
     name: Option<&str>,
 ) -> Result<TypeTable, Halt<Fault>>
+    requires { MayRead F.Folder folder.old (IsIt (option_map (λ name. name.now) name)) }
     ensures types { IfSome (F.files folder.old) (λ files. Yields (seen table_of result) (TypesOf (option_map (λ name. name.now) name.entry) files)) }
     ensures nameable { (files : ℕ) → OnRefusal result (IsNameable files) }
     ensures reads { OnlyReads F.Folder folder.old folder.new (IsReadFault result) }
@@ -50,6 +52,7 @@ fn templates_at<F: Folder>(
     folder: &mut F,
     name: &str,
 ) -> Result<TypeTable, Halt<Fault>>
+    requires { F.may_read folder.old name.now }
     ensures types { IfSome (F.files folder.old) (λ files. Yields (seen table_of result) (TypesAt name.now (finite.get files name.now))) }
     ensures nameable { (files : ℕ) → OnRefusal result (IsNameable files) }
     ensures reads { OnlyReads F.Folder folder.old folder.new (IsReadFault result) }

@@ -2,6 +2,8 @@
 
 ghost use Rattle.std.specs.Prelude.{◌≡◌, ◌<◌, ◌^◌, ℕ, [], length, IfOk, IfSome, None, Some};
 ghost use Rattle.rz_core.specs.Message.{IsNameable};
+ghost use Rattle.rz_folder.specs.MayRead.{IsOneOf, MayRead};
+ghost use Rattle.rz_folder_paths.specs.Names.{names_of, utf8_name};
 ghost use Rattle.rz_folder.specs.OnlyReads.{OnlyReads};
 ghost use Rattle.rz_core.specs.Stop.{IsReadFault, OnRefusal, Yields, halted};
 ghost use Rattle.rz_bridge_files.specs.Contents.{file_in};
@@ -23,6 +25,7 @@ pub fn file_named<F: Folder>(
     name: &[u8],
     mark: Mark,
 ) -> Result<Bytes, Halt<Fault>>
+    requires { MayRead F.Folder folder.old (IsOneOf (names_of paths.now (utf8_name name.now))) }
     ensures read { IfSome (F.files folder.old) (λ files. Yields result (λ answer. answer ≡ file_named paths.now files mark name.now)) }
     ensures short { IfOk result (λ bytes. length bytes < 2 ^ 32) }
     ensures nameable { (files : ℕ) → mark.file < files → OnRefusal result (IsNameable files) }
@@ -52,6 +55,7 @@ pub fn file_of_name<F: Folder>(
     name: &[u8],
     mark: Mark,
 ) -> Result<MacFile, Halt<Fault>>
+    requires { MayRead F.Folder folder.old (IsOneOf (names_of paths.now (utf8_name name.now))) }
     ensures file { IfSome (F.files folder.old) (λ files. Yields result (λ answer. answer ≡ file_of_name paths.now files mark name.now)) }
     ensures res_fork { IfOk result (λ file. length file.res_fork < 2 ^ 32) }
     ensures nameable { (files : ℕ) → mark.file < files → OnRefusal result (IsNameable files) }

@@ -3,6 +3,8 @@
 ghost use Rattle.std.specs.Prelude.{◌≡◌, ◌<◌, ◌^◌, ℕ, length, None, Some, IfOk, IfSome};
 ghost use Rattle.rz_core.specs.Message.{IsNameable};
 ghost use Rattle.rz_core.specs.Stop.{Gives, OnFault, IsReadFault, OnRefusal, Yields, left, Meets};
+ghost use Rattle.rz_folder.specs.MayRead.{IsOneOf, MayRead};
+ghost use Rattle.rz_folder_paths.specs.Names.{names_of, utf8_name};
 ghost use Rattle.rz_folder.specs.OnlyReads.{OnlyReads};
 ghost use Rattle.rz_stmt_lists.specs.Include.{include_of, part_of};
 ghost use Rattle.rz_set.specs.After.{HasShortName};
@@ -51,6 +53,7 @@ pub fn include_resources<F: Folder>(
     setting: Setting,
     resources: &mut ResSet,
 ) -> Result<(), Halt<Fault>>
+    requires { MayRead F.Folder folder.old (IsOneOf (names_of paths.now (utf8_name (include_of stmt.now).file))) }
     ensures included { IfSome (F.files folder.old) (λ files.
         Yields (left resources.new result) (λ answer. answer ≡ list_including (around setting paths.now files) mark resources.old (include_of stmt.now))) }
     ensures nameable { (files : ℕ) → mark.file < files → OnRefusal result (IsNameable files) }
