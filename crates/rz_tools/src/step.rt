@@ -25,7 +25,7 @@ use rz_lex::Tokens;
 use rz_pre::Tool;
 use rz_pre_tokens::TokenStore;
 use rz_set::ResSet;
-use rz_stmt::{Span, Stmt, next_statement, parse};
+use rz_stmt::{Span, Stmt, all_tokens_are_statements, next_statement, one_cutting, parse};
 use rz_tools_resource::{resource_of, resource_of_items};
 use rz_tools_values::Setting;
 use rz_tools_work::{Work, declare_type, list_step, number_tool_words, put};
@@ -57,6 +57,8 @@ pub fn compile_statements<F: Folder>(
     ensures warned { (files : ℕ) → AreWithin files tokens → AreWarnings files work.old.warnings → AreWarnings files work.new.warnings }
     ensures reads { OnlyReads F.Folder folder.old folder.new (IsReadFault result) }
 {
+    all_tokens_are_statements();
+    one_cutting();
     let mut reader = tokens.into_reader();
     while let Some(statement) = next_statement(alloc, &mut reader)? {
         match step(alloc, folder, paths, statement, setting, work) {

@@ -21,15 +21,15 @@ use Rattle.rz_tools_work.proofs.lists.list_step.Goals as goal
 
 pub include_resources-requires : goal.include_resources-requires
 include_resources-requires g c =
-    may_look g.F.Folder c.args.paths.now (ListAsks (Includes (include_of c.in-Include.stmt.now)))
+    may_look g.F.Folder c.args.paths.now (ListAsks (Includes (include_of c.in-Include.stmt)))
     (subst (λ (stmt : ListStmt). MayRead g.F.Folder c.args.folder.now (LooksFor c.args.paths.now (ListAsks (list_of stmt)))) c.in-Include.is c.requires)
-    (include_of c.in-Include.stmt.now).file refl
+    (include_of c.in-Include.stmt).file refl
 
 pub read_resource-requires : goal.read_resource-requires
 read_resource-requires g c =
-    may_look g.F.Folder c.args.paths.now (ListAsks (Reads (read_of c.in-Read.stmt.now)))
+    may_look g.F.Folder c.args.paths.now (ListAsks (Reads (read_of c.in-Read.stmt)))
     (subst (λ (stmt : ListStmt). MayRead g.F.Folder c.args.folder.now (LooksFor c.args.paths.now (ListAsks (list_of stmt)))) c.in-Read.is c.requires)
-    (read_of c.in-Read.stmt.now).file refl
+    (read_of c.in-Read.stmt).file refl
 
 pub returns-in-Include-clause-stepped : goal.returns-in-Include-clause-stepped
 returns-in-Include-clause-stepped g c =
