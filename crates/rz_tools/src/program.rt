@@ -44,6 +44,9 @@ use std::alloc::Global;
 /// one has a text and may not be changed. After `restring` the row of each resource has the catalogue's texts in
 /// place of its own, counts and labels are solved again, and all else of the resources stays. What `err` does changes
 /// no outcome. NoMemory may come in place of any other answer.
+///
+/// No name is read but those that the words ask for, as `specs/Asked` says; these the folder has to allow. A folder that
+/// doesn't tell its files has to allow all names.
 pub fn run<F: Folder, O: Sink, E: Sink>(
     alloc: Global,
     words: &[String],
