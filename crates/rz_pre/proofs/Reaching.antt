@@ -47,7 +47,7 @@ lines_go_on file text here first rest are stands = λ line has. are line (line_l
 abbrev pub IsOpened : Files → List (List ℕ) → List ℕ → Type 0
 IsOpened files names text = (name : List ℕ) × IsOneOf names name × HoldsText files name text
 
-abbrev given : List ℕ × State → Result (List ℕ × State) Failure
+abbrev pub given : List ℕ × State → Result (List ℕ × State) Failure
 given opened = Ok opened
 
 same_given : (one other : List ℕ × State) → given one ≡ given other → one ≡ other

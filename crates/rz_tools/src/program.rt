@@ -45,8 +45,8 @@ use std::alloc::Global;
 /// place of its own, counts and labels are solved again, and all else of the resources stays. What `err` does changes
 /// no outcome. NoMemory may come in place of any other answer.
 ///
-/// No name is read but those that the words ask for, as `specs/Asked` says; these the folder has to allow. A folder that
-/// doesn't tell its files has to allow all names.
+/// No name is read but those that the words ask for, as `specs/Asked` says; the folder has to allow these. A folder
+/// that doesn't tell its files has to allow all names.
 pub fn run<F: Folder, O: Sink, E: Sink>(
     alloc: Global,
     words: &[String],
