@@ -63,8 +63,8 @@ opened_under files names missing s t text opens = by (file_of files names) refl 
     by None none opens = absurd (not_given (text, t) (record { fault = missing; files = s.files }) opens)
     by (Some (name, source)) is (inl (held, has, same)) =
         let under = found_under files names name source is in
-        let as : held ≡ text = sym (ap (λ (p : List ℕ × State). p.0) (same_given (text, t) (held, with_file name s) same)) in
-        (name, under.0, (source, under.1, subst (λ (l : List ℕ). IsTextOf source l) as has))
+        let same_text : held ≡ text = sym (ap (λ (p : List ℕ × State). p.0) (same_given (text, t) (held, with_file name s) same)) in
+        (name, under.0, (source, under.1, subst (λ (l : List ℕ). IsTextOf source l) same_text has))
     by (Some (name, source)) is (inr (failure, has, same)) = absurd (not_given (text, t) failure same)
 
 -- the same of a file that a line includes

@@ -1,6 +1,6 @@
 -- Which files a command may read: those that its words name, those that its sources include, and those that their statements
 -- name. (MPW Rez.)
-use Rattle.std.specs.Prelude.{◌≡◌, ◌⊎◌, ℕ, true, List, [], ◌∷◌, ◌++◌, map, Ok}
+use Rattle.std.specs.Prelude.{◌≡◌, ◌⊎◌, ℕ, true, List, ◌∷◌, ◌++◌, map, Ok}
 use Rattle.rz_folder.specs.Folder.{Files}
 use Rattle.rz_folder.specs.MayRead.{IsIt, IsOneOf}
 use Rattle.rz_folder_paths.specs.Names.{LooksFor}
@@ -56,12 +56,9 @@ SourcesAsk tool sources paths defs AskedAfter files name =
     IsReached paths files (IsOneOf sources) name
     ⊎ ((program : State) × ProgramGoes files tool sources paths defs (Ok program) × AskedAfter program.tokens name)
 
--- the file of templates, and the files that the statements of type files name, which are none
-abbrev pub TypesAskAfter : TypesAsked → List Token → List ℕ → Type 0
-TypesAskAfter asked tokens name = IsIt asked.tmpl name ⊎ LooksFor [] (AnyAsks tools.DeRez tokens) name
-
+-- the type files, what they include, and the file of templates; no statement that DeRez does names a file
 abbrev pub TypesAsk : TypesAsked → Files → List ℕ → Type 0
-TypesAsk asked = SourcesAsk tools.DeRez asked.files asked.paths asked.defs (TypesAskAfter asked)
+TypesAsk asked = SourcesAsk tools.DeRez asked.files asked.paths asked.defs (λ tokens. IsIt asked.tmpl)
 
 -- Commands.
 

@@ -13,11 +13,7 @@ use Rattle.rz_tools_answer.specs.Made.{IsSayable}
 use Rattle.rz_tools_answer.specs.declared.made.Failing.{Failing}
 use Rattle.rz_tools.proofs.Compiling.{still_told}
 use Rattle.rz_tools.proofs.Sourced.{begun_made, not_begun, unsaid_read, unsaid_sayable}
-use Rattle.rz_folder.specs.MayRead.{MayRead}
-use Rattle.rz_folder_paths.specs.Names.{LooksFor}
-use Rattle.rz_lex.specs.declared.token.Token.{Token}
-use Rattle.rz_pre.specs.declared.condition.Tool.TheVariants.{DeRez}
-use Rattle.rz_tools.specs.Asked.{AnyAsks}
+use Rattle.rz_tools.proofs.Asking.{none_asked}
 use Rattle.rz_tools.proofs.types.compile_under.Goals as goal
 use Rattle.rz_tools_tmpl.specs.Templates.{TypesOf}
 use Rattle.rz_tools_values.specs.Around.{around}
@@ -25,13 +21,8 @@ use Rattle.rz_tools_work.specs.Work.{begun, Work}
 use Rattle.rz_types_table.specs.TypeTable.{table_of}
 use Rattle.rz_types_table.specs.declared.table.TypeTable.{TypeTable}
 
-pub read_templates-requires : goal.read_templates-requires
-read_templates-requires g c = λ name is. c.requires.may name (inl is)
-
 pub compile_program-requires-clause-may : goal.compile_program-requires-clause-may
-compile_program-requires-clause-may g c =
-    subst (λ (paths : List (List ℕ)). MayRead g.F.Folder c.read_templates.new.folder (LooksFor paths (AnyAsks DeRez c.args.program.tokens))) (sym c.new-paths.ensures)
-    (λ name is. c.in-Ok.ensures.reads.allowed name (c.requires.may name (inr is)))
+compile_program-requires-clause-may g c = λ name asks. absurd (none_asked c.new-paths.result c.args.program.tokens name asks)
 
 pub returns-in_ok-start-in-Ok-clause-compiled : goal.returns-in_ok-start-in-Ok-clause-compiled
 returns-in_ok-start-in-Ok-clause-compiled g c =
