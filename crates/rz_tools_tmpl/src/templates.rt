@@ -21,7 +21,7 @@ use std::alloc::Global;
 /// The types that the 'TMPL' resources of the file of this name declare, in map order; none where no file is named. The form
 /// of the file is found. The name of such a resource is the type that it declares, for any id; one whose name isn't four
 /// bytes declares nothing, and so does one that has an entry of an unknown code (452), as ResEdit has more codes. Of several
-/// for one type the last counts. No file changes.
+/// for one type the last counts. No file changes, and no other file is read.
 ///
 /// Refused, without a mark, with 101 where no file has the name (kept: the name), then with the first rule that the form and
 /// then the fork of the file break, as [`file_in`] and [`admit_fork`] say, and then with the first fault of the templates in

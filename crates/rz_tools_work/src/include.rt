@@ -43,7 +43,8 @@ pub struct Asked {
 /// path (kept: the name); the first rule that the form or the fork breaks; of the ids of the pick 211, 215 and 204; 218
 /// for a pick by id or name that chooses none; the faults of the head, as `new_head` says; and 219 for a protected
 /// resource that would be replaced, where protected ones aren't given up (kept: its type and id). Up to there no
-/// resource is copied, but for the name of a picked one while its head is computed. No file changes. (MPW Rez.)
+/// resource is copied, but for the name of a picked one while its head is computed. No file changes, and no other file is
+/// read. (MPW Rez.)
 pub fn include_resources<F: Folder>(
     alloc: Global,
     folder: &mut F,
