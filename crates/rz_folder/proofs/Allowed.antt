@@ -1,18 +1,18 @@
 -- What a caller may read, a call may read.
-use Rattle.std.proofs.Common.{◌≡◌, ℕ, List, Option, Some, None, refl, subst, sym}
+use Rattle.std.proofs.Common.{◌≡◌, ℕ, List, Option, Some, None, refl, subst}
 use Rattle.rz_folder.specs.Folder.{Files}
-use Rattle.rz_folder.specs.MayRead.{ByFiles, IsOneOf, MayRead, MayReadOf}
+use Rattle.rz_folder.specs.MayRead.{ByFiles, MayRead, MayReadOf}
 use Rattle.rz_folder.specs.OnlyReads.{OnlyReads}
 use Rattle.rz_folder.specs.declared.folder.Folder.{Ghosts}
 
 -- some names are among others, where that is so of the files that a folder tells
-pub by_files : (told : Option Files) (Names Others : Files → List ℕ → Type 0)
+by_files : (told : Option Files) (Names Others : Files → List ℕ → Type 0)
     → ((files : Files) → told ≡ Some files → (name : List ℕ) → Names files name → Others files name) → (name : List ℕ) → ByFiles Names told name → ByFiles Others told name
 by_files None Names Others so name is = tt
 by_files (Some files) Names Others so name is = so files refl name is
 
 -- names that don't depend on files
-pub by_no_files : (told : Option Files) (Names : List ℕ → Type 0) → (name : List ℕ) → Names name → ByFiles (λ files. Names) told name
+by_no_files : (told : Option Files) (Names : List ℕ → Type 0) → (name : List ℕ) → Names name → ByFiles (λ files. Names) told name
 by_no_files None Names name is = tt
 by_no_files (Some files) Names name is = is
 

@@ -1,5 +1,5 @@
 -- What may be looked for under its names.
-use Rattle.std.proofs.Common.{◌≡◌, ℕ, List, refl}
+use Rattle.std.proofs.Common.{ℕ, List}
 use Rattle.rz_folder.specs.MayRead.{IsOneOf, MayRead}
 use Rattle.rz_folder.specs.declared.folder.Folder.{Ghosts}
 use Rattle.rz_folder_paths.specs.Names.{names_of, utf8_name, LooksFor}
@@ -12,7 +12,3 @@ module _ {F : Type 0} (g : Ghosts F) {folder : F} (paths : List (List ℕ)) wher
   -- the files whose names are of a smaller set
   pub may_look_fewer : (Owns Fewer : List ℕ → Type 0) → MayRead g folder (LooksFor paths Owns) → ((own : List ℕ) → Fewer own → Owns own) → MayRead g folder (LooksFor paths Fewer)
   may_look_fewer Owns Fewer may so name (own, is, one) = may name (own, so own is, one)
-
-  -- a file with this name alone
-  pub may_look_one : (own : List ℕ) → MayRead g folder (LooksFor paths (λ other. other ≡ own)) → MayRead g folder (IsOneOf (names_of paths (utf8_name own)))
-  may_look_one own may = may_look (λ other. other ≡ own) may own refl

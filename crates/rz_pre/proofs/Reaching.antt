@@ -30,7 +30,7 @@ line_here : (file : ℕ) (here : List Placed) (line : RawLine) (rest : List Plac
 line_here file here line rest stands (lines, ending, has) = ([], lines, ending, stands lines ending has)
 
 -- a line of the rest
-pub line_later : (file : ℕ) (here : List Placed) (first : RawLine) (rest : List Placed) → StandsBefore file here first rest
+line_later : (file : ℕ) (here : List Placed) (first : RawLine) (rest : List Placed) → StandsBefore file here first rest
     → (line : RawLine) → HasLine file rest line → HasLine file here line
 line_later file here first rest stands line (before, after, ending, has) = (first ∷ before, after, ending, stands (before ++ line ∷ after) ending has)
 

@@ -1,14 +1,13 @@
 -- What a part of a program asks for, the whole asks for.
 use Rattle.std.proofs.Common.{◌≡◌, ℕ, List, [], ◌∷◌, ◌++◌, map, Some, Ok, IfSome, inr, ap, subst, ◌∙◌}
 use Rattle.rz_folder.proofs.Allowed.{may_read_these}
-use Rattle.rz_folder.specs.Folder.{Files}
 use Rattle.rz_folder.specs.MayRead.{MayRead, MayReadOf}
 use Rattle.rz_folder.specs.OnlyReads.{OnlyReads}
 use Rattle.rz_folder.specs.declared.folder.Folder.{Ghosts}
 use Rattle.rz_folder_paths.specs.Names.{LooksFor}
 use Rattle.rz_lex.specs.declared.token.Token.{Token}
 use Rattle.rz_pre.proofs.Going.{at_some}
-use Rattle.rz_pre.specs.Program.{ProgramGoes, State}
+use Rattle.rz_pre.specs.Program.{ProgramGoes}
 use Rattle.rz_pre.specs.Reading.{OfProgram}
 use Rattle.rz_pre.specs.declared.condition.Tool.{Tool}
 use Rattle.rz_pre.specs.declared.program.Def.{Def}
