@@ -5,7 +5,6 @@
 #![tactic(auto)]
 
 mod constant;
-mod copies;
 mod env;
 mod expr;
 mod keyword;
@@ -15,7 +14,6 @@ mod read;
 mod value;
 
 pub use constant::{ConstantEnv, constant_of, is_constant, read_constant};
-pub use copies::copy;
 pub use env::{Env, Key, predefined, value_outside};
 pub use expr::{BinaryOp, Expr, UnaryOp};
 pub use keyword::{is_keyword, keyword_in};
@@ -26,4 +24,4 @@ pub use rz_words::{
     attribute_word, attribute_words_are_spelled, bit_of, clearing_word, keyword_named, keyword_of,
     keywords_are_spelled, role_of, setting_word, spelling,
 };
-pub use value::{EvalFault, Unvalued, eval, reduced, signed, value_in};
+pub use value::{EvalFault, Unvalued, eval, signed, value_in};

@@ -185,7 +185,7 @@ pub fn signed(number: u32) -> i32
 
 /// A number, wrapped to 32 bits with a sign.
 #[tactic(auto, using(crate::proofs::Bits::reduced_again))]
-pub fn reduced(number: i128) -> i32
+fn reduced(number: i128) -> i32
     ensures { result ≡ reduced number }
 {
     signed((number.cast_unsigned() % 4_294_967_296) as u32)
