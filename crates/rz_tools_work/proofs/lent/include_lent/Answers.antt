@@ -1,14 +1,10 @@
-use Rattle.std.proofs.Common.{sym, subst}
+use Rattle.std.proofs.Common.{List, sym, subst}
 use Rattle.std.specs.Option.{option_copied}
-use Rattle.std.specs.Prelude.{List}
-use Rattle.rz_core.specs.declared.resource.Resource.{Resource}
 use Rattle.std.specs.declared.result.Result.{Result}
-use Rattle.rz_set.specs.declared.pick.SetFault.{SetFault}
+use Rattle.rz_core.specs.declared.resource.Resource.{Resource}
 use Rattle.rz_fork.specs.View.{lent}
 use Rattle.rz_set.specs.After.{Leaves}
-use Rattle.rz_set.specs.ResSet.{AreNamed}
-use Rattle.rz_set.specs.Wanted.{is_included}
-use Rattle.rz_set.proofs.Includes.{named_copies}
+use Rattle.rz_set.specs.declared.pick.SetFault.{SetFault}
 use Rattle.rz_tools_work.proofs.Lone.{lone_named, lone_put}
 use Rattle.rz_tools_work.proofs.lent.include_lent.Goals as goal
 
@@ -21,8 +17,3 @@ returns-in-Some c =
     subst (λ (answer : Result (List Resource) SetFault). Leaves c.args.resources.now answer c.include_one.result c.include_one.new.resources)
     (lone_put c.args.choice.now c.args.fork.now.list (option_copied c.args.head) c.args.over c.args.resources.now (lent c.in-Some.one)
     c.keys_differ.ensures (sym c.in-Some.ensures)) c.include_one.ensures
-
-pub put_each-requires : goal.put_each-requires
-put_each-requires c =
-    subst AreNamed (sym c.in_ok-news.ensures)
-    (named_copies (option_copied c.args.head) (is_included c.in-Ok.included) c.args.fork.now.list c.requires.head c.requires.named)
