@@ -1,4 +1,5 @@
 pub mod Joined
+pub mod Repeats
 pub mod Stepping
 pub mod Walking
 pub mod Walks

@@ -1,6 +1,7 @@
 //! The rules of fields and cases, and the check of a body. The rules are defined in `specs/Rules` of `rz_types`.
 
 ghost use Rattle.std.specs.Prelude.{IfOk, ◌≡◌, map, option_map, true};
+ghost use Rattle.std.specs.Str.{str_to_ascii_lowercase};
 ghost use Rattle.rz_types.specs.Template.{template_of};
 ghost use Rattle.rz_core.specs.Stop.{Gives, seen};
 ghost use Rattle.rz_core.specs.Lists.{or_else};
@@ -18,6 +19,7 @@ use rz_expr::constant_of;
 use rz_types::{Template, TypeFault, is_body_readable};
 use rz_types_fields::{Body, Case, CaseKey, Field, NumForm, TextField, may_be_size, takes_value};
 use std::alloc::Global;
+use std::collections::HashSet;
 
 /// The most units of a `fill`.
 const MOST_UNITS: i32 = 16_777_212;
@@ -45,7 +47,7 @@ const MOST_ROWS: i32 = 1_048_576;
 /// shape of a declaration: the width of a type that has its own, two or four fixed numbers of points, units that there
 /// are, arrays and switches at most 60 deep in one another, and so on. The walk goes as deep as these stand in one
 /// another. Each label and each array is looked for among those before it, and each name in an expression among those
-/// that it may name; so is each key among those of the cases before it. (MPW Rez.)
+/// that it may name; so is each key among those of the cases before it. Names of cases are looked up. (MPW Rez.)
 pub fn check(alloc: Global, body: Body) -> Result<Template, Stop<TypeFault>>
     requires { is_well_shaped (plain_body body) ≡ true }
     ensures { Gives (checked (plain_body body)) (seen template_of result) }
@@ -170,18 +172,26 @@ fn case_twice(alloc: Global, position: u64, cases: &[Case]) -> Result<Option<Typ
     }
 }
 
-/// The first case name that stands before it too.
+/// The first case name that stands before it too, in whatever case. It takes constant time on average for each case.
 fn repeated<'a>(alloc: Global, cases: &'a [Case]) -> Result<Option<&'a Word>, NoMemory>
     ensures { IfOk result (λ name. option_map (λ name. name.now) name ≡ repeated (case_names (plain_cases cases.now))) }
 {
-    let mut before = Vec::new(alloc);
+    let mut before = HashSet::new(alloc);
     for case in cases {
-        if is_among(case.name.bytes.as_slice(), &before) {
+        let name = lower_name(alloc, &case.name)?;
+        let is_new = before.insert(name)?;
+        if !is_new {
             return Ok(Some(&case.name));
         }
-        before.push(&case.name)?;
     }
     Ok(None)
+}
+
+/// The bytes of a name in lower case.
+fn lower_name(alloc: Global, name: &Word) -> Result<Vec<u8>, NoMemory>
+    ensures { IfOk result (λ lower. lower.items ≡ str_to_ascii_lowercase name.now.bytes) }
+{
+    Ok(name.bytes.as_slice().to_ascii_lowercase(alloc)?)
 }
 
 /// Whether a name is one of these, in whatever case.
