@@ -1,4 +1,5 @@
 pub mod Joined
+pub mod KeysAlike
 pub mod Repeats
 pub mod Stepping
 pub mod Walking

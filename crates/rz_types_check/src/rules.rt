@@ -7,11 +7,11 @@ ghost use Rattle.rz_core.specs.Stop.{Gives, seen};
 ghost use Rattle.rz_core.specs.Lists.{or_else};
 ghost use Rattle.rz_types_fields.specs.Field.{plain_body, plain_cases, plain_field, plain_text};
 ghost use Rattle.rz_types_fields.specs.Shape.{is_well_shaped};
-ghost use Rattle.rz_types.specs.Rules.{array_twice, bad_case, bad_place, bad_rows, bad_size, bad_width, case_names, checked, differ, has_other_place, has_other_width, has_same_bits, has_values, key_rule, label_twice, may_be_count, may_be_rows, may_be_width, name_fault, no_values, repeated, unknown_fault, unless, width_fault};
+ghost use Rattle.rz_types.specs.Rules.{array_twice, bad_case, bad_place, bad_rows, bad_size, bad_width, case_names, checked, has_values, label_twice, may_be_count, may_be_rows, may_be_width, name_fault, no_values, repeated, unknown_fault, unless, width_fault};
 ghost use Rattle.rz_types.specs.Walk.{is_among};
-ghost use Rattle.std.specs.List.{list_any};
 ghost use Rattle.rz_types_check.specs.Walked.{own_of};
 
+use crate::keys::{Keys, key_rule};
 use crate::names::Names;
 use crate::walk::check_fields;
 use rz_core::{Kept, NoMemory, Stop, Word};
@@ -47,7 +47,7 @@ const MOST_ROWS: i32 = 1_048_576;
 /// shape of a declaration: the width of a type that has its own, two or four fixed numbers of points, units that there
 /// are, arrays and switches at most 60 deep in one another, and so on. The walk goes as deep as these stand in one
 /// another. Each label and each array is looked for among those before it, and each name in an expression among those
-/// that it may name; so is each key among those of the cases before it. Names of cases are looked up. (MPW Rez.)
+/// that it may name; names and keys of cases are looked up. (MPW Rez.)
 pub fn check(alloc: Global, body: Body) -> Result<Template, Stop<TypeFault>>
     requires { is_well_shaped (plain_body body) ≡ true }
     ensures { Gives (checked (plain_body body)) (seen template_of result) }
@@ -212,77 +212,14 @@ pub fn broken_behind(
     position: u64,
     name: &Word,
     keys: &[CaseKey],
-    before: &[CaseKey],
+    before: &Keys,
 ) -> Result<Option<TypeFault>, NoMemory>
-    ensures { IfOk result (λ fault. fault ≡ bad_case position name.now keys.now before.now) }
+    ensures { IfOk result (λ fault. fault ≡ bad_case position name.now keys.now before.now.list.items) }
 {
     match key_rule(keys, before) {
         Some(number) => Ok(Some(name_fault(alloc, number, position, name)?)),
         None => Ok(None),
     }
-}
-
-/// The number of the first rule that the keys of a case break, after these.
-fn key_rule(keys: &[CaseKey], before: &[CaseKey]) -> Option<u16>
-    ensures { result ≡ key_rule keys.now before.now }
-{
-    let [key] = keys else {
-        return Some(233);
-    };
-    if has_other_width(key, before) {
-        Some(234)
-    } else if key.distance.is_none() || has_other_place(key, before) {
-        Some(235)
-    } else if has_same_bits(key, before) {
-        Some(236)
-    } else {
-        None
-    }
-}
-
-/// Whether one of the keys has another width.
-fn has_other_width(key: &CaseKey, before: &[CaseKey]) -> bool
-    ensures { result ≡ list_any (has_other_width key.now) before.now }
-{
-    for one in before {
-        if key.width != one.width {
-            return true;
-        }
-    }
-    false
-}
-
-/// Whether one of the keys stands at another distance.
-fn has_other_place(key: &CaseKey, before: &[CaseKey]) -> bool
-    ensures { result ≡ list_any (has_other_place key.now) before.now }
-{
-    for one in before {
-        if differ(key.distance, one.distance) {
-            return true;
-        }
-    }
-    false
-}
-
-fn differ(one: Option<u64>, other: Option<u64>) -> bool
-    ensures { result ≡ differ one other }
-{
-    match (one, other) {
-        (Some(one), Some(other)) => one != other,
-        _ => true,
-    }
-}
-
-/// Whether one of the keys has the same bits.
-fn has_same_bits(key: &CaseKey, before: &[CaseKey]) -> bool
-    ensures { result ≡ list_any (has_same_bits key.now) before.now }
-{
-    for one in before {
-        if key.bits == one.bits {
-            return true;
-        }
-    }
-    false
 }
 
 /// A fault of a field at this position that keeps a name.
