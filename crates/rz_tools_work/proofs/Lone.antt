@@ -1,7 +1,6 @@
 -- The resource that a pick by id or name finds is all that is included.
-use Rattle.std.proofs.Common.{◌≡◌, ◌<◌, ℕ, ℤ, Bool, true, false, if◌then◌else◌, List, [], ◌∷◌, ◌&&◌, filter, length, map, Option, Some, None, refl, sym, ap, subst, ◌∙◌, append-nil}
+use Rattle.std.proofs.Common.{◌≡◌, ◌<◌, ℕ, ℤ, Bool, true, false, if◌then◌else◌, List, [], ◌∷◌, length, map, Option, Some, None, sym, ap, subst, ◌∙◌, append-nil}
 use Rattle.std.specs.List.{flat_map}
-use Rattle.std.specs.declared.result.Result.{Result}
 use Rattle.rz_core.specs.Lists.{or_else, unless_fault}
 use Rattle.rz_core.specs.Resources.{put, put_all, KeysDiffer}
 use Rattle.rz_core.specs.declared.resource.OsType.{OsType}
@@ -14,7 +13,6 @@ use Rattle.rz_set.specs.declared.pick.Choice.TheVariants as choices
 use Rattle.rz_set.specs.declared.pick.Head.{Head}
 use Rattle.rz_set.specs.declared.pick.Pick.{Pick}
 use Rattle.rz_set.specs.declared.pick.Pick.TheVariants.{All, Id, Range, Name}
-use Rattle.rz_set.specs.declared.pick.SetFault.{SetFault}
 use Rattle.rz_set.proofs.Alone.{one_kept}
 use Rattle.rz_set.proofs.Choices.{there_id, there_name}
 use Rattle.rz_set.proofs.Includes.{named_under}
