@@ -1,17 +1,16 @@
 //! The rules of fields and cases, and the check of a body. The rules are defined in `specs/Rules` of `rz_types`.
 
 ghost use Rattle.std.specs.Prelude.{IfOk, ◌≡◌, map, option_map, true};
-ghost use Rattle.std.specs.Str.{str_to_ascii_lowercase};
 ghost use Rattle.rz_types.specs.Template.{template_of};
 ghost use Rattle.rz_core.specs.Stop.{Gives, seen};
 ghost use Rattle.rz_core.specs.Lists.{or_else};
 ghost use Rattle.rz_types_fields.specs.Field.{plain_body, plain_cases, plain_field, plain_text};
 ghost use Rattle.rz_types_fields.specs.Shape.{is_well_shaped};
 ghost use Rattle.rz_types.specs.Rules.{array_twice, bad_case, bad_place, bad_rows, bad_size, bad_width, case_names, checked, has_values, label_twice, may_be_count, may_be_rows, may_be_width, name_fault, no_values, repeated, unknown_fault, unless, width_fault};
-ghost use Rattle.rz_types.specs.Walk.{is_among};
 ghost use Rattle.rz_types_check.specs.Walked.{own_of};
 
 use crate::keys::{Keys, key_rule};
+use crate::name_list::NameList;
 use crate::names::Names;
 use crate::walk::check_fields;
 use rz_core::{Kept, NoMemory, Stop, Word};
@@ -19,7 +18,6 @@ use rz_expr::constant_of;
 use rz_types::{Template, TypeFault, is_body_readable};
 use rz_types_fields::{Body, Case, CaseKey, Field, NumForm, TextField, may_be_size, takes_value};
 use std::alloc::Global;
-use std::collections::HashSet;
 
 /// The most units of a `fill`.
 const MOST_UNITS: i32 = 16_777_212;
@@ -46,8 +44,8 @@ const MOST_ROWS: i32 = 1_048_576;
 /// index, and the size of a text comes before the formats in it. Names are the same in whatever case. The body has the
 /// shape of a declaration: the width of a type that has its own, two or four fixed numbers of points, units that there
 /// are, arrays and switches at most 60 deep in one another, and so on. The walk goes as deep as these stand in one
-/// another. Each label and each array is looked for among those before it, and each name in an expression among those
-/// that it may name; names and keys of cases are looked up. (MPW Rez.)
+/// another. Names and keys are looked up, among those before or those that may be named, each in constant time on
+/// average. (MPW Rez.)
 pub fn check(alloc: Global, body: Body) -> Result<Template, Stop<TypeFault>>
     requires { is_well_shaped (plain_body body) ≡ true }
     ensures { Gives (checked (plain_body body)) (seen template_of result) }
@@ -104,12 +102,12 @@ fn bad_place(
 fn label_twice(
     alloc: Global,
     position: u64,
-    before: &[&Word],
+    before: &NameList<'_>,
     name: &Word,
 ) -> Result<Option<TypeFault>, NoMemory>
-    ensures { IfOk result (λ fault. fault ≡ label_twice position (map (λ name. name.now) before.now) name.now) }
+    ensures { IfOk result (λ fault. fault ≡ label_twice position (map (λ name. name.now) before.now.list.items) name.now) }
 {
-    if is_among(name.bytes.as_slice(), before) {
+    if before.has(name)? {
         Ok(Some(name_fault(alloc, 230, position, name)?))
     } else {
         Ok(None)
@@ -120,15 +118,15 @@ fn label_twice(
 fn array_twice(
     alloc: Global,
     position: u64,
-    before: &[&Word],
+    before: &NameList<'_>,
     name: &Option<Word>,
 ) -> Result<Option<TypeFault>, NoMemory>
-    ensures { IfOk result (λ fault. fault ≡ array_twice position (map (λ name. name.now) before.now) name.now) }
+    ensures { IfOk result (λ fault. fault ≡ array_twice position (map (λ name. name.now) before.now.list.items) name.now) }
 {
     let Some(name) = name else {
         return Ok(None);
     };
-    if is_among(name.bytes.as_slice(), before) {
+    if before.has(name)? {
         Ok(Some(name_fault(alloc, 231, position, name)?))
     } else {
         Ok(None)
@@ -172,38 +170,18 @@ fn case_twice(alloc: Global, position: u64, cases: &[Case]) -> Result<Option<Typ
     }
 }
 
-/// The first case name that stands before it too, in whatever case. It takes constant time on average for each case.
+/// The first case name that stands before it too, in whatever case.
 fn repeated<'a>(alloc: Global, cases: &'a [Case]) -> Result<Option<&'a Word>, NoMemory>
     ensures { IfOk result (λ name. option_map (λ name. name.now) name ≡ repeated (case_names (plain_cases cases.now))) }
 {
-    let mut before = HashSet::new(alloc);
+    let mut before = NameList::new(alloc);
     for case in cases {
-        let name = lower_name(alloc, &case.name)?;
-        let is_new = before.insert(name)?;
-        if !is_new {
+        if before.has(&case.name)? {
             return Ok(Some(&case.name));
         }
+        before.push(&case.name)?;
     }
     Ok(None)
-}
-
-/// The bytes of a name in lower case.
-fn lower_name(alloc: Global, name: &Word) -> Result<Vec<u8>, NoMemory>
-    ensures { IfOk result (λ lower. lower.items ≡ str_to_ascii_lowercase name.now.bytes) }
-{
-    Ok(name.bytes.as_slice().to_ascii_lowercase(alloc)?)
-}
-
-/// Whether a name is one of these, in whatever case.
-pub fn is_among(name: &[u8], names: &[&Word]) -> bool
-    ensures { result ≡ is_among name.now (map (λ name. name.now) names.now) }
-{
-    for one in names {
-        if one.is(name) {
-            return true;
-        }
-    }
-    false
 }
 
 /// The first rule that a case of the switch at this position breaks, by its keys, after cases with those keys.
