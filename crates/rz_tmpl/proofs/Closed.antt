@@ -205,12 +205,13 @@ declared (suc left) k (list false row rest) kept ends = declared (suc left) (k +
 
 pub has_rows : (less : Bool) (n : ℕ) → has_key (list_key n) (rows_term less n) ≡ true
 has_rows true n = or_left _ _ (same_list n)
-has_rows false n = same_list n
+has_rows false n = or_left _ _ (same_list n)
 
 solves : (rest : PlainBody) (passed : Passed) (less : Bool) (n : ℕ) → declares rest (list_key n) ≡ true → is_number_read rest passed (Some (rows_term less n)) ≡ true
-solves rest passed false n is = or_right _ _ (and_three _ _ _ is (same_list n) (or_left (is_same_key (list_key n) (list_key n)) (is_known passed (list_key n)) (same_list n)))
+solves rest passed false n is =
+    or_right _ _ (or_left _ _ (and_three _ _ _ is (same_list n) (ap (λ (t : Bool). t && true) (or_left (is_same_key (list_key n) (list_key n)) (is_known passed (list_key n)) (same_list n)))))
 solves rest passed true n is =
-    or_right _ _ (or_left _ _ (and_three _ _ _ is (ap (λ (t : Bool). if t then t else false) (same_list n)) (ap (λ (t : Bool). t && true) (or_left (is_same_key (list_key n) (list_key n)) (is_known passed (list_key n)) (same_list n)))))
+    or_right _ _ (or_left _ _ (and_three _ _ _ is (ap (λ (t : Bool). if t || false then t else false) (same_list n)) (ap (λ (t : Bool). t && true) (or_left (is_same_key (list_key n) (list_key n)) (is_known passed (list_key n)) (same_list n)))))
 
 told_either : (met told near has : Bool) → near ≡ false → has ≡ true → (met || ((has && not (near || (met || told))) || told)) ≡ true
 told_either true told near has no_near is = refl

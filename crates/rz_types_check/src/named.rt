@@ -1,16 +1,17 @@
 //! Labels and arrays that expressions name and that aren't known there. They are defined in `specs/Rules` of `rz_types`.
 
-ghost use Rattle.std.specs.Prelude.{◌≡◌, IfOk, map, option_map};
+ghost use Rattle.std.specs.Prelude.{◌≡◌, not, IfOk, map, option_map};
 ghost use Rattle.rz_core.specs.Lists.{first_of};
 ghost use Rattle.rz_expr.specs.Term.{term_of};
 ghost use Rattle.rz_types_fields.specs.Field.{plain_field};
-ghost use Rattle.rz_types.specs.Rules.{not_among, unknown_in, unknown_name};
+ghost use Rattle.rz_types.specs.Rules.{is_named_there, unknown_in, unknown_name};
+ghost use Rattle.rz_types.specs.Walk.{is_among};
 ghost use Rattle.rz_types_check.specs.Walked.{own_of};
 
 use crate::names::Names;
 use crate::rules::is_among;
 use rz_core::{NoMemory, Word};
-use rz_expr::{Expr, predefined};
+use rz_expr::{Expr, Mention, MentionTest, first_mention, predefined};
 use rz_types_fields::{Field, expressions_of};
 use std::alloc::Global;
 
@@ -39,47 +40,42 @@ fn first_unknown<'a>(scope: &Names<'_>, exprs: &[&'a Expr]) -> Option<&'a Word>
     None
 }
 
+/// What isn't one of these.
+#[derive(Clone, Copy)]
+struct Unnamed<'a> {
+    scope: &'a Names<'a>,
+}
+
+impl MentionTest for Unnamed<'_> {
+    ghost test = { λ test mention. not (is_named_there (own_of test.scope.now) mention) };
+
+    fn passes(&self, mention: Mention<'_>) -> bool {
+        match mention {
+            Mention::Alone(name) => {
+                predefined(name).is_none() && !is_one_of(&self.scope.labels, name)
+            }
+            Mention::Indexed(name) => !is_one_of(&self.scope.indexed, name),
+            Mention::Counted(name) => !is_one_of(&self.scope.arrays, name),
+            Mention::Around(name) => !is_one_of(&self.scope.around, name),
+            Mention::WithBits(name) => !is_one_of(&self.scope.labels, name),
+            Mention::Fact(_) => false,
+        }
+    }
+}
+
 /// The first label or array that an expression names and that isn't one of these.
 fn unknown_name<'a>(scope: &Names<'_>, expr: &'a Expr) -> Option<&'a Word>
     ensures { option_map (λ name. name.now.bytes) result ≡ unknown_name (own_of scope.now) (term_of expr.now) }
 {
-    match expr {
-        Expr::Number(_) | Expr::Fact(_) => None,
-        Expr::Name(name) => {
-            if predefined(name).is_some() {
-                None
-            } else {
-                not_among(&scope.labels, name)
-            }
-        }
-        Expr::Indexed(name, index) => match not_among(&scope.indexed, name) {
-            Some(name) => Some(name),
-            None => unknown_name(scope, index),
-        },
-        Expr::Count(name) => not_among(&scope.arrays, name),
-        Expr::ArrayIndex(name) => not_among(&scope.around, name),
-        Expr::Unary(_, operand) => unknown_name(scope, operand),
-        Expr::Binary(_, one, other) => match unknown_name(scope, one) {
-            Some(name) => Some(name),
-            None => unknown_name(scope, other),
-        },
-        Expr::Bits(name, start, width) => match not_among(&scope.labels, name) {
-            Some(name) => Some(name),
-            None => match unknown_name(scope, start) {
-                Some(name) => Some(name),
-                None => unknown_name(scope, width),
-            },
-        },
+    match first_mention(expr, &Unnamed { scope }) {
+        Some(mention) => mention.name(),
+        None => None,
     }
 }
 
-/// The name, where it isn't one of these.
-fn not_among<'a>(names: &[&Word], name: &'a Word) -> Option<&'a Word>
-    ensures { option_map (λ name. name.now.bytes) result ≡ not_among (map (λ name. name.now) names.now) name.now.bytes }
+/// Whether a name is one of these.
+fn is_one_of(names: &[&Word], name: &Word) -> bool
+    ensures { result ≡ is_among name.now.bytes (map (λ name. name.now) names.now) }
 {
-    if is_among(name.bytes.as_slice(), names) {
-        None
-    } else {
-        Some(name)
-    }
+    is_among(name.bytes.as_slice(), names)
 }
