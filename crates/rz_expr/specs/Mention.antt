@@ -1,6 +1,8 @@
 -- What expressions mention: names, each by what is asked of it, and facts.
-use Rattle.std.specs.Prelude.{ℕ, List, [], ◌∷◌, ◌++◌, Option, Some, None}
-use Rattle.rz_expr.specs.Environment.{count_key, place_key, row_key, rows_key, Key}
+use Rattle.std.specs.Prelude.{ℕ, Bool, true, false, List, [], ◌∷◌, ◌++◌, Option, Some, None}
+use Rattle.std.specs.List.{list_any}
+use Rattle.std.specs.Option.{is_some}
+use Rattle.rz_expr.specs.Environment.{count_key, place_key, predefined, row_key, rows_key, Key}
 use Rattle.rz_expr.specs.Term.{BitsAt, Constant, FactOf, Indexed, Named, OfOne, OfTwo, RowNumber, RowsOf, Term}
 use Rattle.rz_words.specs.declared.words.FactWord.{FactWord}
 
@@ -25,6 +27,19 @@ mentions (BitsAt name start width) = with_bits name ∷ (mentions start ++ menti
 mentions (FactOf which) = fact which ∷ []
 mentions (OfOne op operand) = mentions operand
 mentions (OfTwo op left right) = mentions left ++ mentions right
+
+-- `true` and `false`, which are names in every expression
+abbrev pub is_true_or_false : Mention → Bool
+is_true_or_false (alone name) = is_some (predefined name)
+is_true_or_false other = false
+
+abbrev pub is_name : Mention → Bool
+is_name (fact which) = false
+is_name other = true
+
+-- a name stands in an expression
+abbrev pub has_names : Term → Bool
+has_names term = list_any is_name (mentions term)
 
 -- the name, as it is written
 abbrev pub name_mentioned : Mention → Option (List ℕ)

@@ -1,5 +1,5 @@
 -- What a count stores, and how many rows that tells.
-use Rattle.std.proofs.Common.{◌≡◌, ℕ, zero, suc, ◌+◌, ◌%◌, ◌^◌, ◌≤◌, ℤ, pos, negsuc, Bool, true, false, Option, Some, None, Ok, refl, sym, ap, subst, ◌∙◌, arith}
+use Rattle.std.proofs.Common.{◌≡◌, ℕ, zero, suc, ◌+◌, ◌%◌, ◌^◌, ◌≤◌, ℤ, pos, negsuc, Bool, true, false, ◌||◌, Option, Some, None, Ok, refl, sym, ap, subst, ◌∙◌, arith}
 use Rattle.std.specs.Prelude.{◌-ℤ◌, ◌+ℤ◌, nat_le, if◌then◌else◌, option_and_then, option_map}
 use Rattle.std.specs.Result.{result_ok}
 use Rattle.std.specs.Int.{cast_unsigned, int_wrap, w32, w64}
