@@ -18,7 +18,7 @@ use Rattle.rz_types_fields.specs.declared.field.TextForm.{TextForm}
 use Rattle.rz_types_fields.specs.declared.tree.Tree.{Tree}
 use Rattle.rz_types_fields.specs.declared.tree.Tree.TheVariants as trees
 use Rattle.rz_types_fields.specs.Field.{case_and, field_and, no_cases, no_fields, takes_value, Align, Array, Fill, Label, Number, PlainBody, PlainCases, PlainField, Points, Switch, Text}
-use Rattle.rz_types_fields.specs.Known.{names_inside}
+use Rattle.rz_types_fields.specs.Front.{names_inside}
 use Rattle.rz_types_fields.specs.Laid.{apart, array_laid, body_laid, case_laid, closing, counted, enter, entered, field_laid, fill, first_value, in_order, laid, lay, leave, line_in, nothing_laid, other_values, outside_of, pieces_laid, row_laid, rows_apart, rows_in, rows_laid, takes_one, then_laid, with_places, Draft, LateNumber, Refusal}
 use Rattle.rz_types_fields.specs.Passed.{at_field, at_front, behind, behind_piece, declares, gives_key, gives_rows, nothing_passed, outside, Names, Passed}
 use Rattle.rz_types_fields.specs.Piece.{fixed_integer, free_integer, integers, pieces_of, Filler, OneNumber, OneText, Piece, Place, Zeros}

@@ -6,7 +6,7 @@ use Rattle.rz_expr.specs.Environment.{count_of, place_in, place_of, rows_of, Env
 use Rattle.rz_types_fields.proofs.RowKeys.{placed_as_counted}
 use Rattle.rz_types_fields.specs.declared.tree.Tree.{Tree}
 use Rattle.rz_types_fields.specs.Field.{PlainBody}
-use Rattle.rz_types_fields.specs.Known.{names_inside}
+use Rattle.rz_types_fields.specs.Front.{names_inside}
 use Rattle.rz_types_fields.specs.Laid.{enter, entered, leave, outside_of, Draft}
 use Rattle.rz_types_fields.specs.Passed.{declares, has_label, Names, Passed}
 use Rattle.rz_types_fields.specs.Spells.{HasPlace, Within}

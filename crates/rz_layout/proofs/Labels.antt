@@ -13,7 +13,7 @@ use Rattle.rz_expr.specs.Term.{Term}
 use Rattle.rz_types_fields.proofs.RowKeys.{placed_as_counted, undeclared as around_undeclared}
 use Rattle.rz_types_fields.specs.declared.tree.Tree.{Tree}
 use Rattle.rz_types_fields.specs.Field.{field_and, no_fields, takes_value, Align, Array, Fill, Label, Number, PlainBody, PlainField, Points, Switch, Text}
-use Rattle.rz_types_fields.specs.Known.{names_inside, stated_in, stated_value}
+use Rattle.rz_types_fields.specs.Front.{names_inside, stated_in, stated_value}
 use Rattle.rz_types_fields.specs.Laid.{counted, entered, first_value, met_in, other_values, placed, rows_in, with_field}
 use Rattle.rz_types_fields.specs.Passed.{behind, behind_piece, behind_pieces, declares, gives_count, gives_key, gives_rows, has_label, is_label, stands_at, told_by, Names, Passed}
 use Rattle.rz_types_fields.specs.Piece.{pieces_of, Filler, OneNumber, OneText, Piece, Place, Zeros}
