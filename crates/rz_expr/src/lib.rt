@@ -9,6 +9,7 @@ mod env;
 mod expr;
 mod keyword;
 mod laws;
+mod mention;
 mod operators;
 mod read;
 mod value;
@@ -18,6 +19,7 @@ pub use env::{Env, Key, predefined, value_outside};
 pub use expr::{BinaryOp, Expr, UnaryOp};
 pub use keyword::{is_keyword, keyword_in};
 pub use laws::{expressions_are_decided, faults_stay, one_expression, values_stay};
+pub use mention::{Mention, MentionTest, first_mention};
 pub use read::{ReadExpr, read_expr, read_whole};
 pub use rz_words::{
     ATTRIBUTES, Attribute, AttributeWord, FactWord, Function, Keyword, Role, TextWord,

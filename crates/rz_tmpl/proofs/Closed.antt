@@ -208,12 +208,13 @@ declared (suc left) k (list Uncounted row rest) kept ends = declared (suc left) 
 
 pub has_rows : (less : CountForm) (n : ℕ) → has_key (list_key n) (rows_term less n) ≡ true
 has_rows LessOne n = or_left _ _ (same_list n)
-has_rows Rows n = same_list n
+has_rows Rows n = or_left _ _ (same_list n)
 
 solves : (rest : PlainBody) (passed : Passed) (less : CountForm) (n : ℕ) → declares rest (list_key n) ≡ true → is_number_read rest passed (Some (rows_term less n)) ≡ true
-solves rest passed Rows n is = or_right _ _ (and_three _ _ _ is (same_list n) (or_left (is_same_key (list_key n) (list_key n)) (is_known passed (list_key n)) (same_list n)))
+solves rest passed Rows n is =
+    or_right _ _ (or_left _ _ (and_three _ _ _ is (same_list n) (ap (λ (t : Bool). t && true) (or_left (is_same_key (list_key n) (list_key n)) (is_known passed (list_key n)) (same_list n)))))
 solves rest passed LessOne n is =
-    or_right _ _ (or_left _ _ (and_three _ _ _ is (ap (λ (t : Bool). if t then t else false) (same_list n)) (ap (λ (t : Bool). t && true) (or_left (is_same_key (list_key n) (list_key n)) (is_known passed (list_key n)) (same_list n)))))
+    or_right _ _ (or_left _ _ (and_three _ _ _ is (ap (λ (t : Bool). if t || false then t else false) (same_list n)) (ap (λ (t : Bool). t && true) (or_left (is_same_key (list_key n) (list_key n)) (is_known passed (list_key n)) (same_list n)))))
 
 told_either : (met told near has : Bool) → near ≡ false → has ≡ true → (met || ((has && not (near || (met || told))) || told)) ≡ true
 told_either true told near has no_near is = refl

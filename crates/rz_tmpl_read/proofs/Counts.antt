@@ -1,5 +1,5 @@
 -- What a count stores, and how many rows that tells.
-use Rattle.std.proofs.Common.{◌≡◌, ℕ, zero, suc, ◌+◌, ◌%◌, ◌^◌, ◌≤◌, ℤ, pos, negsuc, Bool, true, false, Option, Some, None, Ok, refl, sym, ap, subst, ◌∙◌, arith}
+use Rattle.std.proofs.Common.{◌≡◌, ℕ, zero, suc, ◌+◌, ◌%◌, ◌^◌, ◌≤◌, ℤ, pos, negsuc, Bool, true, false, ◌||◌, Option, Some, None, Ok, refl, sym, ap, subst, ◌∙◌, arith}
 use Rattle.std.specs.Prelude.{◌-ℤ◌, ◌+ℤ◌, nat_le, if◌then◌else◌, option_and_then, option_map}
 use Rattle.std.specs.Result.{result_ok}
 use Rattle.std.specs.Int.{cast_unsigned, int_wrap, w32, w64}
@@ -75,7 +75,7 @@ pub few_rows : (less : CountForm) (n rows stored : ℕ) (known : Key → Bool) (
     → SolvesBack known 16 sight (rows_term less n) stored → rows ≤ 65535
 few_rows Rows n rows stored known sight unknown given solves =
     below_all (known (list_key n)) (solve (list_key n) sight (rows_term Rows n) (pos stored)) rows unknown
-    (subst (λ (o : Option ℤ). IsSolvedTo (known (list_key n)) (solved_count 16 (list_key n) sight (rows_term Rows n) stored) o) given solves)
+    (subst (λ (o : Option ℤ). IsSolvedTo (known (list_key n)) (solved_count 16 (list_key n) sight (rows_term Rows n) stored) o) given solves.0)
 few_rows LessOne n rows stored known sight unknown given solves =
     below_all (known (list_key n)) (solve (list_key n) sight (rows_term LessOne n) (pos stored)) rows unknown
     (subst (λ (o : Option ℤ). IsSolvedTo (known (list_key n)) (solved_count 16 (list_key n) sight (rows_term LessOne n) stored) o) given solves.0)
@@ -101,11 +101,11 @@ solved_is LessOne n rows sight few =
     let left = solve (list_key n) sight (rows_term Rows n) in
     let other : Option ℤ = option_and_then (λ side. option_and_then (solve (list_key n) sight (Constant (pos 1))) (option_and_then in_64_bits (undo_right Minus side (pos stored))))
     (result_ok (value_of (rows_term Rows n) sight)) in
-    ap (λ (t : Bool). option_map told_count (if t then option_and_then left (in_64_bits (pos stored +ℤ pos 1)) else other)) (same_list n)
+    ap (λ (t : Bool). option_map told_count (if t || false then option_and_then left (in_64_bits (pos stored +ℤ pos 1)) else other)) (same_list n)
     ∙ ap (λ (o : Option ℤ). option_map told_count (option_and_then left o)) (in_range (stored + 1) (omega (arith, few)))
     ∙ ap (λ (t : Bool). option_map told_count (found_if t (pos (stored + 1)))) (same_list n) ∙ ap (λ (m : ℕ). Some (pos m)) (told_less rows few)
 
 pub solves_back : (less : CountForm) (n rows : ℕ) (known : Key → Bool) (sight : Sight) → sight.names.give (list_key n) ≡ Some (pos rows) → rows ≤ 65535
     → SolvesBack known 16 sight (rows_term less n) (stored_count less rows)
-solves_back Rows n rows known sight given few = solved_to (known (list_key n)) _ _ (solved_is Rows n rows sight few ∙ sym given)
+solves_back Rows n rows known sight given few = (solved_to (known (list_key n)) _ _ (solved_is Rows n rows sight few ∙ sym given), tt)
 solves_back LessOne n rows known sight given few = (solved_to (known (list_key n)) _ _ (solved_is LessOne n rows sight few ∙ sym given), tt)

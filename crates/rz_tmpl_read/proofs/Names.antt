@@ -113,7 +113,7 @@ known_at k items passed j is = ap (λ (t : Bool). t || is_held passed (list_key 
 
 other_term : (less : CountForm) (n j : ℕ) → n < 2 ^ 64 → j < 2 ^ 64 → (j ≡ n → ⊥) → has_key (list_key j) (rows_term less n) ≡ false
 other_term LessOne n j small also differ = ap (λ (t : Bool). t || false) (other_key j n also small differ)
-other_term Rows n j small also differ = other_key j n also small differ
+other_term Rows n j small also differ = ap (λ (t : Bool). t || false) (other_key j n also small differ)
 
 still_free : (met told has other : Bool) → (met || told) ≡ false → has ≡ false → (met || ((has && other) || told)) ≡ false
 still_free met told true other is so = no_more so

@@ -1,10 +1,11 @@
 //! Labels and arrays that expressions name and that aren't known there. They are defined in `specs/Rules` of `rz_types`.
 
-ghost use Rattle.std.specs.Prelude.{◌≡◌, IfOk, map, option_map};
+ghost use Rattle.std.specs.Prelude.{◌≡◌, not, IfOk, map, option_map};
 ghost use Rattle.rz_core.specs.Lists.{first_of};
 ghost use Rattle.rz_expr.specs.Term.{term_of};
 ghost use Rattle.rz_types_fields.specs.Field.{plain_field};
-ghost use Rattle.rz_types.specs.Rules.{not_among, unknown_in, unknown_name};
+ghost use Rattle.rz_types.specs.Rules.{is_named_there, unknown_in, unknown_name};
+ghost use Rattle.rz_types.specs.Walk.{is_among};
 ghost use Rattle.rz_types_check.specs.Walked.{own_of};
 
 use crate::name_list::NameList;
