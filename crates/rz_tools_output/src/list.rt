@@ -32,6 +32,7 @@ pub fn read_list<F: Folder>(
     folder: &mut F,
     words: &DetWords,
 ) -> Result<FileText, Halt<Fault>>
+    requires { F.may_read folder.old (det words.now).file }
     ensures text { IfSome (F.files folder.old) (λ files. Yields (seen text_of result) (λ answer. listed_of (det words.now) (finite.get files (string_bytes words.now.file)) ≡ answer)) }
     ensures whole { IfOk result IsWhole }
     ensures nameable { (files : ℕ) → OnRefusal result (IsNameable files) }
@@ -69,6 +70,8 @@ fn check_fork(fork: &[u8]) -> Result<(), Fault>
     ensures err { IfErr result (λ fault. admit_fork None fork.now ≡ Err fault) }
     ensures nameable { (files : ℕ) → IfErr result (IsNameable files) }
 {
-    admit_fork(fork, None)?;
-    Ok(())
+    match admit_fork(fork, None) {
+        Ok(_) => Ok(()),
+        Err(fault) => Err(fault),
+    }
 }
