@@ -17,12 +17,12 @@ module _ {O : Type 0} (g : Ghosts O) where
   -- a text was put, and then another one
   pub puts_then : {old mid new : O} {first second : List ℕ} {result : Result (Unit {0}) Failed} (done : Unit {0})
       → PutsText g old mid first (Ok done) → PutsText g mid new second result → PutsText g old new (first ++ second) result
-  puts_then {old} {mid} {new} {first} {second} {Ok there} done one two = record {
+  puts_then {old = old} {mid = mid} {new = new} {first = first} {second = second} {result = Ok there} done one two = record {
     told = told_then (Got first) (Got second) (Got (first ++ second)) (got_then first second) (g.stream old) (g.stream mid) (g.stream new) one.told two.told;
     counted = omega (arith, one.counted, two.counted);
     cause = tt;
   }
-  puts_then {old} {mid} {new} {first} {second} {Err failed} done one two = record {
+  puts_then {old = old} {mid = mid} {new = new} {first = first} {second = second} {result = Err failed} done one two = record {
     told = told_then (Got first) (GotFront second) (GotFront (first ++ second)) (front_behind first second) (g.stream old) (g.stream mid) (g.stream new) one.told two.told;
     counted = omega (arith, one.counted, two.counted);
     cause = (let rose = two.cause in omega (arith, rose, one.counted));
@@ -30,7 +30,7 @@ module _ {O : Type 0} (g : Ghosts O) where
 
   -- a put of the first text failed, and nothing of the second one is put
   pub puts_stop : {old new : O} {first : List ℕ} {failed : Failed} (second : List ℕ) → PutsText g old new first (Err failed) → PutsText g old new (first ++ second) (Err failed)
-  puts_stop {old} {new} {first} second one = record {
+  puts_stop {old = old} {new = new} {first = first} second one = record {
     told = told_so (GotFront first) (GotFront (first ++ second)) (front_before first second) (g.stream old) (g.stream new) one.told;
     counted = one.counted;
     cause = one.cause;
@@ -44,4 +44,4 @@ module _ {O : Type 0} (g : Ghosts O) where
 
   -- the same text in other words
   pub puts_as : {old new : O} {text : List ℕ} {result : Result (Unit {0}) Failed} (other : List ℕ) → text ≡ other → PutsText g old new text result → PutsText g old new other result
-  puts_as {old} {new} {result = result} other same one = subst (λ (t : List ℕ). PutsText g old new t result) same one
+  puts_as {old = old} {new = new} {result = result} other same one = subst (λ (t : List ℕ). PutsText g old new t result) same one

@@ -1,8 +1,10 @@
 -- What is written on one line fits there.
-use Rattle.std.proofs.Common.{◌≡◌, ℕ, zero, suc, ◌+◌, ◌-◌, ◌*◌, ◌/◌, ◌%◌, ◌^◌, ◌<◌, ◌≤◌, ℤ, pos, negsuc, Bool, true, false, if◌then◌else◌, List, [], ◌∷◌, ◌++◌, length, arith, length-append, sym, ◌∙◌}
-use Rattle.std.specs.Prelude.{nat_le, nat_lt, ◌==◌, ◌||◌, codes, mag}
+use Rattle.std.proofs.Common.{◌≡◌, ℕ, zero, suc, ◌+◌, ◌-◌, ◌*◌, ◌/◌, ◌%◌, ◌^◌, ◌<◌, ◌≤◌, ℤ, pos, negsuc, Bool, true, false, if◌then◌else◌, List, [], ◌∷◌, ◌++◌, length, arith, length-append, sym, ap, ◌∙◌}
+use Rattle.std.specs.Prelude.{nat_le, nat_lt, ◌==◌, ◌||◌, codes, FitsSigned}
+use Rattle.std.specs.Int.{w16}
 use Rattle.std.specs.List.{flat_map}
-use Rattle.std.proofs.lemmas.Fmt.{length-decimal-le, length_signed_le}
+use Rattle.std.proofs.lemmas.Fmt.{length-decimal-le}
+use Rattle.std.proofs.lemmas.Int.{ints}
 use Rattle.rz_bridge.specs.declared.file.MacFile.{MacFile}
 use Rattle.rz_bridge_form.specs.declared.form.Form.{Form}
 use Rattle.rz_bridge_form.specs.declared.form.Form.TheVariants.{Raw, AppleDouble, AppleSingle, MacBinary, BinHex}
@@ -16,8 +18,10 @@ use Rattle.rz_words.specs.Attribute.{bit_of, setting_word}
 use Rattle.rz_words.specs.declared.attribute.Attribute.{Attribute}
 use Rattle.rz_words.specs.declared.attribute.Attribute.TheVariants.{Changed, Locked, Preload, Protected, Purgeable, SystemHeap}
 use Rattle.rz_show_lines.specs.Head.{attr_written, word_written}
+use Rattle.rz_show_lines.specs.Print.{signed_written}
 use Rattle.rz_show_lines.specs.Written.{a_word, line_text}
-use Rattle.rz_show_lines.proofs.ShortTokens.{quoted_short, size, size_both, size_one}
+use Rattle.rz_show_lines.proofs.ShortTokens.{negative_short, positive_short, quoted_short, size, size_both, size_one}
+use Rattle.rz_show_lines.proofs.Writes.{signed_is}
 use Rattle.rz_list.proofs.Dates.{date_size}
 use Rattle.rz_list.specs.Date.{date_told}
 use Rattle.rz_list.specs.Parts.{after_name, carried_rest, finder_rest, fork_fact, lock_fact, resource_end, resource_front}
@@ -89,8 +93,8 @@ fork_size file small = omega (arith, fact_size (codes "fork") (decimal_of (lengt
 pub record HasNumbers (file : MacFile) : Type 0 where
   pub created : file.created < 2 ^ 32
   pub modified : file.modified < 2 ^ 32
-  pub data : length file.data_fork < 2 ^ 64
-  pub res : length file.res_fork < 2 ^ 64
+  pub data_fork : length file.data_fork < 2 ^ 64
+  pub res_fork : length file.res_fork < 2 ^ 64
 
 carried_size : (form : Form) (file : MacFile) → HasNumbers file → length (carried_rest form file) ≤ 220
 carried_size Raw file has = omega arith
@@ -102,7 +106,7 @@ carried_size AppleSingle file has =
       length-append (finder_rest file) (date_facts file),
       finder_size file,
       dates_size file has.created has.modified,
-      data_size file has.data,
+      data_size file has.data_fork,
     )
 carried_size MacBinary file has =
     omega (
@@ -113,13 +117,13 @@ carried_size MacBinary file has =
       finder_size file,
       lock_size file,
       dates_size file has.created has.modified,
-      data_size file has.data,
+      data_size file has.data_fork,
     )
-carried_size BinHex file has = omega (arith, length-append (finder_rest file) (data_fact file), finder_size file, data_size file has.data)
+carried_size BinHex file has = omega (arith, length-append (finder_rest file) (data_fact file), finder_size file, data_size file has.data_fork)
 
 pub after_name_size : (form : Form) (file : MacFile) → HasNumbers file → length (after_name form file) ≤ 512
 after_name_size form file has =
-    omega (arith, length-append (carried_rest form file) (fork_fact file), carried_size form file has, fork_size file has.res)
+    omega (arith, length-append (carried_rest form file) (fork_fact file), carried_size form file has, fork_size file has.res_fork)
 
 pub count_size : (n : ℕ) → n < 2 ^ 64 → length (fact (codes "resources") (decimal_of n)) ≤ 512
 count_size n small = omega (arith, fact_size (codes "resources") (decimal_of n), number_size n small)
@@ -166,15 +170,23 @@ attr_size attr = by_test (size (attr_written attr) ≤ 66) (attr == 0)
     (λ h. rw h (omega arith))
     (λ h. by_test (size (attr_written attr) ≤ 66) (nat_le 128 attr || (attr % 2 == 1)) (λ k. rw (h, k) (omega arith)) (λ k. rw (h, k) (words_size attr)))
 
-front_size : (r : Resource) → mag r.id < 2 ^ 16 → length (resource_front r) ≤ 60
-unfolding resource_front signed_of
-front_size r small =
+id_size : (id : ℤ) → FitsSigned w16 id → size (signed_written id) ≤ 11
+id_size (pos n) fits = positive_short n (omega (arith, ints, fits))
+id_size (negsuc n) fits = negative_short n (omega (arith, ints, fits))
+
+signed_size : (id : ℤ) → FitsSigned w16 id → length (signed_of id) ≤ 11
+unfolding signed_of
+signed_size id fits = let same : length (signed_of id) ≡ size (signed_written id) = ap (λ (t : List ℕ). length t) (sym (signed_is id)) in omega (arith, same, id_size id fits)
+
+front_size : (r : Resource) → FitsSigned w16 r.id → length (resource_front r) ≤ 60
+unfolding resource_front
+front_size r fits =
     omega (
       arith,
       length-append (literal_text r.kind.code ++ codes " (") (signed_of r.id),
       length-append (literal_text r.kind.code) (codes " ("),
       type_size r.kind.code,
-      length_signed_le 6 r.id (omega (arith, small)) (omega (arith, small)),
+      signed_size r.id fits,
     )
 
 end_size : (r : Resource) → length r.bytes < 2 ^ 64 → length (resource_end r) ≤ 100
@@ -190,10 +202,10 @@ end_size r small =
       number_size (length r.bytes) small,
     )
 
-pub unnamed_size : (r : Resource) → mag r.id < 2 ^ 16 → length r.bytes < 2 ^ 64 → length (resource_front r ++ resource_end r) ≤ 512
+pub unnamed_size : (r : Resource) → FitsSigned w16 r.id → length r.bytes < 2 ^ 64 → length (resource_front r ++ resource_end r) ≤ 512
 unnamed_size r id bytes = omega (arith, length-append (resource_front r) (resource_end r), front_size r id, end_size r bytes)
 
-pub before_size : (r : Resource) → mag r.id < 2 ^ 16 → length (resource_front r ++ codes ", \"") ≤ 512
+pub before_size : (r : Resource) → FitsSigned w16 r.id → length (resource_front r ++ codes ", \"") ≤ 512
 before_size r id = omega (arith, length-append (resource_front r) (codes ", \""), front_size r id)
 
 pub after_size : (r : Resource) → length r.bytes < 2 ^ 64 → length (codes "\"" ++ resource_end r) ≤ 512
