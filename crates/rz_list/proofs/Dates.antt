@@ -98,16 +98,19 @@ module _ (y : ℤ) (m d : ℕ) (civil : IsCivilDate y m d) where
 
     in_month : m ≡ month
     in_month =
-        let not_before : month ≤ m = by_order m month (λ lt. absurd (omega (arith, (let e = in_year in rw e at (day_count-lt_month y m d month 1 civil (omega arith) lt)), low))) (λ le. le) in
+        let e = in_year in
+        let low_here : day_count y month 1 ≤ day_count y m d = rw (← e) at low in
+        let high_here : day_count y m d < day_count y month 1 + days_in_month y month = rw (← e) at high in
+        let not_before : month ≤ m = by_order m month (λ lt. absurd (omega (arith, day_count-lt_month y m d month 1 civil (omega arith) lt, low_here))) (λ le. le) in
         let not_after : m ≤ month = by_order month m
         (λ lt. absurd (omega (
           arith,
           day_count-day_of_year y m d civil.2.0,
-          (let e = in_year in rw (← e) at (first_of_month (pos year) month)),
-          (let e = in_year in rw (← e) at (days_of_months_more (pos year) month first)),
+          first_of_month y month,
+          days_of_months_more y month first,
           days_of_months_mono y month (m - 1) (omega (arith, lt)),
           civil.2.0,
-          (let e = in_year in rw (← e) at high),
+          high_here,
         )))
         (λ le. le) in
         omega (arith, not_before, not_after)
@@ -158,9 +161,10 @@ timed hour minute second h m s =
 -- Seconds.
 
 -- the days and the seconds of the day that seconds after the first of 1904 are
-parts_of : (seconds : ℕ) (y : ℤ) (m d time : ℕ) → time < 86400 → negsuc 2082844799 +ℤ pos seconds ≡ seconds_of (days_from_civil y m d) 0 0 time
-    → 4347846 * 86400 + seconds ≡ 86400 * day_count y m d + time
-parts_of seconds y m d time small is = omega (arith, signed_arith, days_from_civil-day_count y m d, is, small)
+parts_of : (seconds : ℕ) (y : ℤ) (m d hour minute second : ℕ) → hour < 24 → minute < 60 → second < 60
+    → negsuc 2082844799 +ℤ pos seconds ≡ seconds_of (days_from_civil y m d) hour minute second
+    → 4347846 * 86400 + seconds ≡ 86400 * day_count y m d + (hour * 3600 + minute * 60 + second)
+parts_of seconds y m d hour minute second h mi s is = omega (arith, signed_arith, days_from_civil-day_count y m d, is)
 
 pub none_told : (seconds : ℕ) → seconds ≡ 0 → date_told seconds ≡ codes "none"
 unfolding date_told
@@ -180,7 +184,7 @@ unfolding date_told
 moment_told seconds some before y m d hour minute second civil h mi s is =
     let time = hour * 3600 + minute * 60 + second in
     let small : time < 86400 = omega (arith, h, mi, s) in
-    let same : 4347846 * 86400 + seconds ≡ 86400 * day_count y m d + time = parts_of seconds y m d time small is in
+    let same : 4347846 * 86400 + seconds ≡ 86400 * day_count y m d + time = parts_of seconds y m d hour minute second h mi s is in
     let days : day_count (pos 1904) 1 1 + seconds / 86400 ≡ day_count y m d = omega (arith, first_of_1904, same, small) in
     let rest : seconds % 86400 ≡ time = omega (arith, same, small) in
     let limit : day_count y m d < day_count (pos 2040) 1 1 = omega (arith, first_of_1904, first_of_2040, days, before) in

@@ -37,7 +37,7 @@ module _ {O : Type 0} (g : Ghosts O) where
   }
 
   -- the end of a `?`
-  pub puts_end : {old new : O} {text : List ℕ} {failed : Failed} {P : Failed → Type 0} (result : Result (Unit {0}) Failed) → IsErrAnd result P
+  pub puts_end : {old new : O} {text : List ℕ} {failed : Failed} (result : Result (Unit {0}) Failed) → IsErrAnd result (λ e. e ≡ failed)
       → PutsText g old new text (Err failed) → PutsText g old new text result
   puts_end (Ok done) is one = absurd is
   puts_end (Err other) is one = record { told = one.told; counted = one.counted; cause = one.cause }
