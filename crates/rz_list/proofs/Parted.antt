@@ -1,13 +1,14 @@
 -- The text by the parts in which the code writes it.
-use Rattle.std.proofs.Common.{◌≡◌, ℕ, Bool, true, false, if◌then◌else◌, List, [], ◌∷◌, ◌++◌, length, Ok, Err, Option, Some, None, refl, sym, ap, subst, ◌∙◌, append_assoc, append-nil}
+use Rattle.std.proofs.Common.{◌≡◌, ℕ, ◌≤◌, true, false, drop, List, [], ◌∷◌, ◌++◌, length, Ok, Option, Some, None, refl, sym, ap, ◌∙◌, append_assoc, append-nil, arith}
 use Rattle.std.specs.Prelude.{◌==◌, codes}
 use Rattle.std.specs.List.{flat_map}
+use Rattle.std.proofs.lemmas.Bool.Decides.{nat_tests}
 use Rattle.std.proofs.lemmas.Grind.{flat_map-append}
-use Rattle.std.specs.declared.result.Result.{Result}
+use Rattle.std.proofs.lemmas.List.{drop_all, nil_from_length}
 use Rattle.rz_bridge.specs.declared.file.MacFile.{MacFile}
 use Rattle.rz_bridge_form.specs.declared.form.Form.{Form}
 use Rattle.rz_bridge_form.specs.declared.form.Form.TheVariants.{Raw, AppleDouble, AppleSingle, MacBinary, BinHex}
-use Rattle.rz_core.specs.Decimal.{decimal_of, signed_of}
+use Rattle.rz_core.specs.Decimal.{decimal_of}
 use Rattle.rz_core.specs.Lists.{unless_fault}
 use Rattle.rz_core.specs.Quoted.{literal_text, quoted, shown_byte}
 use Rattle.rz_core.specs.declared.resource.Resource.{Resource}
@@ -17,7 +18,7 @@ use Rattle.rz_fork.specs.declared.fault.ForkFault.{ForkFault}
 use Rattle.rz_lex.specs.Spelled.{digits_of}
 use Rattle.rz_show_lines.specs.Head.{attr_written}
 use Rattle.rz_show_lines.specs.Written.{line_text}
-use Rattle.rz_list.specs.Parts.{after_name, before_name, carried_rest, finder_rest, fork_fact, lock_fact, resource_end, resource_front, shown_name}
+use Rattle.rz_list.specs.Parts.{after_name, before_name, finder_rest, fork_fact, lock_fact, resource_end, resource_front, shown_name}
 use Rattle.rz_list.specs.Text.{carried_facts, data_fact, date_facts, fact, file_text, finder_facts, form_word, name_told, resource_line}
 
 -- Facts.
@@ -46,6 +47,10 @@ module _ (file : MacFile) where
 
   abbrev Flags : List ℕ
   Flags = fact (codes "flags") (codes "0x" ++ digits_of 16 4 file.finder.flags)
+
+pub flags_are : (flags : ℕ) → codes "flags " ++ 48 ∷ 120 ∷ digits_of 16 4 flags ++ 10 ∷ [] ≡ fact (codes "flags") (codes "0x" ++ digits_of 16 4 flags)
+unfolding fact
+flags_are flags = refl
 
 -- the facts of a form, whatever their name
 facts_parted : (form : Form) (file : MacFile)
@@ -118,6 +123,12 @@ pub lines_on : (front : List Resource) (r : Resource) → flat_map resource_line
 lines_on front r =
     sym (flat_map-append resource_line front (r ∷ []) ∙ ap (λ (t : List ℕ). flat_map resource_line front ++ t) (append-nil (resource_line r)))
 
+-- nothing is left of a piece
+pub all_shown : (front piece : List ℕ) (index : ℕ) → length piece ≤ index → front ++ flat_map (shown_byte 34) (drop index piece) ≡ flat_map (shown_byte 34) piece
+    → front ≡ flat_map (shown_byte 34) piece
+all_shown front piece index all is =
+    sym (append-nil front) ∙ ap (λ (l : List ℕ). front ++ flat_map (shown_byte 34) l) (sym (drop_all index piece all)) ∙ is
+
 -- a text with more after it
 pub shown_all : (front piece behind : List ℕ)
     → flat_map (shown_byte 34) front ++ (flat_map (shown_byte 34) piece ++ flat_map (shown_byte 34) behind) ≡ flat_map (shown_byte 34) (front ++ (piece ++ behind))
@@ -136,3 +147,11 @@ contents_are bytes piece same fork is = by (inadmissible piece) is
     by : (broken : Option ForkFault) → unless_fault broken (contents piece) ≡ Ok fork → fork ≡ contents bytes
     by None so = let held : contents piece ≡ fork = cc so in sym held ∙ ap contents same
     by (Some fault) so = cc so
+
+-- Tests.
+
+pub none_left : (bytes : List ℕ) → (length bytes == 0) ≡ true → bytes ≡ []
+none_left bytes is = nil_from_length bytes (grind (arith, nat_tests, is))
+
+pub no_name : (name : List ℕ) → (length name == 0) ≡ true → length name ≡ 0
+no_name name is = grind (arith, nat_tests, is)
