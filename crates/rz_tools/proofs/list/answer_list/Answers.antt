@@ -15,17 +15,17 @@ returns-in-Ok-clause-answered g c = list_told (det c.args.words.now) c.in-Ok.tex
 pub returns-in-Err-clause-answered : goal.returns-in-Err-clause-answered
 returns-in-Err-clause-answered g c =
     let asked = det c.args.words.now in
-    plan_answered c.plan_halted.result c.planned.result c.planned.ensures (AnswersList asked) (g.F.Folder.files c.args.folder.now)
+    plan_answered c.halted.result c.planned.result c.planned.ensures (AnswersList asked) (g.F.Folder.files c.args.folder.now)
     (answers_halt (λ files answer. listed_of asked (finite.get files asked.file) ≡ answer) (AnswersList asked) (λ files fault is. ap told (sym is))
-    (g.F.Folder.files c.args.folder.now) c.in-Err.halt c.plan_halted.result c.plan_halted.ensures.refused c.in-Err.ensures.text)
+    (g.F.Folder.files c.args.folder.now) c.in-Err.halt c.halted.result c.halted.ensures.refused c.in-Err.ensures.text)
 
 pub returns-in-Err-clause-sound : goal.returns-in-Err-clause-sound
-returns-in-Err-clause-sound g c = plan_sound c.plan_halted.result c.planned.result c.planned.ensures c.plan_halted.ensures.well_formed c.plan_halted.ensures.writable
+returns-in-Err-clause-sound g c = plan_sound c.halted.result c.planned.result c.planned.ensures c.halted.ensures.well_formed c.halted.ensures.writable
 
 pub returns-in-Err-clause-no_usage : goal.returns-in-Err-clause-no_usage
-returns-in-Err-clause-no_usage g c = plan_no_usage c.plan_halted.result c.planned.result c.planned.ensures c.plan_halted.ensures.no_usage
+returns-in-Err-clause-no_usage g c = plan_no_usage c.halted.result c.planned.result c.planned.ensures c.halted.ensures.no_usage
 
 pub returns-in-Err-clause-reads : goal.returns-in-Err-clause-reads
 returns-in-Err-clause-reads g c =
     reads_as g.F.Folder c.args.folder.now c.read_list.new.folder
-    (λ is. c.plan_halted.ensures.read_fault (plan_end c.plan_halted.result c.planned.result c.planned.ensures ReadFault is)) c.in-Err.ensures.reads
+    (λ is. c.halted.ensures.read_fault (plan_end c.halted.result c.planned.result c.planned.ensures ReadFault is)) c.in-Err.ensures.reads
