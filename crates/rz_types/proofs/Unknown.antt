@@ -132,14 +132,18 @@ module _ (met known : Names) (term : Term) (key : Key) where
   one_missing : (one : Mention) → Found first (mentions term) one → key_mentioned one ≡ Some key → Missing met known term key
   one_missing (alone name) it is =
       let same = one_key (place_key name) key is in
-      inl (stands (alone name) it (or_left (is_same_key key (place_key name)) false (ap (λ (k : Key). is_same_key key k) same ∙ key_itself key)),
-      ap known (sym same) ∙ not_so (known (place_key name)) it.passes)
+      inl (
+        stands (alone name) it (or_left (is_same_key key (place_key name)) false (ap (λ (k : Key). is_same_key key k) same ∙ key_itself key)),
+        ap known (sym same) ∙ not_so (known (place_key name)) it.passes,
+      )
   one_missing (indexed name) it is =
       inr (never (indexed name) it (λ other told. neither (is_same_key other (rows_key name)) (known (rows_key name)) (told (str_to_ascii_lowercase name)) (not_so (known (rows_key name)) it.passes)))
   one_missing (counted name) it is =
       let same = one_key (count_key name) key is in
-      inl (stands (counted name) it (or_left (is_same_key key (count_key name)) false (ap (λ (k : Key). is_same_key key k) same ∙ key_itself key)),
-      ap known (sym same) ∙ not_so (known (count_key name)) it.passes)
+      inl (
+        stands (counted name) it (or_left (is_same_key key (count_key name)) false (ap (λ (k : Key). is_same_key key k) same ∙ key_itself key)),
+        ap known (sym same) ∙ not_so (known (count_key name)) it.passes,
+      )
   one_missing (around name) it is = absurd (let wrong = it.passes in cc)
   one_missing (with_bits name) it is = inr (never (with_bits name) it (λ other told. not_so (met (place_key name)) it.passes))
   one_missing (fact which) it is = absurd (let wrong = it.passes in cc)

@@ -93,7 +93,12 @@ impl TypeTable {
         let group = group_of(one.kind, one.scope);
         let position = self.declared.len();
         self.declared.push(Some(one))?;
-        match add(*self.declared.allocator(), &mut self.places, group, position) {
+        match add(
+            *self.declared.allocator(),
+            &mut self.places,
+            group,
+            position,
+        ) {
             Ok(()) => Ok(()),
             Err(refused) => {
                 self.declared.truncate(position);
