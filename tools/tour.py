@@ -43,7 +43,20 @@ EXAMPLE_FILES = """cp examples/App.r App.r && cp examples/patch.r Changes.r && m
 rezkit rez App.r -i types -form hqx -o Old.hqx && echo '#define kTitle "Old"' > Includes/Title.r
 printf '#include "Types.r"\n#include "Title.r"\nresource '"'WIND'"' (128) ' > Port.r
 echo '{ {40, 20, 240, 420}, documentProc, visible, goAway, 0, kTitle };' >> Port.r"""
-EXAMPLES_PRINT = {"rezkit det Old.hqx": ["broken 0"]}
+EXAMPLES_PRINT = {"rezkit det Old.hqx": ["broken 0"], "rezkit list Old.hqx": """form hqx
+name "Old.hqx"
+type 'APPL'
+creator '????'
+flags 0x0000
+data 0
+fork 779
+'vers' (1, purgeable) 21
+'MENU' (128) 29
+'ALRT' (128) 14
+'DITL' (128) 18
+'STR#' (128) 11
+'ICN#' (128) 256
+resources 6""".split("\n")}
 
 
 def parts_of(text):
