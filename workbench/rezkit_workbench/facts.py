@@ -1,12 +1,14 @@
 """What a file is: its form, what the Finder keeps of it, its forks, and the resources of its fork.
 
-`facts_of` is the one function that tells it. It asks rezkit: `det` whether the file and its fork are whole, and `bridge`
-what the file holds, as AppleSingle, which keeps neither the lock nor dates before 1932; those of MacBinary are in its
-header, where FORMATS.md says. A file is handed to rezkit as `/dev/fd/N`: no name can be taken for an option, names that
-aren't UTF-8 are read too, and the data file beside a header of AppleDouble isn't read.
+`facts_of` is the one function that tells it. It asks rezkit: `list` what the form of the file carries, and `bridge` for the
+forks. Of a file whose fork is broken, which `list` refuses, `det` tells the first broken rule, and the facts come with the
+forks as AppleSingle, which keeps neither the lock nor dates before 1932; those of MacBinary are in its header, where
+FORMATS.md says. A file is handed to rezkit as `/dev/fd/N`: no name can be taken for an option, names that aren't UTF-8 are
+read too, and the data file beside a header of AppleDouble isn't read.
 """
 import datetime
 import os
+import re
 import stat
 import struct
 import sys
@@ -21,8 +23,9 @@ FORMS = {"raw": "resource fork", "double": "AppleDouble", "single": "AppleSingle
 MOST_COPIED = 256 << 20  # what is read of a pipe
 BY_HEAD, HEAD = 128 << 20, 4096  # a longer file is told by its first bytes alone
 FIRST_OF_2000, NO_DATE = 3029529600, -1 << 31  # in seconds since 1904; as AppleSingle has it
-LAST_DATE = 4291833600  # the first second of 2040
+FIRST_DAY, LAST_DATE = datetime.datetime(1904, 1, 1), 4291833600  # the first second of 2040
 FORK_TOO_LONG = "428 "
+FORK_IS_BROKEN = re.compile(r"4(0[1-9]|10) ")
 ATTRIBUTES = ((64, "sysheap"), (32, "purgeable"), (16, "locked"), (8, "protected"), (4, "preload"), (2, "changed"))
 WITHOUT_WORD = 0x81
 
@@ -103,7 +106,8 @@ class Facts:
 
     form, name, kind, creator, flags, locked, created, modified (seconds since 1904), data (the length of the data fork) are
     as the form has them; `fork` is the bytes of the resource fork. `refused` is why rezkit doesn't read the file,
-    `broken` the first rule that its fork breaks, `lacking` why facts that the form carries aren't told.
+    `broken` the first rule that its fork breaks, `lacking` why facts that the form carries, or the bytes of its data fork,
+    aren't told.
     """
 
     def __init__(self, form):
@@ -150,20 +154,50 @@ def facts_of(file, form=None):
     """The facts of an opened file, in the form that is stated, else that is found."""
     facts = Facts(form or form_of(file.head(128)))
     try:
-        rules = file.rezkit(["det", file.word, "-from", facts.form]).decode("ascii", "replace").splitlines()
+        put_listed(file.rezkit(["list", file.word, "-from", facts.form]).decode("ascii"), facts)
     except RezkitRefused as fault:
-        facts.refused = fault.said
-        return facts
-    facts.broken = rules[0] if len(rules) > 1 else None
+        if not FORK_IS_BROKEN.match(fault.said):
+            facts.refused = fault.said
+            return facts
+        facts.broken = file.rezkit(["det", file.word, "-from", facts.form]).decode("ascii").splitlines()[0]
     if facts.form == "raw":
         facts.fork = b"".join(file.pieces())
     else:
-        carried(file, facts)
+        put_forks(file, facts)
     return facts
 
 
-def carried(file, facts):
-    """Puts in what a form other than raw carries."""
+def put_listed(text, facts):
+    """Puts in the facts that `list` tells."""
+    for line in text.splitlines():
+        word, value = line.split(" ", 1)
+        if word in LISTED:
+            field, read = LISTED[word]
+            setattr(facts, field, read(value))
+
+
+def unquoted(text):
+    """The bytes between quote marks."""
+    found = re.finditer(r"\\0x([0-9A-F]{2})|\\(.)|(.)", text[1:-1])
+    return b"".join(bytes.fromhex(one[1]) if one[1] else (one[2] or one[3]).encode("ascii") for one in found)
+
+
+def seconds_of(text):
+    """The seconds since 1904 of a date without a zone; 0 of `none`."""
+    if text == "none" or text.isdigit():
+        return 0 if text == "none" else int(text)
+    since = datetime.datetime.strptime(text, "%Y-%m-%d %H:%M:%S") - FIRST_DAY
+    return 86400 * since.days + since.seconds
+
+
+# The facts that `list` tells beside the form, the fork and its resources: where each goes, and how it is read.
+LISTED = {"name": ("name", unquoted), "type": ("kind", unquoted), "creator": ("creator", unquoted),
+          "flags": ("flags", lambda text: int(text, 16)), "locked": ("locked", lambda text: text == "true"),
+          "created": ("created", seconds_of), "modified": ("modified", seconds_of), "data": ("data", int)}
+
+
+def put_forks(file, facts):
+    """Puts in the forks of a form other than raw, and if the resource fork is broken, the other facts."""
     try:
         single = bridged(file, facts.form, "/dev/stdout")
     except RezkitRefused as fault:
@@ -172,13 +206,20 @@ def carried(file, facts):
         facts.lacking, facts.fork = fault.said, file.rezkit(["bridge", file.word, "-from", facts.form, "-to", "raw", "-o", "/dev/stdout"])
         return
     parts = parts_of(single)
+    facts.fork, facts.data_fork = parts[2], None if facts.form == "double" else parts[1]
+    if facts.broken:
+        put_carried(file, parts, facts)
+
+
+def put_carried(file, parts, facts):
+    """Puts in what a form other than raw carries beside the forks."""
     info, dates = parts[9], struct.unpack(">ii", parts[8][:8])
     facts.kind, facts.creator, facts.flags = bytes(info[:4]), bytes(info[4:8]), struct.unpack(">H", info[8:10])[0]
-    facts.name, facts.fork = bytes(parts.get(3, b"")), parts[2]
+    facts.name = bytes(parts.get(3, b""))
     if facts.name == b"stdout" and parts_of(bridged(file, facts.form, "/dev/fd/1")).get(3) == b"1":
         facts.name = b""  # bridge fills in the last part of -o where a file has no name
     if facts.form != "double":
-        facts.data, facts.data_fork = len(parts[1]), parts[1]
+        facts.data = len(parts[1])
     if facts.form in ("double", "single"):
         facts.created, facts.modified = [0 if date == NO_DATE else date + FIRST_OF_2000 for date in dates]
     if facts.form == "macbin":
@@ -225,7 +266,7 @@ def date_text(seconds):
         return "none"
     if seconds >= LAST_DATE:
         return str(seconds)
-    return (datetime.datetime(1904, 1, 1) + datetime.timedelta(seconds=seconds)).strftime("%Y-%m-%d %H:%M:%S")
+    return (FIRST_DAY + datetime.timedelta(seconds=seconds)).strftime("%Y-%m-%d %H:%M:%S")
 
 
 def data_file_of(name):

@@ -47,6 +47,12 @@ def test_names_that_are_empty_or_that_bridge_would_fill_in(tmp_path):
         assert facts_in(tmp_path, double(WHOLE.but(name=name))).name == name
 
 
+def test_names_and_types_of_any_bytes(tmp_path):
+    odd = WHOLE.but(name=bytes(range(255, 0, -1)), kind=b"'\"\\\n", creator=b"\0\xFF a")
+    found = facts_in(tmp_path, single(odd))
+    assert (found.name, found.kind, found.creator) == (odd.name, odd.kind, odd.creator)
+
+
 def test_dates_that_a_form_cant_say(tmp_path):
     old = WHOLE.but(created=1, modified=0)
     assert told(facts_in(tmp_path, macbin(old)))[6:8] == (1, 0)
@@ -75,10 +81,13 @@ def test_what_is_broken(tmp_path):
     assert told(found)[1:4] == (b"Caf\x8E", b"APPL", b"CAF ") and len(found.fork) == len(FORK) - 1 and found.resources() is None
 
 
-def test_a_fork_that_is_too_long_for_applesingle_is_told_by_its_fork(tmp_path):
+def test_a_data_fork_that_is_too_long_for_applesingle_is_lacking(tmp_path):
     found = facts_in(tmp_path, macbin(WHOLE.but(data=bytes(33554433))))
     assert found.lacking == "428 ForkTooLong: 33554433" and bytes(found.fork) == FORK and len(found.resources()) == 2
-    assert told(found)[1:] == (None,) * 8
+    assert told(found)[1:] == (b"Caf\x8E", b"APPL", b"CAF ", 0x2100, True, 3082844800, 2913796800, 33554433)
+    assert found.data_fork is None
+    broken = facts_in(tmp_path, macbin(WHOLE.but(data=bytes(33554433), res=FORK[:-1])))
+    assert broken.broken == "403 MapOutside offset 4 value 75" and broken.lacking and told(broken)[1:] == (None,) * 8
 
 
 def test_the_data_file_beside_a_header_is_not_read(tmp_path):
