@@ -1,10 +1,10 @@
 -- One call after another, of calls that only read files.
 use Rattle.std.proofs.Common.{◌≡◌, Option, Some, None, Ok, Err, sym, subst}
-use Rattle.std.specs.Prelude.{IfSome, IsErrAnd}
+use Rattle.std.specs.Prelude.{IfOk, IfSome, IsErrAnd}
 use Rattle.std.specs.declared.result.Result.{Result}
-use Rattle.rz_core.proofs.Stops.{then_halts, then_yields}
+use Rattle.rz_core.proofs.Stops.{then_halts, then_yields, yields_so}
 use Rattle.rz_core.specs.Answers.{Then}
-use Rattle.rz_core.specs.Stop.{halt_of, IsReadFault, Meets, OnFault, OnRefusal, Yields}
+use Rattle.rz_core.specs.Stop.{halt_of, seen, IsReadFault, Meets, OnFault, OnRefusal, Yields}
 use Rattle.rz_core.specs.declared.stop.Halt.{Halt}
 use Rattle.rz_core.specs.declared.stop.Halt.TheVariants as halts
 use Rattle.rz_core.specs.declared.stop.Stop.{Stop}
@@ -29,7 +29,50 @@ failed_so X Y (halts.Refused fault) is = absurd is
 failed_so X Y halts.ReadFault is = tt
 failed_so X Y halts.NoMemory is = absurd is
 
+ok_so : {X E : Type 0} {Good Better : X → Type 0} (result : Result X E) → ((x : X) → Good x → Better x) → IfOk result Good → IfOk result Better
+ok_so (Ok value) so good = so value good
+ok_so (Err stop) so good = tt
+
+refusal_so : {X E : Type 0} {Bad Worse : E → Type 0} (result : Result X (Halt E)) → ((e : E) → Bad e → Worse e) → OnRefusal result Bad → OnRefusal result Worse
+refusal_so (Ok value) so bad = tt
+refusal_so (Err (halts.Refused fault)) so bad = so fault bad
+refusal_so (Err halts.ReadFault) so bad = tt
+refusal_so (Err halts.NoMemory) so bad = tt
+
+-- the end of a `?`, seen as another value
+pub seen_end : {A X E : Type 0} (view : A → X) (result : Result A E) (P : E → Type 0) → IsErrAnd result P → IsErrAnd (seen view result) P
+seen_end view (Ok value) P is = absurd is
+seen_end view (Err stop) P is = is
+
 module _ {F : Type 0} (g : Ghosts F) where
+  -- what a call gives is also answered so, and more holds of it
+  pub finds_so : {X E : Type 0} {A B : Files → Result X E → Type 0} {Good Better : X → Type 0} {Bad Worse : E → Type 0} {old new : F} (result : Result X (Halt E))
+      → ((files : Files) (answer : Result X E) → A files answer → B files answer) → ((x : X) → Good x → Better x) → ((e : E) → Bad e → Worse e)
+      → Finds g old new result A Good Bad → Finds g old new result B Better Worse
+  finds_so {X = X} {E = E} {A = A} {B = B} {old = old} result answers better worse finds = record {
+    answered = by (g.files old) finds.answered;
+    good = ok_so result better finds.good;
+    bad = refusal_so result worse finds.bad;
+    reads = finds.reads;
+  }
+    where
+      by : (before : Option Files) → IfSome before (λ files. Yields result (A files)) → IfSome before (λ files. Yields result (B files))
+      by None is = tt
+      by (Some files) is = yields_so (A files) (B files) (answers files) result is
+
+  -- memory was refused
+  pub finds_none : {X E : Type 0} {answers : Files → Result X E → Type 0} {Good : X → Type 0} {Bad : E → Type 0} {s : F} (result : Result X (Halt E))
+      → IsErrAnd result (λ e. e ≡ halts.NoMemory) → Finds g s s result answers Good Bad
+  finds_none (Ok value) is = absurd is
+  finds_none {X = X} {E = E} {answers = answers} {Good = Good} {Bad = Bad} {s = s} (Err stop) is =
+      subst (λ (e : Halt E). Finds g s s (Err e) answers Good Bad) (sym is)
+      (record { answered = always {P = Unit {0}} (g.files s) tt; good = tt; bad = tt; reads = reads_nothing g s })
+
+  -- a call that reads no file
+  pub finds_pure : {X E : Type 0} (answers : Result X E → Type 0) {Good : X → Type 0} {Bad : E → Type 0} {s : F} (result : Result X (Halt E)) → Yields result answers → IfOk result Good
+      → OnRefusal result Bad → (IsReadFault result → ⊥) → Finds g s s result (λ files. answers) Good Bad
+  finds_pure answers {s = s} result is good bad unread = record { answered = always (g.files s) is; good = good; bad = bad; reads = reads_as g s s unread (reads_nothing g s) }
+
   -- the end of the `?` of the last call
   pub finds_end : {X E : Type 0} {answers : Files → Result X E → Type 0} {Good : X → Type 0} {Bad : E → Type 0} {old new : F} {halt : Halt E} (result : Result X (Halt E))
       → IsErrAnd result (λ e. e ≡ halt) → Finds g old new (Err halt) answers Good Bad → Finds g old new result answers Good Bad
