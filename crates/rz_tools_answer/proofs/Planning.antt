@@ -40,6 +40,12 @@ stop_sayable made halt is bad = by halt (subst (λ (m : Result Made (Halt Failin
 pub made_good : (Good : Making → Type 0) (made : Result Made (Halt Failing)) (one : Made) → made ≡ Ok one → IfOk (seen making_of made) Good → Good (making_of one)
 made_good Good made one is good = subst (λ (m : Result Made (Halt Failing)). IfOk (seen making_of m) Good) is good
 
+seen_failed : (made : Result Made (Halt Failing)) → IsReadFault made → IsReadFault (seen making_of made)
+seen_failed (Ok made) failed = failed
+seen_failed (Err (halts.Refused failing)) failed = failed
+seen_failed (Err halts.ReadFault) failed = failed
+seen_failed (Err halts.NoMemory) failed = failed
+
 -- The plan.
 
 module _ {E : Type 0} (done : Making → Answer) (made : Result Made (Halt Failing)) where
@@ -92,12 +98,6 @@ module _ {F E : Type 0} (g : Ghosts F) (done : Making → Answer) (Makes : Files
   answers (Err (halts.Refused failing)) (Ok plan) ends (Some files) makes = (Err failing, makes, ends)
   answers (Err halts.ReadFault) (Ok plan) ends (Some files) makes = absurd ends
   answers (Err halts.NoMemory) (Ok plan) ends (Some files) makes = absurd ends
-
-  seen_failed : (made : Result Made (Halt Failing)) → IsReadFault made → IsReadFault (seen making_of made)
-  seen_failed (Ok made) failed = failed
-  seen_failed (Err (halts.Refused failing)) failed = failed
-  seen_failed (Err halts.ReadFault) failed = failed
-  seen_failed (Err halts.NoMemory) failed = failed
 
   pub plans_made : {Good : Making → Type 0} {Bad : Failing → Type 0} {old new : F} (made : Result Made (Halt Failing)) {result : Result Plan (Halt E)}
       → Finds g old new (seen making_of made) Makes Good Bad → Concludes done made result → Plans g old new result (λ files. Answered done (Makes files))
