@@ -47,9 +47,9 @@ seen_end view (Err stop) P is = is
 module _ {F : Type 0} (g : Ghosts F) where
   -- what a call gives is also answered so, and more holds of it
   pub finds_so : {X E : Type 0} {A B : Files → Result X E → Type 0} {Good Better : X → Type 0} {Bad Worse : E → Type 0} {old new : F} (result : Result X (Halt E))
-      → ((files : Files) (answer : Result X E) → A files answer → B files answer) → ((x : X) → Good x → Better x) → ((e : E) → Bad e → Worse e)
-      → Finds g old new result A Good Bad → Finds g old new result B Better Worse
-  finds_so {X = X} {E = E} {A = A} {B = B} {old = old} result answers better worse finds = record {
+      → Finds g old new result A Good Bad → ((files : Files) (answer : Result X E) → A files answer → B files answer) → ((x : X) → Good x → Better x) → ((e : E) → Bad e → Worse e)
+      → Finds g old new result B Better Worse
+  finds_so {X = X} {E = E} {A = A} {B = B} {old = old} result finds answers better worse = record {
     answered = by (g.files old) finds.answered;
     good = ok_so result better finds.good;
     bad = refusal_so result worse finds.bad;
@@ -59,6 +59,10 @@ module _ {F : Type 0} (g : Ghosts F) where
       by : (before : Option Files) → IfSome before (λ files. Yields result (A files)) → IfSome before (λ files. Yields result (B files))
       by None is = tt
       by (Some files) is = yields_so (A files) (B files) (answers files) result is
+
+  pub finds_as : {X E : Type 0} {A B : Files → Result X E → Type 0} {Good : X → Type 0} {Bad : E → Type 0} {old new : F} (result : Result X (Halt E))
+      → Finds g old new result A Good Bad → ((files : Files) (answer : Result X E) → A files answer → B files answer) → Finds g old new result B Good Bad
+  finds_as result finds answers = finds_so result finds answers (λ x good. good) (λ e bad. bad)
 
   -- memory was refused
   pub finds_none : {X E : Type 0} {answers : Files → Result X E → Type 0} {Good : X → Type 0} {Bad : E → Type 0} {s : F} (result : Result X (Halt E))

@@ -82,15 +82,14 @@ pub fn plan_bridge<F: Folder>(
     words: &BridgeWords<'_>,
 ) -> Result<Plan, Halt<Infallible>>
     requires { MayRead F.Folder folder.old (BridgeAsks (bridge words.now)) }
-    ensures answered { IfSome (F.files folder.old) (λ files. IfOk result (λ plan. AnswersBridge (bridge words.now) files (answer_of plan))) }
-    ensures well_formed { IfOk result (λ plan. IsWellFormed (answer_of plan)) }
-    ensures writable { IfOk result (λ plan. AreWritable (answer_of plan).writes) }
-    ensures no_usage { IfOk result (λ plan. IsNoUsage plan.outcome) }
-    ensures reads { OnlyReads F.Folder folder.old folder.new (result ≡ Err ReadFault) }
+    ensures { Plans F.Folder folder.old folder.new result (AnswersBridge (bridge words.now)) }
 {
     match bridge_file(alloc, folder, words) {
         Ok(writes) => Ok(Plan::writing(alloc, writes)),
-        Err(halt) => halted(alloc, halt),
+        Err(halt) => {
+            let no_files = FileNames::new(alloc);
+            Plan::stopped(alloc, say_stop(alloc, halt, &Faults::new(alloc), no_files))
+        }
     }
 }
 
@@ -101,15 +100,10 @@ fn bridge_file<F: Folder>(
     words: &BridgeWords<'_>,
 ) -> Result<Writes, Halt<Fault>>
     requires { MayRead F.Folder folder.old (BridgeAsks (bridge words.now)) }
-    ensures writes { IfSome (F.files folder.old) (λ files. Yields (writes_of result) (Bridges (bridge words.now) files)) }
-    ensures writable { IfOk result (λ writes. AreWritable (map write_of writes)) }
-    ensures nameable { (files : ℕ) → OnRefusal result (IsNameable files) }
-    ensures reads { OnlyReads F.Folder folder.old folder.new (IsReadFault result) }
+    ensures { Finds F.Folder folder.old folder.new (writes_of result) (Bridges (bridge words.now)) AreWritable IsUnplaced }
 {
-    match read_whole(alloc, folder, words) {
-        Ok(file) => Ok(written_as(alloc, words, file)?),
-        Err(halt) => Err(halt),
-    }
+    let file = read_whole(alloc, folder, words)?;
+    Ok(written_as(alloc, words, file)?)
 }
 
 /// What the file holds, with the data file of AppleDouble beside it.
@@ -119,39 +113,14 @@ fn read_whole<F: Folder>(
     words: &BridgeWords<'_>,
 ) -> Result<MacFile, Halt<Fault>>
     requires { MayRead F.Folder folder.old (BridgeAsks (bridge words.now)) }
-    ensures file { IfSome (F.files folder.old) (λ files. Yields result (IsRead (bridge words.now) files (finite.get files (string_bytes words.now.file)))) }
-    ensures short { IfOk result (λ file. length file.res_fork < 2 ^ 32) }
-    ensures nameable { (files : ℕ) → OnRefusal result (IsNameable files) }
-    ensures reads { OnlyReads F.Folder folder.old folder.new (IsReadFault result) }
+    ensures { Finds F.Folder folder.old folder.new result (λ files. IsRead (bridge words.now) files (finite.get files (bridge words.now).file))
+        (λ file. length file.res_fork < 2 ^ 32) IsUnplaced }
 {
     let name = words.file.as_str();
-    match folder.read(alloc, name) {
-        Read::Bytes(bytes) => read_held(alloc, folder, words, bytes),
-        Read::Missing => Err(Halt::Refused(missing_file(alloc, None, name.as_bytes())?)),
-        Read::Failed => Err(Halt::ReadFault),
-        Read::NoMemory => Err(Halt::NoMemory),
-    }
-}
-
-/// What bytes hold, with the data file of AppleDouble beside the file.
-fn read_held<F: Folder>(
-    alloc: Global,
-    folder: &mut F,
-    words: &BridgeWords<'_>,
-    bytes: Bytes,
-) -> Result<MacFile, Halt<Fault>>
-    requires short { length bytes < 2 ^ 32 }
-    requires may { MayRead F.Folder folder.old (IsDataFile (bridge words.now).file) }
-    ensures file { IfSome (F.files folder.old) (λ files. Yields result (IsHeld (bridge words.now) files bytes)) }
-    ensures short { IfOk result (λ file. length file.res_fork < 2 ^ 32) }
-    ensures nameable { (files : ℕ) → OnRefusal result (IsNameable files) }
-    ensures reads { OnlyReads F.Folder folder.old folder.new (IsReadFault result) }
-{
+    let bytes = read_present(alloc, folder, name)?;
     let form = form_or(words.from, bytes.as_slice());
-    match read_beside(alloc, folder, form, words.file.as_str()) {
-        Ok(data_file) => Ok(file_in(alloc, words.from, bytes, data_file, None)?),
-        Err(halt) => Err(halt),
-    }
+    let data_file = read_beside(alloc, folder, form, name)?;
+    Ok(file_in(alloc, words.from, bytes, data_file, None)?)
 }
 
 /// The data file beside a header file of AppleDouble; it is empty where there is none, and no other form has one.
@@ -162,20 +131,13 @@ fn read_beside<F: Folder>(
     header: &str,
 ) -> Result<Bytes, Halt<Fault>>
     requires { MayRead F.Folder folder.old (IsDataFile header.now) }
-    ensures data_file { IfSome (F.files folder.old) (λ files. IfOk result (HasBeside form header.now files)) }
-    ensures unrefused { OnRefusal result (λ _. ⊥) }
-    ensures reads { OnlyReads F.Folder folder.old folder.new (IsReadFault result) }
+    ensures { Finds F.Folder folder.old folder.new result (λ files answer. IsOkAnd answer (HasBeside form header.now files)) (λ _. Unit {0}) (λ _. ⊥) }
 {
     if !matches!(form, Form::AppleDouble) {
         return Ok(Bytes::new(alloc));
     }
     let name = data_file_name(alloc, header)?;
-    match folder.read(alloc, name.as_str()) {
-        Read::Bytes(bytes) => Ok(bytes),
-        Read::Missing => Ok(Bytes::new(alloc)),
-        Read::Failed => Err(Halt::ReadFault),
-        Read::NoMemory => Err(Halt::NoMemory),
-    }
+    read_or_empty(alloc, folder, name.as_str())
 }
 
 /// What is to be written of a file, which takes a name where it has none.
