@@ -1,10 +1,10 @@
 -- One call after another, of calls that only read files.
-use Rattle.std.proofs.Common.{◌≡◌, Option, Some, None, Ok, Err, sym, subst}
+use Rattle.std.proofs.Common.{◌≡◌, Option, Some, None, Ok, Err, inl, inr, sym, ap, subst, ◌∙◌}
 use Rattle.std.specs.Prelude.{IfOk, IfSome, IsErrAnd}
 use Rattle.std.specs.declared.result.Result.{Result}
 use Rattle.rz_core.proofs.Stops.{then_halts, then_yields, yields_so}
 use Rattle.rz_core.specs.Answers.{Then}
-use Rattle.rz_core.specs.Stop.{halt_of, seen, IsReadFault, Meets, OnFault, OnRefusal, Yields}
+use Rattle.rz_core.specs.Stop.{◌>>=◌, halt_of, seen, Gives, IsReadFault, Meets, OnFault, OnRefusal, Yields}
 use Rattle.rz_core.specs.declared.stop.Halt.{Halt}
 use Rattle.rz_core.specs.declared.stop.Halt.TheVariants as halts
 use Rattle.rz_core.specs.declared.stop.Stop.{Stop}
@@ -126,3 +126,23 @@ module _ {F : Type 0} (g : Ghosts F) where
     pub finds_fault : (Good : X → Type 0) {s : F} (stop : Stop E) → Meets {X = X} (Err stop) answers → OnFault {X = X} (Err stop) Bad → Finds g s s (Err (halt_of stop)) (λ files. answers) Good Bad
     finds_fault Good {s} (Refused fault) is bad = record { answered = always (g.files s) is; good = tt; bad = bad; reads = reads_nothing g s }
     finds_fault Good {s} NoMemory is bad = record { answered = always (g.files s) tt; good = tt; bad = tt; reads = reads_nothing g s }
+
+-- What is answered exactly.
+
+-- one answer after another
+pub binds : {X Y E : Type 0} (first : Result X E) (next : X → Result Y E) (answer : Result Y E) → Then (λ given. first ≡ given) (λ x given. next x ≡ given) answer → first >>= next ≡ answer
+binds first next answer (inl (x, is, so)) = ap (λ (r : Result _ _). r >>= next) is ∙ so
+binds first next answer (inr (fault, is, same)) = ap (λ (r : Result _ _). r >>= next) is ∙ sym same
+
+gives_is : {X E : Type 0} (answer : Result X E) (stop : Stop E) → Gives {X = X} answer (Err stop) → Meets {X = X} (Err stop) (λ given. answer ≡ given)
+gives_is answer (Refused fault) is = is
+gives_is answer NoMemory is = tt
+
+module _ {F : Type 0} (g : Ghosts F) {X E : Type 0} (answer : Result X E) {Good : X → Type 0} {Bad : E → Type 0} {s : F} where
+  -- a call that reads no file gave this value
+  pub finds_this : (value : X) → answer ≡ Ok value → Good value → Finds g s s (Ok value) (λ files given. answer ≡ given) Good Bad
+  finds_this value is good = finds_value g (λ given. answer ≡ given) Good value is good
+
+  -- or stopped
+  pub stops_so : (stop : Stop E) → Gives {X = X} answer (Err stop) → OnFault {X = X} (Err stop) Bad → Finds g s s (Err (halt_of stop)) (λ files given. answer ≡ given) Good Bad
+  stops_so stop is bad = finds_fault g (λ given. answer ≡ given) Good stop (gives_is answer stop is) bad

@@ -3,15 +3,18 @@ use Rattle.std.proofs.Common.{◌≡◌, ℕ, List, Option, Some, None, Ok, Err,
 use Rattle.std.specs.Prelude.{IfSome, IsErrAnd}
 use Rattle.std.specs.FinMap as finite
 use Rattle.std.specs.declared.result.Result.{Result}
-use Rattle.rz_core.specs.Stop.{IsReadFault, OnRefusal, Yields}
+use Rattle.rz_core.specs.Message.{IsNameable}
+use Rattle.rz_core.specs.Stop.{IsReadFault, OnFault, OnRefusal, Yields}
 use Rattle.rz_core.specs.declared.fault.Fault.{Fault}
 use Rattle.rz_core.specs.declared.stop.Halt.{Halt}
 use Rattle.rz_core.specs.declared.stop.Halt.TheVariants as halts
+use Rattle.rz_core.specs.declared.stop.Stop.{Stop}
+use Rattle.rz_core.specs.declared.stop.Stop.TheVariants as stops
 use Rattle.rz_folder.proofs.Reading.{reads_as, reads_on}
 use Rattle.rz_folder.specs.Finds.{Finds}
 use Rattle.rz_folder.specs.Folder.{Files}
 use Rattle.rz_folder.specs.declared.folder.Folder.{Ghosts}
-use Rattle.rz_folder_paths.specs.Names.{missing_file, HasBytes, HasEntry}
+use Rattle.rz_folder_paths.specs.Names.{missing_file, HasBytes, HasEntry, IsUnplaced}
 
 -- What is at the name.
 
@@ -78,3 +81,18 @@ module _ {F : Type 0} (g : Ghosts F) (name : List ℕ) {Y : Type 0} (Next : File
       by (Some files) (halts.Refused fault) read = none_of name (Next files) fault (finite.get files name) read (missing files)
       by (Some files) halts.ReadFault read = tt
       by (Some files) halts.NoMemory read = tt
+
+-- a call that names no mark
+pub unplaced : (X Y : Type 0) (stop : Stop Fault) → ((files : ℕ) → OnFault {X = X} (Err stop) (IsNameable files)) → OnFault {X = Y} (Err stop) IsUnplaced
+unplaced X Y (stops.Refused fault) all = all
+unplaced X Y stops.NoMemory all = tt
+
+pub placed_at : {X : Type 0} (files : ℕ) (result : Result X (Halt Fault)) → OnRefusal result IsUnplaced → OnRefusal result (IsNameable files)
+placed_at files (Ok value) bad = tt
+placed_at files (Err (halts.Refused fault)) bad = bad files
+placed_at files (Err halts.ReadFault) bad = tt
+placed_at files (Err halts.NoMemory) bad = tt
+
+pub finds_at : {F : Type 0} (g : Ghosts F) {X : Type 0} {A : Files → Result X Fault → Type 0} {Good : X → Type 0} {old new : F} {result : Result X (Halt Fault)} (files : ℕ)
+    → Finds g old new result A Good IsUnplaced → Finds g old new result A Good (IsNameable files)
+finds_at g {result = result} files finds = record { answered = finds.answered; good = finds.good; bad = placed_at files result finds.bad; reads = finds.reads }

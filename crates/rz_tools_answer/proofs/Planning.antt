@@ -1,8 +1,11 @@
 -- The plan of a command, from what it made or was stopped by.
-use Rattle.std.proofs.Common.{◌≡◌, Option, Some, None, Ok, Err, refl, sym, subst}
+use Rattle.std.proofs.Common.{◌≡◌, ℕ, List, length, Option, Some, None, Ok, Err, refl, sym, subst}
 use Rattle.std.specs.Prelude.{IfOk, IfSome, IsErrAnd}
 use Rattle.std.specs.declared.result.Result.{Result}
+use Rattle.rz_core.proofs.Stops.{yields_so}
+use Rattle.rz_core.specs.Message.{IsNameable}
 use Rattle.rz_core.specs.Stop.{seen, IsReadFault, OnRefusal, Yields}
+use Rattle.rz_core.specs.declared.fault.Fault.{Fault}
 use Rattle.rz_core.specs.declared.stop.Halt.{Halt}
 use Rattle.rz_core.specs.declared.stop.Halt.TheVariants as halts
 use Rattle.rz_folder.proofs.Reading.{reads_as}
@@ -10,9 +13,10 @@ use Rattle.rz_folder.specs.Finds.{Finds}
 use Rattle.rz_folder.specs.Folder.{Files}
 use Rattle.rz_folder.specs.declared.folder.Folder.{Ghosts}
 use Rattle.rz_tools_answer.specs.Answer.{Answer, Answered, Making}
-use Rattle.rz_tools_answer.specs.Made.{making_of, IsSayable}
+use Rattle.rz_tools_answer.specs.Made.{making_of, IsBeside, IsSayable, IsWarned, SaysBeside}
 use Rattle.rz_tools_answer.specs.Plan.{answer_of, EndsIn, IsNoUsage, IsRefused}
 use Rattle.rz_tools_answer.specs.Plans.{Concludes, EndsAs, Plans}
+use Rattle.rz_tools_answer.specs.Warning.{said_beside}
 use Rattle.rz_tools_answer.specs.WellFormed.{AreWritable, IsWellFormed}
 use Rattle.rz_tools_answer.specs.declared.made.Failing.{Failing}
 use Rattle.rz_tools_answer.specs.declared.made.Made.{Made}
@@ -108,3 +112,62 @@ module _ {F E : Type 0} (g : Ghosts F) (done : Making → Answer) (Makes : Files
     no_usage = concludes.no_usage;
     reads = reads_as g old new (λ failed. seen_failed made (concludes.read_fault failed)) finds.reads;
   }
+
+module _ {F E : Type 0} (g : Ghosts F) where
+  pub plans_as : {A B : Files → Answer → Type 0} {old new : F} (result : Result Plan (Halt E)) → Plans g old new result A → ((files : Files) (answer : Answer) → A files answer → B files answer)
+      → Plans g old new result B
+  plans_as {A = A} {B = B} {old = old} result plans so = record {
+    answered = by (g.files old) result plans.answered;
+    well_formed = plans.well_formed;
+    writable = plans.writable;
+    no_usage = plans.no_usage;
+    reads = plans.reads;
+  }
+    where
+      by : (before : Option Files) (result : Result Plan (Halt E)) → IfSome before (λ files. IfOk result (λ plan. A files (answer_of plan)))
+          → IfSome before (λ files. IfOk result (λ plan. B files (answer_of plan)))
+      by None result is = tt
+      by (Some files) (Ok plan) is = so files (answer_of plan) is
+      by (Some files) (Err end) is = tt
+
+-- What a command makes of an output and of warnings.
+
+-- the output is one of these, and is said beside the warnings
+abbrev pub SaidWith : List (List ℕ) → List Fault → (Result (List ℕ) Fault → Type 0) → Result Making Failing → Type 0
+SaidWith names warnings answers made = (output : Result (List ℕ) Fault) × answers output × (made ≡ said_beside names warnings output)
+
+module _ (names : List (List ℕ)) (warnings : List Fault) (answers : Result (List ℕ) Fault → Type 0) where
+  said_with : (output : Result (List ℕ) (Halt Fault)) (result : Result Made (Halt Failing)) → SaysBeside names warnings output result → Yields output answers
+      → Yields (seen making_of result) (SaidWith names warnings answers)
+  said_with (Ok bytes) result says yields =
+      yields_so (λ made. made ≡ said_beside names warnings (Ok bytes)) (SaidWith names warnings answers) (λ made is. (Ok bytes, yields, is)) (seen making_of result) says
+  said_with (Err (halts.Refused fault)) result says yields =
+      yields_so (λ made. made ≡ said_beside names warnings (Err fault)) (SaidWith names warnings answers) (λ made is. (Err fault, yields, is)) (seen making_of result) says
+  said_with (Err halts.ReadFault) result says yields = subst (λ (r : Result Made (Halt Failing)). Yields (seen making_of r) (SaidWith names warnings answers)) (sym says) tt
+  said_with (Err halts.NoMemory) result says yields = subst (λ (r : Result Made (Halt Failing)). Yields (seen making_of r) (SaidWith names warnings answers)) (sym says) tt
+
+good_too : (Good : List ℕ → Type 0) (output : Result (List ℕ) (Halt Fault)) (result : Result Made (Halt Failing)) → IfOk result (λ made. output ≡ Ok made.bytes) → IfOk (seen making_of result) IsWarned
+    → IfOk output Good → IfOk (seen making_of result) (λ making. Good making.bytes × IsWarned making)
+good_too Good output (Ok made) is warned good = (subst (λ (o : Result (List ℕ) (Halt Fault)). IfOk o Good) is good, warned)
+good_too Good output (Err halt) is warned good = tt
+
+unseen_failed : (made : Result Made (Halt Failing)) → IsReadFault (seen making_of made) → IsReadFault made
+unseen_failed (Ok made) failed = failed
+unseen_failed (Err (halts.Refused failing)) failed = failed
+unseen_failed (Err halts.ReadFault) failed = failed
+unseen_failed (Err halts.NoMemory) failed = failed
+
+module _ {F : Type 0} (g : Ghosts F) where
+  pub finds_beside : {A : Files → Result (List ℕ) Fault → Type 0} {Good : List ℕ → Type 0} {old new : F} {names : List (List ℕ)} {warnings : List Fault} {output : Result (List ℕ) (Halt Fault)}
+      (result : Result Made (Halt Failing)) → Finds g old new output A Good (IsNameable (length names)) → IsBeside names warnings output result
+      → Finds g old new (seen making_of result) (λ files. SaidWith names warnings (A files)) (λ making. Good making.bytes × IsWarned making) IsSayable
+  finds_beside {A = A} {Good = Good} {old = old} {new = new} {names = names} {warnings = warnings} {output = output} result finds beside = record {
+    answered = by (g.files old) finds.answered;
+    good = good_too Good output result beside.bytes beside.warned finds.good;
+    bad = beside.sayable;
+    reads = reads_as g old new (λ failed. beside.read_fault (unseen_failed result failed)) finds.reads;
+  }
+    where
+      by : (before : Option Files) → IfSome before (λ files. Yields output (A files)) → IfSome before (λ files. Yields (seen making_of result) (SaidWith names warnings (A files)))
+      by None yields = tt
+      by (Some files) yields = said_with names warnings (A files) output result beside.said yields

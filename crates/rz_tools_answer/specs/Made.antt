@@ -39,6 +39,6 @@ SaysBeside files warnings (Err halts.NoMemory) result = result ≡ Err halts.NoM
 pub record IsBeside (files : List (List ℕ)) (warnings : List Fault) (output : Result (List ℕ) (Halt Fault)) (result : Result Made (Halt Failing)) : Type 0 where
   pub said : SaysBeside files warnings output result
   pub bytes : IfOk result (λ made. output ≡ Ok made.bytes)
-  pub sayable : OnRefusal result IsSayable
-  pub warned : IfOk result (λ made. IsWarningText made.said)
+  pub sayable : OnRefusal (seen making_of result) IsSayable
+  pub warned : IfOk (seen making_of result) IsWarned
   pub read_fault : IsReadFault result → IsReadFault output

@@ -1,5 +1,4 @@
 pub mod Limits
 pub mod Begins
 pub mod Bridging
-pub mod Stopped
 pub mod Breaking

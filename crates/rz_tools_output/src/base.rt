@@ -80,7 +80,7 @@ pub fn read_or_empty<F: Folder>(
     name: &str,
 ) -> Result<Bytes, Halt<Fault>>
     requires { F.may_read folder.old name.now }
-    ensures { Finds F.Folder folder.old folder.new result (λ files. HasOrNone (finite.get files name.now)) (λ bytes. length bytes < 2 ^ 32) (λ _. ⊥) }
+    ensures { Finds F.Folder folder.old folder.new result (λ files. HasOrNone (finite.get files name.now)) (λ bytes. length bytes < 2 ^ 32) IsUnplaced }
 {
     match folder.read(alloc, name) {
         Read::Bytes(bytes) => Ok(bytes),

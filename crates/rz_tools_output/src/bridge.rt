@@ -1,30 +1,30 @@
 //! `bridge`: a file of one form, written in another. What it answers is in `specs/Bridge`.
 
-ghost use Rattle.std.specs.Prelude.{◌≡◌, ◌<◌, ◌≤◌, ◌^◌, ℕ, [], get_or, length, map, Err, IfOk, IfSome};
+ghost use Rattle.std.specs.Prelude.{◌≡◌, ◌<◌, ◌≤◌, ◌^◌, ℕ, [], get_or, length, map, IfOk, IsOkAnd};
 ghost use Rattle.std.specs.FinMap as finite;
 ghost use Rattle.std.specs.String.{string_bytes};
-ghost use Rattle.rz_tools_answer.specs.Plan.{answer_of, write_of, IsNoUsage};
-ghost use Rattle.rz_tools_answer.specs.WellFormed.{AreWritable, IsWellFormed};
-ghost use Rattle.rz_core.specs.declared.stop.Halt.TheVariants.{ReadFault};
+ghost use Rattle.rz_tools_answer.specs.Plan.{write_of};
+ghost use Rattle.rz_tools_answer.specs.Plans.{Plans};
+ghost use Rattle.rz_tools_answer.specs.WellFormed.{AreWritable};
 ghost use Rattle.rz_core.specs.Answers.{Then};
-ghost use Rattle.rz_core.specs.Stop.{Meets, OnFault, IsReadFault, OnRefusal, Yields};
+ghost use Rattle.rz_core.specs.Stop.{Meets, OnFault};
 ghost use Rattle.rz_core.specs.Message.{IsNameable};
 ghost use Rattle.rz_bridge_files.specs.Names.{Named};
+ghost use Rattle.rz_folder.specs.Finds.{Finds};
 ghost use Rattle.rz_folder.specs.MayRead.{MayRead};
+ghost use Rattle.rz_folder_paths.specs.Names.{IsUnplaced};
 ghost use Rattle.rz_bridge_form.specs.DataFile.{IsDataFile};
-ghost use Rattle.rz_folder.specs.OnlyReads.{OnlyReads};
 ghost use Rattle.rz_tools_args.specs.Held.{items_of};
-ghost use Rattle.rz_tools_output.specs.Bridge.{bridge, bridge_asked, writes_of, AnswersBridge, AreWrites, Bridges, HasBeside, IsHeld, IsRead, IsWrittenAs, BridgeAsks};
+ghost use Rattle.rz_tools_output.specs.Bridge.{bridge, bridge_asked, writes_of, AnswersBridge, AreWrites, Bridges, HasBeside, IsRead, IsWrittenAs, BridgeAsks};
 
-use crate::base::form_or;
-use crate::halted::halted;
+use crate::base::{form_or, read_or_empty};
 use rz_bridge::MacFile;
 use rz_bridge_files::{file_in, named, write_as};
 use rz_bridge_form::{Form, data_file_name};
 use rz_core::{Bytes, Fault, FileNames, Halt, NoMemory, Stop};
-use rz_folder::{Folder, Read};
-use rz_folder_paths::missing_file;
-use rz_tools_answer::{Plan, Write, Writes};
+use rz_folder::Folder;
+use rz_folder_paths::read_present;
+use rz_tools_answer::{Faults, Plan, Write, Writes, say_stop};
 use rz_tools_args::{Command, Flag};
 use std::alloc::Global;
 use std::convert::Infallible;
@@ -87,8 +87,9 @@ pub fn plan_bridge<F: Folder>(
     match bridge_file(alloc, folder, words) {
         Ok(writes) => Ok(Plan::writing(alloc, writes)),
         Err(halt) => {
-            let no_files = FileNames::new(alloc);
-            Plan::stopped(alloc, say_stop(alloc, halt, &Faults::new(alloc), no_files))
+            let warnings = Faults::new(alloc);
+            let stop = say_stop(alloc, halt, &warnings, FileNames::new(alloc));
+            Plan::stopped(alloc, stop)
         }
     }
 }
@@ -131,7 +132,7 @@ fn read_beside<F: Folder>(
     header: &str,
 ) -> Result<Bytes, Halt<Fault>>
     requires { MayRead F.Folder folder.old (IsDataFile header.now) }
-    ensures { Finds F.Folder folder.old folder.new result (λ files answer. IsOkAnd answer (HasBeside form header.now files)) (λ _. Unit {0}) (λ _. ⊥) }
+    ensures { Finds F.Folder folder.old folder.new result (λ files answer. IsOkAnd answer (HasBeside form header.now files)) (λ _. Unit {0}) IsUnplaced }
 {
     if !matches!(form, Form::AppleDouble) {
         return Ok(Bytes::new(alloc));

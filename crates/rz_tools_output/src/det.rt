@@ -56,7 +56,9 @@ pub fn plan_det<F: Folder>(
     ensures { Plans F.Folder folder.old folder.new result (AnswersDet (det words.now)) }
 {
     let text = read_breaks(alloc, folder, words);
-    let made = say_beside(alloc, text, &Faults::new(alloc), FileNames::new(alloc));
+    let warnings = Faults::new(alloc);
+    let files = FileNames::new(alloc);
+    let made = say_beside(alloc, text, &warnings, files);
     Plan::to_show(alloc, made)
 }
 

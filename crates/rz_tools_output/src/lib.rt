@@ -14,7 +14,6 @@
 mod base;
 mod bridge;
 mod det;
-mod halted;
 mod output;
 mod target;
 
