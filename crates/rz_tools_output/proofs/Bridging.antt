@@ -99,6 +99,16 @@ halt_at files (halts.Refused fault) bad = bad files
 halt_at files halts.ReadFault bad = tt
 halt_at files halts.NoMemory bad = tt
 
+-- a refusal before which nothing is said
+refused_so : (asked : BridgeAsked) (files : Files) (halt : Halt Fault) (stop : Halt Failing) → IsBeside [] [] (Err halt) (Err stop) → Yields {X = List Write} (Err halt) (Bridges asked files) → (answer : Answer) → EndsIn stop answer
+    → AnswersBridge asked files answer
+refused_so asked files (halts.Refused fault) (halts.Refused failing) beside makes answer ends =
+    (Err fault, makes, ends ∙ ap refused (same_err failing (record { fault = fault; files = []; said = [] }) beside.said))
+refused_so asked files halts.ReadFault (halts.Refused failing) beside makes answer ends = absurd (cc beside.said)
+refused_so asked files halts.NoMemory (halts.Refused failing) beside makes answer ends = absurd (cc beside.said)
+refused_so asked files halt halts.ReadFault beside makes answer ends = absurd ends
+refused_so asked files halt halts.NoMemory beside makes answer ends = absurd ends
+
 module _ {F E : Type 0} (g : Ghosts F) (asked : BridgeAsked) where
   pub plans_writes : {Bad : Fault → Type 0} {old new : F} (writes : List Write) → Finds g old new (Ok writes) (Bridges asked) AreWritable Bad → (plan : Plan) → answer_of plan ≡ bridged (Ok writes)
       → Plans {E = E} g old new (Ok plan) (AnswersBridge asked)
@@ -114,16 +124,6 @@ module _ {F E : Type 0} (g : Ghosts F) (asked : BridgeAsked) where
       by None makes = tt
       by (Some files) makes = (Ok writes, makes, is)
 
-  -- a refusal before which nothing is said
-  refused_so : (files : Files) (halt : Halt Fault) (stop : Halt Failing) → IsBeside [] [] (Err halt) (Err stop) → Yields {X = List Write} (Err halt) (Bridges asked files) → (answer : Answer) → EndsIn stop answer
-      → AnswersBridge asked files answer
-  refused_so files (halts.Refused fault) (halts.Refused failing) beside makes answer ends =
-      (Err fault, makes, ends ∙ ap refused (same_err failing (record { fault = fault; files = []; said = [] }) beside.said))
-  refused_so files halts.ReadFault (halts.Refused failing) beside makes answer ends = absurd (cc beside.said)
-  refused_so files halts.NoMemory (halts.Refused failing) beside makes answer ends = absurd (cc beside.said)
-  refused_so files halt halts.ReadFault beside makes answer ends = absurd ends
-  refused_so files halt halts.NoMemory beside makes answer ends = absurd ends
-
   pub plans_refusal : {Good : List Write → Type 0} {Bad : Fault → Type 0} {old new : F} {halt : Halt Fault} {stop : Halt Failing} → Finds g old new (Err halt) (Bridges asked) Good Bad
       → IsBeside [] [] (Err halt) (Err stop) → (result : Result Plan (Halt E)) → IfOk result (λ plan. EndsIn stop (answer_of plan)) → Concludes shown (Err stop) result
       → Plans g old new result (AnswersBridge asked)
@@ -138,5 +138,5 @@ module _ {F E : Type 0} (g : Ghosts F) (asked : BridgeAsked) where
       by : (before : Option Files) (result : Result Plan (Halt E)) → IfOk result (λ plan. EndsIn stop (answer_of plan)) → IfSome before (λ files. Yields {X = List Write} (Err halt) (Bridges asked files))
           → IfSome before (λ files. IfOk result (λ plan. AnswersBridge asked files (answer_of plan)))
       by None result ends makes = tt
-      by (Some files) (Ok plan) ends makes = refused_so files halt stop beside makes (answer_of plan) ends
+      by (Some files) (Ok plan) ends makes = refused_so asked files halt stop beside makes (answer_of plan) ends
       by (Some files) (Err end) ends makes = tt
