@@ -12,6 +12,7 @@ use Rattle.rz_core.specs.declared.stop.Stop.TheVariants.{Refused, NoMemory}
 use Rattle.rz_folder.proofs.Reading.{reads_as, reads_nothing, reads_on}
 use Rattle.rz_folder.specs.Finds.{Finds}
 use Rattle.rz_folder.specs.Folder.{Files}
+use Rattle.rz_folder.specs.OnlyReads.{OnlyReads}
 use Rattle.rz_folder.specs.declared.folder.Folder.{Ghosts}
 
 always : {P : Type 0} (before : Option Files) → P → IfSome before (λ files. P)
@@ -19,12 +20,12 @@ always None holds = tt
 always (Some files) holds = holds
 
 -- what a stop says of one value it says of another
-refuses_so : {E : Type 0} (X Y : Type 0) (halt : Halt E) (Bad : E → Type 0) → OnRefusal {X = X} (Err halt) Bad → OnRefusal {X = Y} (Err halt) Bad
+pub refuses_so : {E : Type 0} (X Y : Type 0) (halt : Halt E) (Bad : E → Type 0) → OnRefusal {X = X} (Err halt) Bad → OnRefusal {X = Y} (Err halt) Bad
 refuses_so X Y (halts.Refused fault) Bad is = is
 refuses_so X Y halts.ReadFault Bad is = tt
 refuses_so X Y halts.NoMemory Bad is = tt
 
-failed_so : {E : Type 0} (X Y : Type 0) (halt : Halt E) → IsReadFault {X = X} (Err halt) → IsReadFault {X = Y} (Err halt)
+pub failed_so : {E : Type 0} (X Y : Type 0) (halt : Halt E) → IsReadFault {X = X} (Err halt) → IsReadFault {X = Y} (Err halt)
 failed_so X Y (halts.Refused fault) is = absurd is
 failed_so X Y halts.ReadFault is = tt
 failed_so X Y halts.NoMemory is = absurd is
@@ -71,6 +72,14 @@ module _ {F : Type 0} (g : Ghosts F) where
   finds_none {X = X} {E = E} {answers = answers} {Good = Good} {Bad = Bad} {s = s} (Err stop) is =
       subst (λ (e : Halt E). Finds g s s (Err e) answers Good Bad) (sym is)
       (record { answered = always {P = Unit {0}} (g.files s) tt; good = tt; bad = tt; reads = reads_nothing g s })
+
+  -- after calls that read
+  pub finds_none_after : {X E : Type 0} {answers : Files → Result X E → Type 0} {Good : X → Type 0} {Bad : E → Type 0} {old new : F} {P : Type 0} (result : Result X (Halt E))
+      → OnlyReads g old new P → IsErrAnd result (λ e. e ≡ halts.NoMemory) → Finds g old new result answers Good Bad
+  finds_none_after (Ok value) reads is = absurd is
+  finds_none_after {X = X} {E = E} {answers = answers} {Good = Good} {Bad = Bad} {old = old} {new = new} (Err stop) reads is =
+      subst (λ (e : Halt E). Finds g old new (Err e) answers Good Bad) (sym is)
+      (record { answered = always {P = Unit {0}} (g.files old) tt; good = tt; bad = tt; reads = reads_as g old new (λ never. absurd never) reads })
 
   -- a call that reads no file
   pub finds_pure : {X E : Type 0} (answers : Result X E → Type 0) {Good : X → Type 0} {Bad : E → Type 0} {s : F} (result : Result X (Halt E)) → Yields result answers → IfOk result Good

@@ -96,3 +96,8 @@ placed_at files (Err halts.NoMemory) bad = tt
 pub finds_at : {F : Type 0} (g : Ghosts F) {X : Type 0} {A : Files → Result X Fault → Type 0} {Good : X → Type 0} {old new : F} {result : Result X (Halt Fault)} (files : ℕ)
     → Finds g old new result A Good IsUnplaced → Finds g old new result A Good (IsNameable files)
 finds_at g {result = result} files finds = record { answered = finds.answered; good = finds.good; bad = placed_at files result finds.bad; reads = finds.reads }
+
+pub halt_placed : (X Y : Type 0) (files : ℕ) (halt : Halt Fault) → OnRefusal {X = X} (Err halt) IsUnplaced → OnRefusal {X = Y} (Err halt) (IsNameable files)
+halt_placed X Y files (halts.Refused fault) bad = bad files
+halt_placed X Y files halts.ReadFault bad = tt
+halt_placed X Y files halts.NoMemory bad = tt

@@ -1,14 +1,18 @@
 -- What is to be carried out, and the answers that it stands for.
-use Rattle.std.specs.Prelude.{◌≡◌, List, ℕ}
+use Rattle.std.specs.Prelude.{◌≡◌, List, ℕ, IfOk, IfSome}
+use Rattle.std.specs.declared.result.Result.{Result}
+use Rattle.rz_core.specs.Stop.{IsReadFault}
+use Rattle.rz_core.specs.declared.stop.Halt.{Halt}
+use Rattle.rz_folder.specs.Folder.{Files}
+use Rattle.rz_folder.specs.OnlyReads.{OnlyReads}
+use Rattle.rz_folder.specs.declared.folder.Folder.{Ghosts}
 use Rattle.rz_tools_answer.specs.Answer.{shown, Answer}
 use Rattle.rz_tools_answer.specs.Plan.{answer_of}
-use Rattle.rz_tools_answer.specs.Warning.{IsWarningText}
 use Rattle.rz_tools_answer.specs.WellFormed.{AreWritable, IsWellFormed}
 use Rattle.rz_tools_answer.specs.declared.outcome.Outcome.{Outcome}
 use Rattle.rz_tools_answer.specs.declared.outcome.Outcome.TheVariants.{Done}
 use Rattle.rz_tools_text.specs.Put.{IsTextOf}
-use Rattle.rz_tools.specs.DeRez.{IsFork}
-use Rattle.rz_tools.specs.Held.{making_with}
+use Rattle.rz_tools.specs.Held.{making_with, IsShown}
 use Rattle.rz_tools.specs.declared.reply.Reply.{Reply}
 use Rattle.rz_tools.specs.declared.reply.Reply.TheVariants as replies
 
@@ -34,4 +38,11 @@ IsText (replies.Text fork) = Unit {0}
 -- it can be carried out
 abbrev pub IsSound : Reply → Type 0
 IsSound (replies.Plan plan) = IsWellFormed (answer_of plan) × AreWritable (answer_of plan).writes
-IsSound (replies.Text fork) = IsFork fork.text.fork × IsWarningText fork.said
+IsSound (replies.Text fork) = IsShown fork
+
+-- The reply of a command: where the folder tells its files, each answer that it stands for is one of these. It can be carried out,
+-- and the command only read.
+pub record Replies {F E : Type 0} (g : Ghosts F) (old new : F) (result : Result Reply (Halt E)) (answers : Files → Answer → Type 0) : Type 0 where
+  pub answered : IfSome (g.files old) (λ files. IfOk result (λ reply. EachAnswer reply (answers files)))
+  pub sound : IfOk result IsSound
+  pub reads : OnlyReads g old new (IsReadFault result)

@@ -13,8 +13,7 @@ use Rattle.rz_bridge_form.specs.declared.form.Form.{Form}
 use Rattle.rz_bridge_form.specs.declared.form.Form.TheVariants as forms
 use Rattle.rz_core.proofs.Once.{same_err}
 use Rattle.rz_core.specs.Answers.{Then}
-use Rattle.rz_core.specs.Message.{IsNameable}
-use Rattle.rz_core.specs.Stop.{IsReadFault, OnRefusal, Yields}
+use Rattle.rz_core.specs.Stop.{IsReadFault, Yields}
 use Rattle.rz_core.specs.declared.fault.Fault.{Fault}
 use Rattle.rz_core.specs.declared.stop.Halt.{Halt}
 use Rattle.rz_core.specs.declared.stop.Halt.TheVariants as halts
@@ -22,7 +21,6 @@ use Rattle.rz_folder.proofs.Reading.{reads_as}
 use Rattle.rz_folder.specs.Finds.{Finds}
 use Rattle.rz_folder.specs.Folder.{Files}
 use Rattle.rz_folder.specs.declared.folder.Folder.{Ghosts}
-use Rattle.rz_folder_paths.specs.Names.{IsUnplaced}
 use Rattle.rz_tools_answer.proofs.Warnings.{no_lines}
 use Rattle.rz_tools_answer.specs.Answer.{refused, shown, Answer, Write}
 use Rattle.rz_tools_answer.specs.Made.{IsBeside}
@@ -93,11 +91,6 @@ failed_too : (halt : Halt Fault) → IsReadFault {X = List ℕ} (Err halt) → I
 failed_too (halts.Refused fault) failed = absurd failed
 failed_too halts.ReadFault failed = tt
 failed_too halts.NoMemory failed = absurd failed
-
-pub halt_at : (files : ℕ) (halt : Halt Fault) → OnRefusal {X = List Write} (Err halt) IsUnplaced → OnRefusal {X = List ℕ} (Err halt) (IsNameable files)
-halt_at files (halts.Refused fault) bad = bad files
-halt_at files halts.ReadFault bad = tt
-halt_at files halts.NoMemory bad = tt
 
 -- a refusal before which nothing is said
 refused_so : (asked : BridgeAsked) (files : Files) (halt : Halt Fault) (stop : Halt Failing) → IsBeside [] [] (Err halt) (Err stop) → Yields {X = List Write} (Err halt) (Bridges asked files) → (answer : Answer) → EndsIn stop answer

@@ -1,20 +1,20 @@
 use Rattle.std.proofs.Common.{ℕ, List, [], length, map, Err, refl, subst, sym}
 use Rattle.rz_core.specs.declared.fault.Fault.{Fault}
-use Rattle.rz_folder_paths.proofs.Present.{placed_at}
+use Rattle.rz_folder_paths.proofs.Present.{halt_placed}
 use Rattle.rz_tools_answer.proofs.Planning.{concludes_stopped, stop_sayable}
-use Rattle.rz_tools_answer.specs.Answer.{shown}
+use Rattle.rz_tools_answer.specs.Answer.{shown, Write}
 use Rattle.rz_tools_answer.specs.Made.{IsBeside}
 use Rattle.rz_tools_answer.specs.Plan.{write_of}
 use Rattle.rz_tools_answer.specs.Warning.{AreWarnings}
 use Rattle.rz_tools_output.specs.Bridge.{bridge}
-use Rattle.rz_tools_output.proofs.Bridging.{halt_at, plans_refusal, plans_writes}
+use Rattle.rz_tools_output.proofs.Bridging.{plans_refusal, plans_writes}
 use Rattle.rz_tools_output.proofs.bridge.plan_bridge.Goals as goal
 
 pub returns-in-Ok : goal.returns-in-Ok
 returns-in-Ok g c = plans_writes g.F.Folder (bridge c.args.words.now) (map write_of c.in-Ok.writes) c.in-Ok.ensures c.writing.result c.writing.ensures
 
 pub say_stop-stop-requires-clause-fault : goal.say_stop-stop-requires-clause-fault
-say_stop-stop-requires-clause-fault g c = halt_at (length c.new.result) c.in-Err.halt c.in-Err.ensures.bad
+say_stop-stop-requires-clause-fault g c = halt_placed (List Write) (List ℕ) (length c.new.result) c.in-Err.halt c.in-Err.ensures.bad
 
 pub say_stop-stop-requires-clause-warnings : goal.say_stop-stop-requires-clause-warnings
 say_stop-stop-requires-clause-warnings g c = subst (λ (ws : List Fault). AreWarnings (length c.new.result) ws) (sym c.new-warnings.ensures) tt
