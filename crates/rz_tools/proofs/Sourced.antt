@@ -1,12 +1,12 @@
 -- What sources make, and what is made of it, one call after another.
-use Rattle.std.proofs.Common.{◌≡◌, inl, inr, ℕ, List, [], Ok, Err, Some, None, refl, sym, ap, subst, ◌∙◌}
+use Rattle.std.proofs.Common.{◌≡◌, inl, inr, ℕ, List, [], length, Ok, Err, Some, None, refl, sym, ap, subst, ◌∙◌}
 use Rattle.std.specs.Prelude.{IfSome, IsErrAnd}
 use Rattle.std.specs.Str.{str_to_ascii_lowercase}
 use Rattle.std.specs.declared.option.Option.{Option}
 use Rattle.std.specs.declared.result.Result.{Result}
 use Rattle.rz_core.proofs.Once.{same_err}
 use Rattle.rz_core.specs.Answers.{Then}
-use Rattle.rz_core.specs.Stop.{Yields}
+use Rattle.rz_core.specs.Stop.{IsReadFault, OnRefusal, Yields}
 use Rattle.rz_core.specs.declared.fault.Fault.{Fault}
 use Rattle.rz_core.specs.declared.stop.Halt.{Halt}
 use Rattle.rz_core.specs.declared.stop.Halt.TheVariants as halts
@@ -16,6 +16,7 @@ use Rattle.rz_folder.specs.Finds.{Finds}
 use Rattle.rz_folder.specs.Folder.{Files}
 use Rattle.rz_folder.specs.declared.folder.Folder.{Ghosts}
 use Rattle.rz_lex.specs.declared.token.Token.{Token}
+use Rattle.rz_pre.specs.Placed.{IsSourceFault}
 use Rattle.rz_pre.specs.Program.{ProgramGoes, State}
 use Rattle.rz_pre.specs.Reading.{IsProgram, OfProgram}
 use Rattle.rz_pre.specs.declared.condition.Tool.{Tool}
@@ -47,6 +48,16 @@ module _ (tool : Tool) (names paths : List (List ℕ)) (defs : List Def) where
   no_program (halts.Refused failure) (Some files) gave = (gave, refl)
   no_program halts.ReadFault (Some files) gave = tt
   no_program halts.NoMemory (Some files) gave = tt
+
+pub not_read_sayable : (halt : Halt Failure) → OnRefusal {X = Program} (Err halt) (λ failure. IsSourceFault (length failure.files) failure.fault) → OnRefusal {X = Program} (Err (not_read halt)) IsSayable
+not_read_sayable (halts.Refused failure) is = record { nameable = is.nameable; warned = ([], [], tt, refl) }
+not_read_sayable halts.ReadFault is = tt
+not_read_sayable halts.NoMemory is = tt
+
+pub not_read_failed : (halt : Halt Failure) → IsReadFault {X = Program} (Err (not_read halt)) → IsReadFault {X = Program} (Err halt)
+not_read_failed (halts.Refused failure) failed = absurd failed
+not_read_failed halts.ReadFault failed = tt
+not_read_failed halts.NoMemory failed = absurd failed
 
 after_program : {Y : Type 0} (First : Result State Failing → Type 0) (Next : State → Result Y Failing → Type 0) (answer : Result Y Failing)
     → Then (OfProgram First) (λ program. OfState program Next) answer → Then First Next answer

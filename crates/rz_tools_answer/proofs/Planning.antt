@@ -137,7 +137,7 @@ abbrev pub SaidWith : List (List ℕ) → List Fault → (Result (List ℕ) Faul
 SaidWith names warnings answers made = (output : Result (List ℕ) Fault) × answers output × (made ≡ said_beside names warnings output)
 
 module _ (names : List (List ℕ)) (warnings : List Fault) (answers : Result (List ℕ) Fault → Type 0) where
-  said_with : (output : Result (List ℕ) (Halt Fault)) (result : Result Made (Halt Failing)) → SaysBeside names warnings output result → Yields output answers
+  pub said_with : (output : Result (List ℕ) (Halt Fault)) (result : Result Made (Halt Failing)) → SaysBeside names warnings output result → Yields output answers
       → Yields (seen making_of result) (SaidWith names warnings answers)
   said_with (Ok bytes) result says yields =
       yields_so (λ made. made ≡ said_beside names warnings (Ok bytes)) (SaidWith names warnings answers) (λ made is. (Ok bytes, yields, is)) (seen making_of result) says
@@ -151,7 +151,11 @@ good_too : (Good : List ℕ → Type 0) (output : Result (List ℕ) (Halt Fault)
 good_too Good output (Ok made) is warned good = (subst (λ (o : Result (List ℕ) (Halt Fault)). IfOk o Good) is good, warned)
 good_too Good output (Err halt) is warned good = tt
 
-unseen_failed : (made : Result Made (Halt Failing)) → IsReadFault (seen making_of made) → IsReadFault made
+pub beside_good : {names : List (List ℕ)} {warnings : List Fault} {output : Result (List ℕ) (Halt Fault)} (Good : List ℕ → Type 0) (result : Result Made (Halt Failing)) → IsBeside names warnings output result
+    → IfOk output Good → IfOk (seen making_of result) (λ making. Good making.bytes × IsWarned making)
+beside_good {output = output} Good result beside good = good_too Good output result beside.bytes beside.warned good
+
+pub unseen_failed : (made : Result Made (Halt Failing)) → IsReadFault (seen making_of made) → IsReadFault made
 unseen_failed (Ok made) failed = failed
 unseen_failed (Err (halts.Refused failing)) failed = failed
 unseen_failed (Err halts.ReadFault) failed = failed
