@@ -1,7 +1,5 @@
 -- Which names a call may read.
-use Rattle.std.specs.Prelude.{◌≡◌, ℕ, List, slice_get}
-use Rattle.std.specs.declared.option.Option.{Option}
-use Rattle.std.specs.declared.option.Option.TheVariants.{Some, None}
+use Rattle.std.specs.Prelude.{◌≡◌, ℕ, List, Option, Some, None, slice_get}
 use Rattle.rz_folder.specs.Folder.{Files}
 use Rattle.rz_folder.specs.declared.folder.Folder.{Ghosts}
 

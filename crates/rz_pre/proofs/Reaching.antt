@@ -115,7 +115,7 @@ module _ {F : Type 0} (g : Ghosts F) (paths : List (List ℕ)) where
       → MayReadOf g folder (λ files. IsReached paths files (IsOneOf names)) → MayReadOf g folder (λ files. IsReached paths files (IsIncluded paths file (joined 1 text)))
   may_read_inside folder names text file opened may =
       may_read_fewer g (λ files. IsReached paths files (IsOneOf names)) may (λ files. IsReached paths files (IsIncluded paths file (joined 1 text)))
-      (λ files told. let under = opened files told in reached_in paths files (IsOneOf names) under.0 text file (begins under.0 under.1.0) under.1.1)
+      (λ files told. let under = opened files told in reached_in paths files (IsOneOf names) under.0 text file (begins under.0 under.1) under.2)
 
   -- the names under which the file is looked for that a line includes
   pub may_read_included : (folder : F) (tool : Tool) (file : ℕ) (text here rest : List Placed) (line : RawLine) (opens after : List Open) (s t : State) (own : List ℕ)

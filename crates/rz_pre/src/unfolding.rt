@@ -296,8 +296,9 @@ fn into_program(alloc: Global, reading: Reading) -> Result<Program, NoMemory>
 /// cut into, whatever the folder tells: a word of at most 255 bytes, a number below 2^32, a literal of one to
 /// four bytes, a text or a sign.
 ///
-/// A read fault comes only where the folder's count of read faults rose. No file changes. No names are read but those of
-/// `names`, and those under which a file is looked for that a line of a file includes that was read. (MPW Rez.)
+/// A read fault comes only where the folder's count of read faults rose. No file changes. Over a folder that tells its
+/// files no name is read but those that `specs/Reached` has: those of `names`, and for each of these the names under
+/// which a file is looked for that a line of its file includes, and so on. (MPW Rez.)
 pub fn preprocess<F: Folder>(
     alloc: Global,
     folder: &mut F,

@@ -48,8 +48,8 @@ pub fn bytes_halted(given: Result<Bytes, Stop<Fault>>) -> Result<Bytes, Halt<Fau
 
 /// The file that a statement on this line names, read in the form that its bytes tell. A raw file is its bytes as they
 /// were read, which are copied no more. Refused with 101 where there is no such file (kept: the name), and then with the
-/// first rule of its form that it breaks, as `rz_bridge_files` says. No file changes, and none is read under
-/// another name. (MPW Rez.)
+/// first rule of its form that it breaks, as `rz_bridge_files` says. No file changes, and none is read under another
+/// name. (MPW Rez.)
 pub fn file_of_name<F: Folder>(
     alloc: Global,
     folder: &mut F,

@@ -25,8 +25,8 @@ use std::alloc::Global;
 /// arguments of formats too, from left to right, where of the resource so much is known. The first fault is the answer:
 /// 101 where a file stands neither under its name nor after a path (kept: the name); of a `$$Resource` before it 211,
 /// 215 and 204 of its id, and 211, 215 and 222 of its name, and after it the first rule that the form or the fork breaks,
-/// and 218 where it has no such resource (kept: the type and the id, or the name). No file changes, and
-/// none is read that no part names. (MPW Rez.)
+/// and 218 where it has no such resource (kept: the type and the id, or the name). No file changes, and none is read that
+/// no part names. (MPW Rez.)
 #[cycle(texts)]
 pub fn read_texts<F: Folder>(
     alloc: Global,

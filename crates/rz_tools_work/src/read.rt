@@ -23,8 +23,7 @@ use std::alloc::Global;
 /// Does what a `read` statement on this line says: the whole file, as it is, becomes a resource with this head, and is put
 /// into the list. The first fault is the answer: those of the head, as `facts_of` says; 101 where the file stands neither
 /// under its name nor after a path (kept: the name); 301 for more than 16,777,212 bytes; and 219 for a protected resource
-/// with its type and id, where protected ones aren't given up. No file changes, and no other file is
-/// read. (MPW Rez.)
+/// with its type and id, where protected ones aren't given up. No file changes, and no other file is read. (MPW Rez.)
 pub fn read_resource<F: Folder>(
     alloc: Global,
     folder: &mut F,

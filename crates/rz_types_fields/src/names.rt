@@ -7,7 +7,8 @@ ghost use Rattle.std.specs.Option.{unwrap_or};
 ghost use Rattle.rz_expr.specs.Environment.{place_in_key, IsSeenIn};
 ghost use Rattle.rz_expr.specs.NameKey.{key_of};
 ghost use Rattle.rz_types_fields.specs.Field.{plain_body, plain_field};
-ghost use Rattle.rz_types_fields.specs.Known.{AreRowsNoted, known, meeting, met, noting, said_or, stated_by, stated_in, stated_value, value_inside, which_of};
+ghost use Rattle.rz_types_fields.specs.Front.{stated_by, stated_in, stated_value, value_inside};
+ghost use Rattle.rz_types_fields.specs.Known.{AreRowsNoted, known, meeting, met, noting, said_or, which_of};
 ghost use Rattle.rz_types_fields.specs.RowLabels.{label_count, label_index, labels_count, numbers_row, row_value};
 ghost use Rattle.rz_types_fields.specs.Value.{no_bits, see};
 

@@ -2,8 +2,8 @@ use Rattle.std.proofs.Common.{◌≡◌, List, [], ◌∷◌, ◌++◌, Ok, Err,
 use Rattle.std.proofs.lemmas.List.{map-append, nil_from_length}
 use Rattle.rz_folder.proofs.Allowed.{may_read_after}
 use Rattle.rz_folder.proofs.Reading.{reads_on}
-use Rattle.rz_folder.specs.MayRead.{MayRead}
 use Rattle.rz_folder_paths.specs.Names.{LooksFor}
+use Rattle.rz_types_fields.specs.Text.{plain_parts}
 use Rattle.rz_stmt_items.specs.Item.{plain_item, plain_items}
 use Rattle.rz_stmt_items.specs.Places.{AreItemsWithin}
 use Rattle.rz_stmt_items.specs.declared.item.Item.{Item}
@@ -11,7 +11,8 @@ use Rattle.rz_folder_paths.proofs.Found.{if_some}
 use Rattle.rz_folder_paths.proofs.Looking.{may_look_fewer}
 use Rattle.rz_pre.proofs.Going.{at_some}
 use Rattle.rz_tools_resource.specs.Asked.{ItemAsks, ItemsAsk}
-use Rattle.rz_tools_resource.proofs.Asking.{item_asks}
+use Rattle.rz_tools_values.specs.Asked.{TextsAsk}
+use Rattle.rz_tools_resource.proofs.Asking.{item_asks, list_asks, named_asks, text_asks}
 use Rattle.rz_tools_resource.specs.Items.{item_given, item_read, items_given, items_read}
 use Rattle.rz_core.proofs.Stops.{halt_so}
 use Rattle.rz_tools_resource.proofs.Reading.{all_made, list_read, list_within, named_read, named_within, one_fault, one_made, within_more, Leads}
@@ -29,15 +30,18 @@ read_items-read_item-requires g t c =
 
 pub read_item-read_texts-requires : goal.read_item-read_texts-requires
 read_item-read_texts-requires g t c =
-    subst (λ (item : Item). MayRead g.F.Folder c.args.folder.now (LooksFor c.args.paths.now (ItemAsks (plain_item item)))) c.in-Text.is c.requires
+    may_look_fewer g.F.Folder c.args.paths.now (ItemAsks (plain_item c.args.item)) (TextsAsk (plain_parts c.in-Text.texts)) c.requires
+    (text_asks c.args.item c.in-Text.texts c.in-Text.place c.in-Text.is)
 
 pub read_item-read_items-requires : goal.read_item-read_items-requires
 read_item-read_items-requires g t c =
-    subst (λ (item : Item). MayRead g.F.Folder c.args.folder.now (LooksFor c.args.paths.now (ItemAsks (plain_item item)))) c.in-List.is c.requires
+    may_look_fewer g.F.Folder c.args.paths.now (ItemAsks (plain_item c.args.item)) (ItemsAsk (plain_items c.in-List.items)) c.requires
+    (list_asks c.args.item c.in-List.items c.in-List.place c.in-List.is)
 
 pub read_item-read_items-requires-2 : goal.read_item-read_items-requires-2
 read_item-read_items-requires-2 g t c =
-    subst (λ (item : Item). MayRead g.F.Folder c.args.folder.now (LooksFor c.args.paths.now (ItemAsks (plain_item item)))) c.in-Named.is c.requires
+    may_look_fewer g.F.Folder c.args.paths.now (ItemAsks (plain_item c.args.item)) (ItemsAsk (plain_items c.in-Named.items)) c.requires
+    (named_asks c.args.item c.in-Named.name c.in-Named.items c.in-Named.place c.in-Named.is)
 
 pub read_items-loop-item-preserved : goal.read_items-loop-item-preserved
 read_items-loop-item-preserved g t c =

@@ -1,9 +1,9 @@
 //! What each key of an entry says of its case. A new key is an arm here, and a line of the README.
 
-use crate::case::{Case, FolderRoom, Left, Piece, Place, Stored, Target};
+use crate::case::{Case, FolderRoom, Left, Piece, Stored, Target};
 use crate::content::{append_bytes, content_of};
-use crate::difference::What;
 use crate::entry::Entry;
+use crate::place::{Place, What};
 use crate::sweep::Sweep;
 use crate::trouble::Trouble;
 use std::alloc::Global;

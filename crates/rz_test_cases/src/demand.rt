@@ -1,13 +1,7 @@
-//! A sweep: a case that is run once for each call that fails in turn, and once more, where none does.
+//! What a run of a sweep must leave of which a call failed.
 
-ghost use Rattle.std.specs.Prelude.{◌<◌, ◌^◌};
-
-use crate::case::{Case, Failures, Piece, Target};
-use crate::trouble::Trouble;
+use rz_test_cases_text::{Case, Sweep, Target, Trouble};
 use std::alloc::Global;
-
-/// The most reads of a sweep, and the most writes or calls of a stream.
-const MOST_CALLS: u32 = 100_000;
 
 /// What is said of a read that failed.
 const READ_FAULT: &[u8] = b"rezkit: read fault\n";
@@ -17,18 +11,6 @@ const WRITE_FAULT: &[u8] = b"rezkit: write fault\n";
 
 /// The status of a run of which a read, a write or a call of the output failed.
 const FAULT: u8 = 3;
-
-/// The calls of the folder or of a stream that fail in turn, one in each run.
-#[derive(Clone, Copy)]
-pub struct Sweep {
-    pub target: Target,
-    /// The number of reads of the folder, which come before its writes; 0 for a stream.
-    pub reads: u32,
-    /// The number of writes of the folder, or of calls of the stream.
-    pub puts: u32,
-    /// How many bytes a piece takes that fails.
-    pub taken: u32,
-}
 
 /// Which files a run must leave.
 #[derive(Clone, Copy, PartialEq, Eq)]
@@ -58,46 +40,15 @@ pub struct Demand {
     pub err: Held,
 }
 
-impl Sweep {
-    /// Whether it has few enough calls to be run.
-    pub fn is_short(&self) -> bool {
-        self.reads <= MOST_CALLS && self.puts <= MOST_CALLS
-    }
-
-    /// The number of calls that fail in turn.
-    pub fn calls(&self) -> u64
-        ensures { result < 2 ^ 33 }
-    {
-        u64::from(self.reads) + u64::from(self.puts)
-    }
-
-    /// Whether the run of this number, from 1, is the one after all calls, in which none fails.
-    pub fn is_last(&self, run: u64) -> bool {
-        run > self.calls()
-    }
-
-    /// The failures of the run of this number, from 1. In the last one the call that is named never comes.
-    pub fn failures(&self, run: u64) -> Failures {
-        let piece = Piece {
-            call: run,
-            taken: self.taken,
-        };
-        Failures {
-            folder: (self.target == Target::Folder).then_some(run),
-            out: (self.target == Target::Out).then_some(piece),
-            err: (self.target == Target::Err).then_some(piece),
-            never: self.is_last(run),
-        }
-    }
-
+impl Demand {
     /// What the run of this number must leave, whose call of this number failed: after a read all files as before, no
     /// output, and the line of a read fault alone; after a write the files before it, all that the command says, and the
     /// line of a write fault; after a call of the output a front of it, and that line too; and after a call for what is
     /// said only a front of it.
-    pub fn demand(&self, alloc: Global, case: &Case, run: u64) -> Result<Demand, Trouble> {
+    pub fn of(alloc: Global, sweep: &Sweep, case: &Case, run: u64) -> Result<Demand, Trouble> {
         let out = stated(alloc, &case.out)?;
         let mut err = stated(alloc, &case.err)?;
-        if self.target == Target::Err {
+        if sweep.target == Target::Err {
             return Ok(Demand {
                 status: case.status,
                 files: Files::Wanted,
@@ -105,7 +56,7 @@ impl Sweep {
                 err: front(err),
             });
         }
-        if run <= u64::from(self.reads) {
+        if run <= u64::from(sweep.reads) {
             return Ok(Demand {
                 status: Some(FAULT),
                 files: Files::Before,
@@ -116,7 +67,7 @@ impl Sweep {
         err.extend_from_slice(WRITE_FAULT)?;
         Ok(Demand {
             status: Some(FAULT),
-            files: if self.target == Target::Folder {
+            files: if sweep.target == Target::Folder {
                 Files::Written
             } else {
                 Files::Wanted

@@ -1,6 +1,6 @@
 //! One case: what a run is given, and what it must leave.
 
-use crate::difference::What;
+use crate::place::{Place, What};
 use crate::sweep::Sweep;
 use std::alloc::Global;
 
@@ -106,20 +106,9 @@ pub struct FolderRoom {
     pub bytes: u32,
 }
 
-/// A place in which a run and its case can differ.
-#[derive(Drop)]
-pub enum Place {
-    Status,
-    Out,
-    Err,
-    File(String),
-    /// Whether the call that is to fail there comes.
-    Call(Target),
-}
-
 impl Case {
     /// A case without words and files, at the first second of 1970, that doesn't state its status yet.
-    pub fn new(alloc: Global, line: usize, name: String) -> Case {
+    pub(crate) fn new(alloc: Global, line: usize, name: String) -> Case {
         Case {
             line,
             name,
