@@ -40,10 +40,10 @@ failed Y (halts.Refused fault) is = absurd is
 failed Y halts.ReadFault is = tt
 failed Y halts.NoMemory is = absurd is
 
-worse : {Y : Type 0} {Bad Worse : Fault → Type 0} (halt : Halt Fault) → ((fault : Fault) → Bad fault → Worse fault) → OnRefusal {X = List ℕ} (Err halt) Bad → OnRefusal {X = Y} (Err halt) Worse
-worse (halts.Refused fault) so bad = so fault bad
-worse halts.ReadFault so bad = tt
-worse halts.NoMemory so bad = tt
+worse : (Y : Type 0) {Bad Worse : Fault → Type 0} (halt : Halt Fault) → ((fault : Fault) → Bad fault → Worse fault) → OnRefusal {X = List ℕ} (Err halt) Bad → OnRefusal {X = Y} (Err halt) Worse
+worse Y (halts.Refused fault) so bad = so fault bad
+worse Y halts.ReadFault so bad = tt
+worse Y halts.NoMemory so bad = tt
 
 module _ {F : Type 0} (g : Ghosts F) (name : List ℕ) {Y : Type 0} (Next : Files → Option (List ℕ) → Result Y Fault → Type 0) where
   -- the file was read, and what followed gave this
@@ -71,7 +71,7 @@ module _ {F : Type 0} (g : Ghosts F) (name : List ℕ) {Y : Type 0} (Next : File
       subst (λ (e : Halt Fault). Finds g old new (Err e) (λ files. Next files (finite.get files name)) Good Bad) (sym is) (record {
         answered = by (g.files old) halt first.answered;
         good = tt;
-        bad = worse {Y = Y} halt so first.bad;
+        bad = worse Y halt so first.bad;
         reads = reads_as g old new (failed Y halt) first.reads;
       })
     where

@@ -61,7 +61,7 @@ one_piece byte count most =
     let bound : count < 255 = ltb-true count 255 below in
     let none : count / 255 ≡ 0 = omega arith in
     let all : count % 255 ≡ count = omega arith in
-    ap (λ (q : ℕ). flat_map stored (flat_map (equal_codes byte) (replicate q 255 ++ count % 255 ∷ []))) none
+    ap (λ (q : ℕ). flat_map stored (flat_map (equal_codes byte) (replicate q 255 ++ (count % 255) ∷ []))) none
     ∙ ap (λ (r : ℕ). flat_map stored (equal_codes byte r ++ [])) all
     ∙ ap (flat_map stored) (append-nil (equal_codes byte count)))
     (λ above.
@@ -81,7 +81,7 @@ long_run byte count runs =
     let more : (255 + count) / 255 ≡ suc (count / 255) = omega arith in
     let same : (255 + count) % 255 ≡ count % 255 = omega arith in
     let later = written (run byte count ∷ runs) in
-    ap (λ (q : ℕ). flat_map stored (flat_map (equal_codes byte) (replicate q 255 ++ (255 + count) % 255 ∷ []) ++ flat_map run_codes runs)) more
+    ap (λ (q : ℕ). flat_map stored (flat_map (equal_codes byte) (replicate q 255 ++ ((255 + count) % 255) ∷ []) ++ flat_map run_codes runs)) more
     ∙ ap (λ (r : ℕ). flat_map stored (flat_map (equal_codes byte) (replicate (suc (count / 255)) 255 ++ r ∷ []) ++ flat_map run_codes runs)) same
     ∙ ap (λ (l : List ℕ). l ++ later) (sym (append-nil (stored own)))
 

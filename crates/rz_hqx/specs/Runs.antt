@@ -54,7 +54,7 @@ equal_codes byte count =
 
 -- a run: 255 of its bytes as often as they go, and then the others
 abbrev pub run_codes : Run → List Code
-run_codes run = flat_map (equal_codes run.byte) (replicate (run.count / 255) 255 ++ run.count % 255 ∷ [])
+run_codes run = flat_map (equal_codes run.byte) (replicate (run.count / 255) 255 ++ (run.count % 255) ∷ [])
 
 -- the one coding of bytes
 unfoldable pub packed : List ℕ → List ℕ

@@ -8,15 +8,15 @@ ghost use Rattle.rz_folder.specs.MayRead.{MayReadOf};
 ghost use Rattle.rz_pre.specs.Lexed.{HaveLexedTexts};
 ghost use Rattle.rz_tools.specs.Asked.{CommandAsks, WordsAsk};
 ghost use Rattle.rz_tools.specs.Program.{Answers, AnswersTo, IsFileless, NeedNoFile};
-ghost use Rattle.rz_tools.specs.Reply.{outcome_of, EachAnswer, Replies};
+ghost use Rattle.rz_tools.specs.Reply.{outcome_of, EachAnswer, IsReplyOf, Replies};
 ghost use Rattle.rz_tools.specs.Shown.{AnswersCommand, AnswersWords};
-ghost use Rattle.rz_tools_answer.specs.Plan.{IsNoUsage};
 ghost use Rattle.rz_tools_args.specs.Command.{places_of, ArePlaces, IsMisplaced};
 ghost use Rattle.rz_tools_args.specs.Held.{asked, items_of};
 ghost use Rattle.rz_tools_args.specs.Items.{defs_of};
 ghost use Rattle.rz_tools_args.specs.Syntax.{syntax_of};
 
 use crate::derez::{DeRezWords, answer_derez};
+use crate::list::answer_list;
 use crate::reply::{Reply, planned};
 use crate::restring::{RestringWords, restring_fork};
 use crate::rez::{RezWords, compile};
@@ -39,9 +39,8 @@ pub fn answer<F: Folder>(
     moment: Moment,
 ) -> Result<Reply, Halt<Infallible>>
     requires { MayReadOf F.Folder folder.old (WordsAsk (map string_bytes words.now)) }
-    ensures replies { Replies F.Folder folder.old folder.new result (AnswersWords (map string_bytes words.now) moment) }
+    ensures replies { Replies F.Folder folder.old folder.new result (AnswersWords (map string_bytes words.now) moment) (IsMisplaced (map string_bytes words.now)) }
     ensures fileless { NeedNoFile (map string_bytes words.now) → (files : Files) → IfOk result (λ reply. EachAnswer reply (Answers (map string_bytes words.now) files moment)) }
-    ensures usage { IfOk result (λ reply. (position : ℕ) → outcome_of reply ≡ Outcome.Usage (record { position = position }) → IsMisplaced (map string_bytes words.now) position) }
     ensures every_usage { (position : ℕ) → IsMisplaced (map string_bytes words.now) position
         → (result ≡ Err no_memory) ⊎ IsOkAnd result (λ reply. outcome_of reply ≡ Outcome.Usage (record { position = position })) }
 {
@@ -64,8 +63,7 @@ fn answer_command<F: Folder>(
     requires lexed { HaveLexedTexts (defs_of (items_of command)) }
     requires places { ArePlaces (syntax_of command.name).places (places_of (items_of command)) }
     requires may { MayReadOf F.Folder folder.old (CommandAsks command.name (items_of command)) }
-    ensures replies { Replies F.Folder folder.old folder.new result (AnswersCommand (asked command.entry) moment) }
-    ensures no_usage { IfOk result (λ reply. IsNoUsage (outcome_of reply)) }
+    ensures replies { IsReplyOf F.Folder folder.old folder.new result (AnswersCommand (asked command.entry) moment) }
     ensures fileless { IsFileless command.entry.name → (files : Files) → IfOk result (λ reply. EachAnswer reply (AnswersTo (asked command.entry) files moment)) }
 {
     match command.name {
@@ -95,6 +93,14 @@ fn answer_command<F: Folder>(
             let plan = plan_det(alloc, folder, &words);
             drop(words);
             planned(plan)
+        }
+        CommandName::List => {
+            let words = DetWords::of(alloc, &command);
+            drop(command);
+            let words = words?;
+            let reply = answer_list(alloc, folder, &words);
+            drop(words);
+            reply
         }
         CommandName::Strings => {
             let words = StringsWords::of(alloc, command)?;

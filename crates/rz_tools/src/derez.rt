@@ -15,10 +15,9 @@ ghost use Rattle.rz_tools.specs.Again.{HoldsFile, OfFile};
 ghost use Rattle.rz_tools.specs.Asked.{DeRezAsks};
 ghost use Rattle.rz_tools.specs.DeRez.{derez_asked, AnswersDeRez, HasFork, IsFork, IsForkOf, Shows};
 ghost use Rattle.rz_tools.specs.Held.{derez, IsShown, ShowsText};
-ghost use Rattle.rz_tools.specs.Reply.{outcome_of, Replies};
+ghost use Rattle.rz_tools.specs.Reply.{IsReplyOf};
 ghost use Rattle.rz_tools.specs.Shown.{ShowsFile};
 ghost use Rattle.rz_tools_answer.specs.Made.{IsSayable};
-ghost use Rattle.rz_tools_answer.specs.Plan.{IsNoUsage};
 ghost use Rattle.rz_tools_args.specs.Command.{places_of};
 ghost use Rattle.rz_tools_args.specs.Held.{items_of};
 
@@ -79,9 +78,8 @@ pub fn answer_derez<F: Folder>(
 ) -> Result<Reply, Halt<Infallible>>
     requires lexed { HaveLexedTexts words.types.defs }
     requires may { MayReadOf F.Folder folder.old (DeRezAsks (derez words)) }
-    ensures replies { Replies F.Folder folder.old folder.new result (λ files answer. AnswersDeRez (derez words.entry) files moment answer
+    ensures { IsReplyOf F.Folder folder.old folder.new result (λ files answer. AnswersDeRez (derez words.entry) files moment answer
         × ShowsFile (string_bytes words.entry.file) words.entry.from files answer) }
-    ensures no_usage { IfOk result (λ reply. IsNoUsage (outcome_of reply)) }
 {
     match read_and_show(alloc, folder, words, moment) {
         Ok(shown) => Ok(Reply::Text(shown)),

@@ -14,6 +14,7 @@
 mod answer;
 mod derez;
 mod laws;
+mod list;
 mod listed;
 mod program;
 mod reply;

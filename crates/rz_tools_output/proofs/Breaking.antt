@@ -1,21 +1,19 @@
--- What `det` tells, from what its calls gave.
-use Rattle.std.proofs.Common.{◌≡◌, ℕ, List, [], Ok, Err, sym, ap, subst, ◌∙◌}
+-- A text that is told beside no warning, or its refusal.
+use Rattle.std.proofs.Common.{◌≡◌, ℕ, List, [], Ok, Err, sym, ap, ◌∙◌}
 use Rattle.std.specs.declared.result.Result.{Result}
 use Rattle.rz_core.specs.declared.fault.Fault.{Fault}
-use Rattle.rz_folder.specs.Folder.{Files}
 use Rattle.rz_tools_answer.proofs.Planning.{SaidWith}
-use Rattle.rz_tools_answer.specs.Answer.{or_refused, shown, Answer, Answered, Making}
+use Rattle.rz_tools_answer.specs.Answer.{or_refused, shown, Answer, Answered}
 use Rattle.rz_tools_answer.specs.Warning.{said_beside}
-use Rattle.rz_tools_answer.specs.declared.made.Failing.{Failing}
-use Rattle.rz_tools_output.specs.Det.{told, AnswersDet, DetAsked, HasBreaks}
+use Rattle.rz_tools_output.specs.Det.{told}
 
 -- beside no warning nothing is said
 alone : (text : Result (List ℕ) Fault) → or_refused shown (said_beside [] [] text) ≡ told text
 alone (Ok bytes) = λ i. told (Ok bytes)
 alone (Err fault) = λ i. told (Err fault)
 
-module _ (asked : DetAsked) (names : List (List ℕ)) (warnings : List Fault) (no_names : names ≡ []) (no_warnings : warnings ≡ []) where
-  pub answers_told : (files : Files) (answer : Answer) → Answered shown (SaidWith names warnings (HasBreaks asked files)) answer → AnswersDet asked files answer
-  answers_told files answer (made, (text, breaks, is), says) =
-      says ∙ ap (or_refused shown) is ∙ ap (λ (ws : List Fault). or_refused shown (said_beside names ws text)) no_warnings
-      ∙ ap (λ (ns : List (List ℕ)). or_refused shown (said_beside ns [] text)) no_names ∙ alone text ∙ ap told (sym breaks)
+module _ (names : List (List ℕ)) (warnings : List Fault) (no_names : names ≡ []) (no_warnings : warnings ≡ []) where
+  pub told_alone : (text : Result (List ℕ) Fault) (answer : Answer) → Answered shown (SaidWith names warnings (λ output. text ≡ output)) answer → answer ≡ told text
+  told_alone text answer (made, (output, same, is), says) =
+      says ∙ ap (or_refused shown) is ∙ ap (λ (ws : List Fault). or_refused shown (said_beside names ws output)) no_warnings
+      ∙ ap (λ (ns : List (List ℕ)). or_refused shown (said_beside ns [] output)) no_names ∙ alone output ∙ ap told (sym same)

@@ -2,3 +2,4 @@ pub mod Limits
 pub mod Begins
 pub mod Bridging
 pub mod Breaking
+pub mod Telling

@@ -1,4 +1,4 @@
-use Rattle.std.proofs.Common.{◌≡◌, ◌≢◌, List, subst, sym}
+use Rattle.std.proofs.Common.{◌≡◌, ◌≢◌, subst, sym}
 use Rattle.rz_bridge_form.specs.DataFile.{IsDataFile}
 use Rattle.rz_bridge_form.specs.declared.form.Form.TheVariants as forms
 use Rattle.rz_folder.proofs.Finding.{finds_none, finds_so}

@@ -1,11 +1,12 @@
-use Rattle.std.proofs.Common.{[], List, length, subst, sym}
+use Rattle.std.proofs.Common.{List, length, subst, sym}
+use Rattle.std.specs.FinMap as finite
 use Rattle.rz_core.specs.declared.fault.Fault.{Fault}
 use Rattle.rz_folder_paths.proofs.Present.{finds_at, placed_at}
 use Rattle.rz_tools_answer.proofs.Planning.{finds_beside, plans_as, plans_made, SaidWith}
 use Rattle.rz_tools_answer.specs.Answer.{shown}
 use Rattle.rz_tools_answer.specs.Warning.{AreWarnings}
-use Rattle.rz_tools_output.specs.Det.{det, HasBreaks}
-use Rattle.rz_tools_output.proofs.Breaking.{answers_told}
+use Rattle.rz_tools_output.specs.Det.{breaks_of, det, HasBreaks}
+use Rattle.rz_tools_output.proofs.Breaking.{told_alone}
 use Rattle.rz_tools_output.proofs.det.plan_det.Goals as goal
 
 pub say_beside-made-requires-clause-fault : goal.say_beside-made-requires-clause-fault
@@ -21,4 +22,4 @@ returns g c =
     (plans_made g.F.Folder shown (λ files. SaidWith c.new-files.result c.new-warnings.result (HasBreaks asked files)) c.say_beside-made.result
     (finds_beside g.F.Folder c.say_beside-made.result (finds_at g.F.Folder (length c.new-files.result) c.read_breaks-text.ensures) c.say_beside-made.ensures)
     c.to_show.ensures)
-    (answers_told asked c.new-files.result c.new-warnings.result c.new-files.ensures c.new-warnings.ensures)
+    (λ files answer is. told_alone c.new-files.result c.new-warnings.result c.new-files.ensures c.new-warnings.ensures (breaks_of asked (finite.get files asked.file)) answer is)
