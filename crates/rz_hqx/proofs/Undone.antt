@@ -69,8 +69,8 @@ settled : (counts : List ℕ) (codes : List Code) (torn : Bool) (coded bytes : L
 settled (count ∷ counts) codes torn coded bytes cause whole is = absurd cc
 settled [] codes true coded bytes cause whole is = absurd cc
 settled [] codes false coded bytes cause whole is =
-    let made : bytes ≡ flat_map meant codes = cc in
-    record { codes = codes; are = whole.codes; coded = whole.bytes ∙ append-nil (flat_map stored codes); bytes = made }
+    let told : bytes ≡ flat_map meant codes = cc in
+    record { codes = codes; are = whole.codes; made = whole.bytes ∙ append-nil (flat_map stored codes); told = told }
 
 -- what codes are read as they mean
 pub coding_read : (coded bytes : List ℕ) → unpacked coded ≡ Ok bytes → IsCoding coded bytes

@@ -1,7 +1,7 @@
 -- Bytes are written run by run.
-use Rattle.std.proofs.Common.{◌≡◌, ℕ, suc, ◌+◌, ◌/◌, ◌%◌, ◌<◌, ◌≤◌, ◌==◌, ◌&&◌, nat_lt, if◌then◌else◌, Bool, true, false, List, [], ◌∷◌, ◌++◌, replicate, refl, sym, ap, ◌∙◌, arith, append_assoc}
+use Rattle.std.proofs.Common.{◌≡◌, ℕ, suc, ◌+◌, ◌-◌, ◌/◌, ◌%◌, ◌<◌, ◌≤◌, ◌==◌, ◌&&◌, nat_lt, if◌then◌else◌, Bool, true, List, [], ◌∷◌, ◌++◌, length, take, drop, get_or, replicate, refl, sym, ap, ◌∙◌, arith}
 use Rattle.std.proofs.lemmas.Bool.{eq-eqb, eqb-true, ltb-true, ltb-false}
-use Rattle.std.proofs.lemmas.List.{append-nil}
+use Rattle.std.proofs.lemmas.List.{append-nil, take_all}
 use Rattle.std.proofs.lemmas.List.Concat.{flat_map-append}
 use Rattle.std.specs.List.{flat_map}
 use Rattle.rz_core.proofs.Tests.{by_test, same_sym}
@@ -133,3 +133,17 @@ pieces (x ∷ xs) byte count most =
 pub begins : (x : ℕ) (xs : List ℕ) → packed_behind x 1 xs ≡ packed (x ∷ xs)
 unfolding packed
 begins x xs = pieces xs x 1 (omega arith)
+
+pub none_written : (bytes : List ℕ) → length bytes < 1 → [] ≡ packed bytes
+unfolding packed
+none_written [] none = refl
+none_written (x ∷ xs) none = absurd (omega arith)
+
+pub all_written : (bytes out : List ℕ) → 1 ≤ length bytes → out ≡ [] → out ++ packed_behind (get_or bytes 0 0) 1 (take (length bytes - 1) (drop 1 bytes)) ≡ packed bytes
+all_written [] out some none = absurd (omega arith)
+all_written (x ∷ xs) out some none =
+    let left : suc (length xs) - 1 ≡ length xs = omega arith in
+    ap (λ (o : List ℕ). o ++ packed_behind x 1 (take (suc (length xs) - 1) xs)) none
+    ∙ ap (λ (n : ℕ). packed_behind x 1 (take n xs)) left
+    ∙ ap (packed_behind x 1) (take_all (length xs) xs (omega arith))
+    ∙ begins x xs

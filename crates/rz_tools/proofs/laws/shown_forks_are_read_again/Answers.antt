@@ -10,9 +10,9 @@ returns c bytes file fork admits only skip short known spares text shows =
     let fits = c.admitted_forks_fit.ensures bytes file.0 fork admits in
     means_again
     (record {
-      rows = c.spelled_rows_are_rows.ensures.plainly;
+      rows = c.spelled_rows_are_rows.ensures;
       plain = c.plain_rows_are_spelled.ensures;
-      short = c.spelled_texts.ensures.plain_short;
+      short = c.spelled_texts.ensures.short;
       bytes = c.spelled_texts.ensures.bytes;
       printed = c.shown_text.ensures;
     })
