@@ -1,8 +1,9 @@
 -- The reply of a command, and that of words, from what their calls gave.
-use Rattle.std.proofs.Common.{◌≡◌, ℕ, List, [], Option, Some, None, Ok, Err, refl, sym, ap, subst, ◌∙◌}
+use Rattle.std.proofs.Common.{◌≡◌, ◌<◌, ◌^◌, ℕ, List, [], ◌∷◌, Option, Some, None, Ok, Err, refl, sym, ap, subst, ◌∙◌}
 use Rattle.std.specs.Prelude.{IfOk, IfSome, IsErrAnd}
 use Rattle.std.specs.declared.result.Result.{Result}
 use Rattle.rz_bridge_form.specs.declared.form.Form.{Form}
+use Rattle.rz_core.specs.Decimal.{decimal_of}
 use Rattle.rz_core.specs.Stop.{seen, IsReadFault, Yields}
 use Rattle.rz_core.specs.declared.moment.Moment.{Moment}
 use Rattle.rz_core.specs.declared.stop.Halt.{Halt}
@@ -12,6 +13,7 @@ use Rattle.rz_folder.specs.Finds.{Finds}
 use Rattle.rz_folder.specs.Folder.{Files}
 use Rattle.rz_folder.specs.declared.folder.Folder.{Ghosts}
 use Rattle.rz_tools_answer.proofs.Planning.{seen_failed}
+use Rattle.rz_tools_answer.proofs.Warnings.{no_lines}
 use Rattle.rz_tools_answer.specs.Answer.{misused, shown, Answer, Answered, Making}
 use Rattle.rz_tools_answer.specs.Made.{making_of, IsSayable}
 use Rattle.rz_tools_answer.specs.Plan.{answer_of, IsNoUsage}
@@ -22,8 +24,9 @@ use Rattle.rz_tools_answer.specs.declared.made.Made.{Made}
 use Rattle.rz_tools_answer.specs.declared.outcome.Outcome.{Outcome}
 use Rattle.rz_tools_answer.specs.declared.outcome.Outcome.TheVariants.{Done, Usage, Refused, ReadFault, NoMemory}
 use Rattle.rz_tools_answer.specs.declared.plan.Plan.{Plan}
-use Rattle.rz_tools_args.specs.Command.{Asked, IsCommand, IsMisplaced, Item}
+use Rattle.rz_tools_args.specs.Command.{places_of, Asked, IsCommand, IsMisplaced, Item}
 use Rattle.rz_tools_args.specs.declared.name.CommandName.{CommandName}
+use Rattle.rz_tools_args.specs.declared.name.CommandName.TheVariants as names
 use Rattle.rz_tools_args.specs.declared.read.UsageFault.{UsageFault}
 use Rattle.rz_tools.proofs.OneAnswer.{OneCommand}
 use Rattle.rz_tools.proofs.ShownAgain.{not_refused}
@@ -31,6 +34,7 @@ use Rattle.rz_tools.specs.Again.{OfFile}
 use Rattle.rz_tools.specs.Held.{making_with, IsShown, ShowsText}
 use Rattle.rz_tools.specs.Program.{command, misplaced, Answers, AnswersItems}
 use Rattle.rz_tools.specs.Reply.{outcome_of, EachAnswer, IsReplyOf, IsSound, Replies}
+use Rattle.rz_tools.specs.Sample.{AnswersSample, IsSampled}
 use Rattle.rz_tools.specs.Shown.{AnswersCommand, AnswersWords, ShowsFile, ShowsIts}
 use Rattle.rz_tools.specs.declared.reply.ForkShown.{ForkShown}
 use Rattle.rz_tools.specs.declared.reply.Reply.{Reply}
@@ -200,6 +204,10 @@ module _ {F E : Type 0} (g : Ghosts F) (name other : CommandName) (items : List 
 pub same_position : (position other : ℕ) → Usage (record { position = position }) ≡ Usage (record { position = other }) → position ≡ other
 same_position position other ends = cc ends
 
+pub misused_answers : (words : List (List ℕ)) (moment : Moment) (fault : UsageFault) → IsMisplaced words fault.position → (plan : Plan) → answer_of plan ≡ misused fault.position
+    → (files : Files) → EachAnswer (replies.Plan plan) (Answers words files moment)
+misused_answers words moment fault is plan says files answer same = misplaced fault.position is (same ∙ says)
+
 module _ {F E : Type 0} (g : Ghosts F) (words : List (List ℕ)) (moment : Moment) where
   pub words_reply : {old new : F} (commands : OneCommand) (asked : Asked) → IsCommand words asked → (result : Result Reply (Halt E)) → IsReplyOf g old new result (AnswersCommand asked moment)
       → Replies g old new result (AnswersWords words moment) (IsMisplaced words)
@@ -219,10 +227,71 @@ module _ {F E : Type 0} (g : Ghosts F) (words : List (List ℕ)) (moment : Momen
     where
       by : (before : Option Files) → IfSome before (λ files. EachAnswer (replies.Plan plan) (AnswersWords words moment files))
       by None = tt
-      by (Some files) = λ answer same. (misplaced fault.position is (same ∙ says), λ asked also. absurd (is.none asked also))
+      by (Some files) = λ answer same. (misused_answers words moment fault is plan says files answer same, λ asked also. absurd (is.none asked also))
 
 -- an answer over whatever files
 pub fileless_words : {E : Type 0} (words : List (List ℕ)) (moment : Moment) (asked : Asked) → IsCommand words asked → (result : Result Reply E) (files : Files)
     → IfOk result (λ reply. EachAnswer reply (AnswersItems asked.name asked.items files moment)) → IfOk result (λ reply. EachAnswer reply (Answers words files moment))
 fileless_words words moment asked is (Ok reply) files answers = λ answer stands. command asked is (answers answer stands)
 fileless_words words moment asked is (Err end) files answers = tt
+
+-- Commands that need no file.
+
+-- the answer of a plan is that of its reply
+plan_each : {E : Type 0} (P : Answer → Type 0) (plan : Result Plan E) (result : Result Reply E) → result ≡ seen (λ plan. replies.Plan plan) plan → IfOk plan (λ plan. P (answer_of plan))
+    → IfOk result (λ reply. EachAnswer reply P)
+plan_each {E} P plan result is holds = subst (λ (r : Result Reply E). IfOk r (λ reply. EachAnswer reply P)) (sym is) (by plan holds)
+  where
+    by : (plan : Result Plan E) → IfOk plan (λ plan. P (answer_of plan)) → IfOk (seen (λ plan. replies.Plan plan) plan) (λ reply. EachAnswer reply P)
+    by (Ok plan) holds = λ answer same. subst P (sym same) holds
+    by (Err end) holds = tt
+
+-- what was made of a sample
+sample_ends : {E : Type 0} (P : Result Making Failing → Type 0) (made : Result Made (Halt Failing)) → Yields (seen making_of made) P → (plan : Result Plan E)
+    → IfOk plan (λ plan. EndsAs shown made (answer_of plan)) → IfOk plan (λ plan. Answered shown P (answer_of plan))
+sample_ends P made makes (Err end) ends = tt
+sample_ends P (Ok made) makes (Ok plan) ends = (Ok (making_of made), makes, ends)
+sample_ends P (Err (halts.Refused failing)) makes (Ok plan) ends = (Err failing, makes, ends)
+sample_ends P (Err halts.ReadFault) makes (Ok plan) ends = absurd ends
+sample_ends P (Err halts.NoMemory) makes (Ok plan) ends = absurd ends
+
+module _ {E : Type 0} (count : ℕ) (moment : Moment) (few : count < 2 ^ 32) (words : List (List ℕ)) (is : words ≡ decimal_of count ∷ []) where
+  pub sampled_answers : (made : Result Made (Halt Failing)) → Yields (seen making_of made) (IsSampled count moment) → (plan : Result Plan E)
+      → IfOk plan (λ plan. EndsAs shown made (answer_of plan)) → (result : Result Reply E) → result ≡ seen (λ plan. replies.Plan plan) plan
+      → IfOk result (λ reply. EachAnswer reply (AnswersSample words moment))
+  sampled_answers made makes plan ends result same =
+      plan_each (AnswersSample words moment) plan result same (by plan (sample_ends (IsSampled count moment) made makes plan ends))
+    where
+      by : (plan : Result Plan E) → IfOk plan (λ plan. Answered shown (IsSampled count moment) (answer_of plan)) → IfOk plan (λ plan. AnswersSample words moment (answer_of plan))
+      by (Ok plan) sampled = (count, (is, few), sampled)
+      by (Err end) sampled = tt
+
+module _ {F E : Type 0} (g : Ghosts F) (name : CommandName) (items : List Item) (moment : Moment) where
+  pub sampled_replies : {s : F} → name ≡ names.Sample → (count : ℕ) → count < 2 ^ 32 → places_of items ≡ decimal_of count ∷ [] → (made : Result Made (Halt Failing))
+      → Yields (seen making_of made) (IsSampled count moment) → (IsReadFault (seen making_of made) → ⊥) → (plan : Result Plan (Halt E)) → Concludes shown made plan
+      → (result : Result Reply (Halt E)) → result ≡ seen (λ plan. replies.Plan plan) plan → IsReplyOf g s s result (AnswersCommand (record { name = name; items = items }) moment)
+  sampled_replies {s = s} same count few is made makes unread plan concludes result so =
+      planned_as g name names.Sample items moment same plan result so
+      (record {
+        answered = over (g.files s);
+        well_formed = concludes.well_formed;
+        writable = concludes.writable;
+        no_usage = concludes.no_usage;
+        reads = reads_as g s s (λ failed. unread (seen_failed made (concludes.read_fault failed))) (reads_nothing g s);
+      })
+      (λ files answer sampled. ((count, (is, few), sampled), tt))
+    where
+      over : (before : Option Files) → IfSome before (λ files. IfOk plan (λ plan. Answered shown (IsSampled count moment) (answer_of plan)))
+      over None = tt
+      over (Some files) = sample_ends (IsSampled count moment) made makes plan concludes.answered
+
+  -- a text that is there
+  pub text_replies : {s : F} (other : CommandName) → name ≡ other → (plan : Plan) (text : List ℕ) → answer_of plan ≡ shown (record { bytes = text; said = [] })
+      → ((files : Files) (answer : Answer) → answer ≡ shown (record { bytes = text; said = [] }) → AnswersItems other items files moment answer × ShowsIts other items files answer)
+      → IsReplyOf {E = E} g s s (Ok (replies.Plan plan)) (AnswersCommand (record { name = name; items = items }) moment)
+  text_replies {s = s} other same plan text says so =
+      named g name other items moment same (Ok (replies.Plan plan))
+      (replies_always g (replies.Plan plan) (λ files answer is. is ∙ says)
+      (subst IsWellFormed (sym says) no_lines, subst (λ (a : Answer). AreWritable a.writes) (sym says) tt)
+      (subst (λ (a : Answer). IsNoUsage a.outcome) (sym says) tt))
+      so

@@ -1,10 +1,9 @@
 -- A sample, from its steps.
-use Rattle.std.proofs.Common.{◌≡◌, ◌<◌, ◌^◌, ℕ, List, [], ◌∷◌, ◌++◌, Option, Some, Ok, Err, inl, ap, sym, subst, ◌∙◌, length, arith}
+use Rattle.std.proofs.Common.{◌≡◌, ℕ, List, [], ◌∷◌, ◌++◌, Option, Some, Ok, Err, inl, ap, sym, subst, ◌∙◌, length, arith}
 use Rattle.std.specs.Prelude.{codes, IsErrAnd}
 use Rattle.std.specs.FinMap as finite
 use Rattle.std.specs.declared.result.Result.{Result}
 use Rattle.rz_core.proofs.Stops.{then_halts, then_yields}
-use Rattle.rz_core.specs.Decimal.{decimal_of}
 use Rattle.rz_bridge_form.specs.declared.form.Form.{Form}
 use Rattle.rz_core.specs.Stop.{seen, IsReadFault, OnRefusal, Yields}
 use Rattle.rz_core.specs.declared.moment.Moment.{Moment}
@@ -15,7 +14,7 @@ use Rattle.rz_folder.specs.Folder.{Files}
 use Rattle.rz_folder.specs.Sink.{all_out, PutsOut, Stream}
 use Rattle.rz_folder.specs.declared.sink.Put.{Put}
 use Rattle.rz_folder.specs.declared.sink.Put.TheVariants.{Done}
-use Rattle.rz_tools_answer.specs.Answer.{shown, Answer, Answered, Making}
+use Rattle.rz_tools_answer.specs.Answer.{Making}
 use Rattle.rz_tools_answer.specs.Made.{making_of, IsSayable}
 use Rattle.rz_tools_answer.specs.declared.made.Failing.{Failing}
 use Rattle.rz_tools_answer.specs.declared.made.Made.{Made}
@@ -24,7 +23,7 @@ use Rattle.rz_tools.specs.DeRez.{DeRezAsked, Shows}
 use Rattle.rz_tools.specs.Held.{ShowsText}
 use Rattle.rz_tools.specs.Rez.{Compiles, RezAsked}
 use Rattle.rz_tools.specs.declared.reply.ForkShown.{ForkShown}
-use Rattle.rz_tools.specs.Sample.{in_memory, number_line, sample_lines, AnswersSample, CompilesAgain, CompilesSample, IsSampled, IsSampledBehind, IsSampledWith, ShowsSample}
+use Rattle.rz_tools.specs.Sample.{in_memory, number_line, sample_lines, CompilesAgain, CompilesSample, IsSampled, IsSampledBehind, IsSampledWith, ShowsSample}
 
 -- Files in memory, and names.
 
@@ -157,9 +156,3 @@ same_end form name answers files halts.NoMemory told = tt
 -- a shelf meets no fault of a read
 pub never_fails : {P : Type 0} → (P → Rose 0 0) → P → ⊥
 never_fails cause failed = let rose = cause failed in omega (arith, rose)
-
--- The answer.
-
-pub sampled_answer : (count : ℕ) (moment : Moment) → count < 2 ^ 32 → (words : List (List ℕ)) → words ≡ decimal_of count ∷ [] → (answer : Answer) → Answered shown (IsSampled count moment) answer
-    → AnswersSample words moment answer
-sampled_answer count moment few words is answer sampled = (count, (is, few), sampled)

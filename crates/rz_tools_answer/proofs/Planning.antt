@@ -44,7 +44,7 @@ stop_sayable made halt is bad = by halt (subst (λ (m : Result Made (Halt Failin
 pub made_good : (Good : Making → Type 0) (made : Result Made (Halt Failing)) (one : Made) → made ≡ Ok one → IfOk (seen making_of made) Good → Good (making_of one)
 made_good Good made one is good = subst (λ (m : Result Made (Halt Failing)). IfOk (seen making_of m) Good) is good
 
-seen_failed : (made : Result Made (Halt Failing)) → IsReadFault made → IsReadFault (seen making_of made)
+pub seen_failed : (made : Result Made (Halt Failing)) → IsReadFault made → IsReadFault (seen making_of made)
 seen_failed (Ok made) failed = failed
 seen_failed (Err (halts.Refused failing)) failed = failed
 seen_failed (Err halts.ReadFault) failed = failed
