@@ -61,6 +61,6 @@ fn check_fork(fork: &[u8]) -> Result<(), Fault>
     ensures err { IfErr result (λ fault. admit_fork None fork.now ≡ Err fault) }
     ensures nameable { (files : ℕ) → IfErr result (IsNameable files) }
 {
-    let _ = admit_fork(fork, None)?;
+    admit_fork(fork, None)?;
     Ok(())
 }
