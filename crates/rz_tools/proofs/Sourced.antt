@@ -1,5 +1,5 @@
 -- What sources make, and what is made of it, one call after another.
-use Rattle.std.proofs.Common.{◌≡◌, inl, inr, ℕ, List, [], length, Ok, Err, Some, None, refl, sym, ap, subst, ◌∙◌}
+use Rattle.std.proofs.Common.{◌≡◌, inl, inr, ℕ, List, [], length, Ok, Err, Some, None, refl, sym, subst, ◌∙◌}
 use Rattle.std.specs.Prelude.{IfSome, IsErrAnd}
 use Rattle.std.specs.Str.{str_to_ascii_lowercase}
 use Rattle.std.specs.declared.option.Option.{Option}

@@ -1,6 +1,5 @@
-use Rattle.std.proofs.Common.{◌+◌, ℕ, List, refl}
+use Rattle.std.proofs.Common.{◌+◌, refl}
 use Rattle.rz_catalog_entries.specs.Stored.{AreEntriesIn}
-use Rattle.rz_catalog_entries.specs.declared.entry.Entry.{Entry}
 use Rattle.rz_catalog_source.specs.Source.{HasEntries}
 use Rattle.rz_folder.proofs.Finding.{finds_end, finds_fault, finds_value}
 use Rattle.rz_folder_paths.proofs.Present.{absent_stop, present_then}

@@ -2,7 +2,6 @@ use Rattle.std.proofs.Common.{◌≡◌, ◌+◌, ◌++◌, ◌<◌, ◌^◌, []
 use Rattle.std.proofs.lemmas.List.{length_push}
 use Rattle.rz_core.specs.Message.{IsNameable}
 use Rattle.rz_core.specs.Stop.{seen}
-use Rattle.rz_core.specs.declared.fault.Fault.{Fault}
 use Rattle.rz_folder.proofs.Allowed.{may_read_fewer, may_read_these}
 use Rattle.rz_folder.proofs.Finding.{finds_none_after, finds_so, finds_stop, finds_then, seen_end}
 use Rattle.rz_folder.specs.Finds.{Finds}
@@ -10,8 +9,8 @@ use Rattle.rz_tools_answer.proofs.Planning.{finds_beside}
 use Rattle.rz_tools_answer.specs.Made.{making_of, IsBeside}
 use Rattle.rz_tools.proofs.Restringing.{warnings_more}
 use Rattle.rz_tools.specs.Asked.{RestringAsks, RestringAsksAfter, TypesAsk}
-use Rattle.rz_tools.specs.Held.{compiled_of, restring}
-use Rattle.rz_tools.specs.Restring.{with_file, HasRestrung, IsRestrungUnder}
+use Rattle.rz_tools.specs.Held.{restring}
+use Rattle.rz_tools.specs.Restring.{HasRestrung, IsRestrungUnder}
 use Rattle.rz_tools.specs.Types.{TypesAre}
 use Rattle.rz_types_table.specs.TypeTable.{table_of}
 use Rattle.rz_tools.proofs.restring.restring_fork.Goals as goal

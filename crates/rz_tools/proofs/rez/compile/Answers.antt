@@ -1,8 +1,8 @@
-use Rattle.std.proofs.Common.{◌≡◌, ℕ, List, length, true, Ok, Err, inl, inr, refl, subst}
+use Rattle.std.proofs.Common.{◌≡◌, ℕ, List, length, Ok, Err, inl, inr, refl, subst}
 use Rattle.std.specs.declared.result.Result.{Result}
 use Rattle.rz_core.specs.Stop.{seen}
 use Rattle.rz_core.specs.declared.moment.Moment.{Moment}
-use Rattle.rz_folder.proofs.Allowed.{may_read_after, may_read_fewer}
+use Rattle.rz_folder.proofs.Allowed.{may_read_fewer}
 use Rattle.rz_folder.proofs.Finding.{finds_as, finds_none, finds_pure, seen_end}
 use Rattle.rz_folder.specs.Finds.{Finds}
 use Rattle.rz_folder.specs.Folder.{Files}
@@ -16,7 +16,6 @@ use Rattle.rz_tools_answer.specs.Made.{making_of, IsSayable}
 use Rattle.rz_tools_answer.specs.declared.made.Failing.{Failing}
 use Rattle.rz_tools_output.specs.Base.{base_of, begun_of, Base}
 use Rattle.rz_tools_tmpl.specs.Templates.{TypesOf}
-use Rattle.rz_tools_work.specs.Held.{work_of}
 use Rattle.rz_tools_work.specs.Work.{begun, Work}
 use Rattle.rz_types_table.specs.Table.{Declaration}
 use Rattle.rz_types_table.specs.TypeTable.{table_of}

@@ -1,4 +1,4 @@
-use Rattle.std.proofs.Common.{ℕ, List, length, ◌<◌, ◌^◌}
+use Rattle.std.proofs.Common.{length, ◌<◌, ◌^◌}
 use Rattle.rz_tools_answer.proofs.Planning.{beside_good, said_with, unseen_failed}
 use Rattle.rz_tools_output.specs.Base.{base_with}
 use Rattle.rz_tools_output.specs.Output.{target, IsOutput}

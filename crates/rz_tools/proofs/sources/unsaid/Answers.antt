@@ -1,4 +1,4 @@
-use Rattle.std.proofs.Common.{List, [], Err, length, sym, subst}
+use Rattle.std.proofs.Common.{List, Err, length, sym, subst}
 use Rattle.rz_core.specs.declared.fault.Fault.{Fault}
 use Rattle.rz_tools_answer.specs.Made.{IsBeside}
 use Rattle.rz_tools_answer.specs.Warning.{AreWarnings}

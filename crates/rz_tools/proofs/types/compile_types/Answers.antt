@@ -1,4 +1,4 @@
-use Rattle.std.proofs.Common.{ℕ, List, [], length, Ok, Err, inl, refl, ap, subst, ◌∙◌}
+use Rattle.std.proofs.Common.{ℕ, List, [], length, Err, inl, refl, ap, subst, ◌∙◌}
 use Rattle.rz_core.specs.Stop.{seen}
 use Rattle.rz_folder.proofs.Allowed.{may_read_fewer}
 use Rattle.rz_folder.proofs.Finding.{finds_none, seen_end}
@@ -13,7 +13,6 @@ use Rattle.rz_tools_answer.specs.Made.{IsSayable}
 use Rattle.rz_tools_answer.specs.declared.made.Failing.{Failing}
 use Rattle.rz_tools_tmpl.specs.Templates.{TypesOf}
 use Rattle.rz_tools_values.specs.Around.{around}
-use Rattle.rz_tools_work.specs.Held.{work_of}
 use Rattle.rz_tools_work.specs.Work.{begun, Work}
 use Rattle.rz_types_table.specs.Table.{Declaration}
 use Rattle.rz_types_table.specs.TypeTable.{table_of}

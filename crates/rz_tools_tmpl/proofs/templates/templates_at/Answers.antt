@@ -2,7 +2,6 @@ use Rattle.std.proofs.Common.{List, None, refl}
 use Rattle.rz_bridge_files.specs.Contents.{fork_in}
 use Rattle.rz_core.specs.Stop.{seen}
 use Rattle.rz_folder.proofs.Finding.{finds_end, finds_fault, finds_value, seen_end}
-use Rattle.rz_folder.specs.Folder.{Files}
 use Rattle.rz_folder_paths.proofs.Present.{absent_stop, present_then, unplaced}
 use Rattle.rz_tools_tmpl.specs.Templates.{TypesAt, TypesIn}
 use Rattle.rz_types_table.specs.Table.{Declaration}
