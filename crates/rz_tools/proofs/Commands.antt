@@ -84,14 +84,14 @@ module _ {F E : Type 0} (g : Ghosts F) where
   -- a reply that is there whatever the files hold
   pub replies_always : {A : Files → Answer → Type 0} {s : F} (reply : Reply) → ((files : Files) → EachAnswer reply (A files)) → IsSound reply → IsNoUsage (outcome_of reply)
       → IsReplyOf {E = E} g s s (Ok reply) A
-  replies_always {s = s} reply answers sound ends = record {
+  replies_always {A = A} {s = s} reply answers sound ends = record {
     answered = by (g.files s);
     sound = sound;
     usage = never_usage (outcome_of reply) ends;
     reads = reads_as g s s (λ never. never) (reads_nothing g s);
   }
     where
-      by : (before : Option Files) → IfSome before (λ files. EachAnswer reply _)
+      by : (before : Option Files) → IfSome before (λ files. EachAnswer reply (A files))
       by None = tt
       by (Some files) = answers files
 
@@ -117,16 +117,25 @@ module _ {F E : Type 0} (g : Ghosts F) where
 
 -- What is shown of a fork, and the file that holds it.
 
-module _ {F E : Type 0} (g : Ghosts F) (Makes : Files → Result Making Failing → Type 0) (form : Option Form) (name : List ℕ) {old new : F} where
-  abbrev Shown : Files → Answer → Type 0
-  Shown files answer = Answered shown (Makes files) answer × ShowsFile name form files answer
+same_failed : (halt : Halt Failing) → IsReadFault {X = Making} (Err halt) → IsReadFault {X = ForkShown} (Err halt)
+same_failed (halts.Refused failing) failed = failed
+same_failed halts.ReadFault failed = failed
+same_failed halts.NoMemory failed = failed
 
-  not_done : (failing : Failing) (answer : Answer) → EndsAs shown (Err (halts.Refused failing)) answer → answer.outcome ≡ Done → ⊥
-  not_done failing answer ends done = not_refused failing.fault (sym (ap (λ (a : Answer). a.outcome) ends) ∙ done)
+not_done : (failing : Failing) (answer : Answer) → EndsAs shown (Err (halts.Refused failing)) answer → answer.outcome ≡ Done → ⊥
+not_done failing answer ends done = not_refused failing.fault (sym (ap (λ (a : Answer). a.outcome) ends) ∙ done)
+
+module _ (Makes : Files → Result Making Failing → Type 0) (form : Option Form) (name : List ℕ) where
+  abbrev Shows : Files → Answer → Type 0
+  Shows files answer = Answered shown (Makes files) answer × ShowsFile name form files answer
+
+  -- the text of a fork, which is made while it is put
+  abbrev ShowsIn : Files → Result ForkShown Failing → Type 0
+  ShowsIn = OfFile form name (λ files. ShowsText (Makes files))
 
   -- a text that was made
-  shown_made : (made : Result Made (Halt Failing)) (plan : Result Plan (Halt E)) → IfOk plan (λ plan. EndsAs shown made (answer_of plan)) → (before : Option Files)
-      → IfSome before (λ files. Yields (seen making_of made) (OfFile form name Makes files)) → IfSome before (λ files. IfOk plan (λ plan. Shown files (answer_of plan)))
+  shown_made : {E : Type 0} (made : Result Made (Halt Failing)) (plan : Result Plan (Halt E)) → IfOk plan (λ plan. EndsAs shown made (answer_of plan)) → (before : Option Files)
+      → IfSome before (λ files. Yields (seen making_of made) (OfFile form name Makes files)) → IfSome before (λ files. IfOk plan (λ plan. Shows files (answer_of plan)))
   shown_made made plan ends None makes = tt
   shown_made made (Err end) ends (Some files) makes = tt
   shown_made (Ok made) (Ok plan) ends (Some files) makes = ((Ok (making_of made), makes.0, ends), λ done. makes.1)
@@ -134,32 +143,6 @@ module _ {F E : Type 0} (g : Ghosts F) (Makes : Files → Result Making Failing 
       ((Err failing, makes.0, ends), λ done. absurd (not_done failing (answer_of plan) ends done))
   shown_made (Err halts.ReadFault) (Ok plan) ends (Some files) makes = absurd ends
   shown_made (Err halts.NoMemory) (Ok plan) ends (Some files) makes = absurd ends
-
-  pub plans_shown : {Good : Making → Type 0} {Bad : Failing → Type 0} (made : Result Made (Halt Failing)) (plan : Result Plan (Halt E))
-      → Finds g old new (seen making_of made) (OfFile form name Makes) Good Bad → Concludes shown made plan → Plans g old new plan Shown
-  plans_shown made plan finds concludes = record {
-    answered = shown_made made plan concludes.answered (g.files old) finds.answered;
-    well_formed = concludes.well_formed;
-    writable = concludes.writable;
-    no_usage = concludes.no_usage;
-    reads = reads_as g old new (λ failed. seen_failed made (concludes.read_fault failed)) finds.reads;
-  }
-
-  -- the text of a fork, which is made while it is put
-  abbrev ShowsIn : Files → Result ForkShown Failing → Type 0
-  ShowsIn = OfFile form name (λ files. ShowsText (Makes files))
-
-  pub fork_replies : (fork : ForkShown) → Finds g old new (Ok fork) ShowsIn IsShown IsSayable → IsReplyOf {E = E} g old new (Ok (replies.Text fork)) Shown
-  fork_replies fork finds = record {
-    answered = by (g.files old) finds.answered;
-    sound = finds.good;
-    usage = never_usage Done tt;
-    reads = reads_as g old new (λ never. absurd never) finds.reads;
-  }
-    where
-      by : (before : Option Files) → IfSome before (λ files. ShowsIn files (Ok fork)) → IfSome before (λ files. EachAnswer (replies.Text fork) (Shown files))
-      by None told = tt
-      by (Some files) told = λ answer stands. ((Ok (making_with stands.0 fork), told.0 stands.0 stands.1, stands.2), λ done. told.1)
 
   -- what stopped the command
   halt_makes : (halt : Halt Failing) (before : Option Files) → IfSome before (λ files. Yields {X = ForkShown} (Err halt) (ShowsIn files))
@@ -169,19 +152,37 @@ module _ {F E : Type 0} (g : Ghosts F) (Makes : Files → Result Making Failing 
   halt_makes halts.ReadFault (Some files) told = tt
   halt_makes halts.NoMemory (Some files) told = tt
 
-  same_failed : (halt : Halt Failing) → IsReadFault {X = Making} (Err halt) → IsReadFault {X = ForkShown} (Err halt)
-  same_failed (halts.Refused failing) failed = failed
-  same_failed halts.ReadFault failed = failed
-  same_failed halts.NoMemory failed = failed
+  module _ {F E : Type 0} (g : Ghosts F) {old new : F} where
+    pub plans_shown : {Good : Making → Type 0} {Bad : Failing → Type 0} (made : Result Made (Halt Failing)) (plan : Result Plan (Halt E))
+        → Finds g old new (seen making_of made) (OfFile form name Makes) Good Bad → Concludes shown made plan → Plans g old new plan Shows
+    plans_shown made plan finds concludes = record {
+      answered = shown_made made plan concludes.answered (g.files old) finds.answered;
+      well_formed = concludes.well_formed;
+      writable = concludes.writable;
+      no_usage = concludes.no_usage;
+      reads = reads_as g old new (λ failed. seen_failed made (concludes.read_fault failed)) finds.reads;
+    }
 
-  pub fork_stopped : (halt : Halt Failing) (plan : Result Plan (Halt E)) → Finds g old new (Err halt) ShowsIn IsShown IsSayable → Concludes shown (Err halt) plan → Plans g old new plan Shown
-  fork_stopped halt plan finds concludes = record {
-    answered = shown_made (Err halt) plan concludes.answered (g.files old) (halt_makes halt (g.files old) finds.answered);
-    well_formed = concludes.well_formed;
-    writable = concludes.writable;
-    no_usage = concludes.no_usage;
-    reads = reads_as g old new (λ failed. same_failed halt (seen_failed (Err halt) (concludes.read_fault failed))) finds.reads;
-  }
+    pub fork_replies : (fork : ForkShown) → Finds g old new (Ok fork) ShowsIn IsShown IsSayable → IsReplyOf {E = E} g old new (Ok (replies.Text fork)) Shows
+    fork_replies fork finds = record {
+      answered = by (g.files old) finds.answered;
+      sound = finds.good;
+      usage = never_usage Done tt;
+      reads = reads_as g old new (λ never. absurd never) finds.reads;
+    }
+      where
+        by : (before : Option Files) → IfSome before (λ files. ShowsIn files (Ok fork)) → IfSome before (λ files. EachAnswer (replies.Text fork) (Shows files))
+        by None told = tt
+        by (Some files) told = λ answer stands. ((Ok (making_with stands.0 fork), told.0 stands.0 stands.1, stands.2), λ done. told.1)
+
+    pub fork_stopped : (halt : Halt Failing) (plan : Result Plan (Halt E)) → Finds g old new (Err halt) ShowsIn IsShown IsSayable → Concludes shown (Err halt) plan → Plans g old new plan Shows
+    fork_stopped halt plan finds concludes = record {
+      answered = shown_made (Err halt) plan concludes.answered (g.files old) (halt_makes halt (g.files old) finds.answered);
+      well_formed = concludes.well_formed;
+      writable = concludes.writable;
+      no_usage = concludes.no_usage;
+      reads = reads_as g old new (λ failed. same_failed halt (seen_failed (Err halt) (concludes.read_fault failed))) finds.reads;
+    }
 
 -- The command of some items, by its name.
 

@@ -61,13 +61,13 @@ module _ (form : Option Form) (name : List ℕ) (files : Files) where
 
   said_of : (names : List (List ℕ)) (warnings : List Fault) (answers : Result (List ℕ) Fault → Type 0) (made : Result Making Failing)
       → SaidWith names warnings (λ output. answers output × HeldBy output) made → SaidWith names warnings answers made × HeldBy made
-  said_of names warnings answers made (Ok bytes, (has, held), is) = ((Ok bytes, has, is), subst HeldBy (sym is) held)
-  said_of names warnings answers made (Err fault, (has, held), is) = ((Err fault, has, is), subst HeldBy (sym is) tt)
+  said_of names warnings answers made (Ok bytes, (has, held), is) = ((Ok bytes, has, is), subst (λ (r : Result Making Failing). HeldBy r) (sym is) held)
+  said_of names warnings answers made (Err fault, (has, held), is) = ((Err fault, has, is), subst (λ (r : Result Making Failing). HeldBy r) (sym is) tt)
 
   of_types : {Y : Type 0} (first : Result Compiled Failing → Type 0) (next : Compiled → Result Y Failing → Type 0) (answer : Result Y Failing)
       → Then first (λ compiled answer. next compiled answer × HeldBy answer) answer → Then first next answer × HeldBy answer
-  of_types first next answer (inl (compiled, made, next)) = (inl (compiled, made, next.0), next.1)
-  of_types first next answer (inr (failing, made, same)) = (inr (failing, made, same), subst HeldBy (sym same) tt)
+  of_types first next answer (inl (compiled, made, so)) = (inl (compiled, made, so.0), so.1)
+  of_types {Y} first next answer (inr (failing, made, same)) = (inr (failing, made, same), subst (λ (r : Result Y Failing). HeldBy r) (sym same) tt)
 
 module _ {F : Type 0} (g : Ghosts F) (form : Option Form) (name : List ℕ) where
   pub finds_said : {answers : Files → Result (List ℕ) Fault → Type 0} {Good : List ℕ → Type 0} {old new : F} {names : List (List ℕ)} {warnings : List Fault} {output : Result (List ℕ) (Halt Fault)}

@@ -118,34 +118,35 @@ module _ (moment : Moment) (asked : DeRezAsked) (compiled : Compiled) where
 
 -- What is shown of a file, or what stopped the command.
 
-module _ {F : Type 0} (g : Ghosts F) (moment : Moment) (asked : DeRezAsked) (compiled : Compiled) {old new : F} where
+module _ (moment : Moment) (asked : DeRezAsked) (compiled : Compiled) where
   abbrev IsRead : Files → Result Making Failing → Type 0
   IsRead = OfFile asked.from asked.file (λ files. SaidBeside compiled (HasFork asked.from asked.file (map.get files asked.file)))
 
   abbrev IsShownOf : Files → Result ForkShown Failing → Type 0
   IsShownOf = OfFile asked.from asked.file (λ files. ShowsText (HasText moment asked files compiled))
 
-  pub shows_fork : (fork : ForkShown) → known_of fork.text.known ≡ known_by moment compiled → fork.text.only ≡ asked.only → fork.text.skip ≡ asked.skip
-      → Finds g old new (Ok (record { bytes = fork.text.fork; said = fork.said })) IsRead (λ making. IsFork making.bytes × IsWarned making) IsSayable → Finds g old new (Ok fork) IsShownOf IsShown IsSayable
-  shows_fork fork known only skip finds = record { answered = by (g.files old) finds.answered; good = finds.good; bad = tt; reads = reads_as g old new (λ never. absurd never) finds.reads }
-    where
-      by : (before : Option Files) → IfSome before (λ files. IsRead files (Ok (record { bytes = fork.text.fork; said = fork.said }))) → IfSome before (λ files. IsShownOf files (Ok fork))
-      by None read = tt
-      by (Some files) read = ((λ text is. said_text moment asked compiled fork.text known only skip text is (map.get files asked.file) fork.said read.0), read.1)
+  module _ {F : Type 0} (g : Ghosts F) {old new : F} where
+    pub shows_fork : (fork : ForkShown) → known_of fork.text.known ≡ known_by moment compiled → fork.text.only ≡ asked.only → fork.text.skip ≡ asked.skip
+        → Finds g old new (Ok (record { bytes = fork.text.fork; said = fork.said })) IsRead (λ making. IsFork making.bytes × IsWarned making) IsSayable → Finds g old new (Ok fork) IsShownOf IsShown IsSayable
+    shows_fork fork known only skip finds = record { answered = by (g.files old) finds.answered; good = finds.good; bad = tt; reads = reads_as g old new (λ never. absurd never) finds.reads }
+      where
+        by : (before : Option Files) → IfSome before (λ files. IsRead files (Ok (record { bytes = fork.text.fork; said = fork.said }))) → IfSome before (λ files. IsShownOf files (Ok fork))
+        by None read = tt
+        by (Some files) read = ((λ text is. said_text moment asked compiled fork.text known only skip text is (map.get files asked.file) fork.said read.0), read.1)
 
-  pub shows_none : (halt : Halt Failing) → Finds g old new (Err halt) IsRead (λ making. IsFork making.bytes × IsWarned making) IsSayable → Finds g old new (Err halt) IsShownOf IsShown IsSayable
-  shows_none halt finds = record {
-    answered = by (g.files old) halt finds.answered;
-    good = tt;
-    bad = refuses_so Making ForkShown halt IsSayable finds.bad;
-    reads = reads_as g old new (failed_so ForkShown Making halt) finds.reads;
-  }
-    where
-      by : (before : Option Files) (halt : Halt Failing) → IfSome before (λ files. Yields {X = Making} (Err halt) (IsRead files)) → IfSome before (λ files. Yields {X = ForkShown} (Err halt) (IsShownOf files))
-      by None halt read = tt
-      by (Some files) (halts.Refused failing) read = ((λ text is. said_refusal moment asked compiled (map.get files asked.file) failing read.0), tt)
-      by (Some files) halts.ReadFault read = tt
-      by (Some files) halts.NoMemory read = tt
+    pub shows_none : (halt : Halt Failing) → Finds g old new (Err halt) IsRead (λ making. IsFork making.bytes × IsWarned making) IsSayable → Finds g old new (Err halt) IsShownOf IsShown IsSayable
+    shows_none halt finds = record {
+      answered = by (g.files old) halt finds.answered;
+      good = tt;
+      bad = refuses_so Making ForkShown halt IsSayable finds.bad;
+      reads = reads_as g old new (failed_so ForkShown Making halt) finds.reads;
+    }
+      where
+        by : (before : Option Files) (halt : Halt Failing) → IfSome before (λ files. Yields {X = Making} (Err halt) (IsRead files)) → IfSome before (λ files. Yields {X = ForkShown} (Err halt) (IsShownOf files))
+        by None halt read = tt
+        by (Some files) (halts.Refused failing) read = ((λ text is. said_refusal moment asked compiled (map.get files asked.file) failing read.0), tt)
+        by (Some files) halts.ReadFault read = tt
+        by (Some files) halts.NoMemory read = tt
 
 -- after the types
 pub shows_then : (first : Result Compiled Failing → Type 0) (next : Compiled → Result Making Failing → Type 0) (answer : Result ForkShown Failing)

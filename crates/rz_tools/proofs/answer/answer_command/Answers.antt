@@ -110,7 +110,7 @@ pub returns-in_ok-words-in-Strings-clause-replies : goal.returns-in_ok-words-in-
 returns-in_ok-words-in-Strings-clause-replies g c =
     let asked = strings c.in_ok-words-in-Strings.words in
     planned_as g.F.Folder c.args.command.name names.Strings (items_of c.args.command) c.args.moment c.in-Strings.is c.to_show.result c.planned-in-Strings.result c.planned-in-Strings.ensures
-    (plans_shown g.F.Folder (Lists c.args.moment asked) asked.from asked.file c.list_strings-made.result c.to_show.result c.list_strings-made.ensures c.to_show.ensures)
+    (plans_shown (Lists c.args.moment asked) asked.from asked.file g.F.Folder c.list_strings-made.result c.to_show.result c.list_strings-made.ensures c.to_show.ensures)
     (λ files answer is. subst (λ (a : StringsAsked). AnswersStrings a files c.args.moment answer × ShowsFile a.file a.from files answer) c.in_ok-words-in-Strings.ensures is)
 
 pub returns-in_ok-words-in-Restring-clause-replies : goal.returns-in_ok-words-in-Restring-clause-replies

@@ -13,14 +13,14 @@ use Rattle.rz_tools.proofs.derez.answer_derez.Goals as goal
 pub returns-in-Ok : goal.returns-in-Ok
 returns-in-Ok g c =
     let asked = derez c.args.words in
-    fork_replies g.F.Folder (Shows c.args.moment asked) asked.from asked.file c.in-Ok.shown c.in-Ok.ensures
+    fork_replies (Shows c.args.moment asked) asked.from asked.file g.F.Folder c.in-Ok.shown c.in-Ok.ensures
 
 pub returns-in-Err : goal.returns-in-Err
 returns-in-Err g c =
     let asked = derez c.args.words in
     let plan = c.stopped.result in
     plan_replies g.F.Folder plan c.planned.result c.planned.ensures
-    (fork_stopped g.F.Folder (Shows c.args.moment asked) asked.from asked.file c.in-Err.halt plan c.in-Err.ensures
+    (fork_stopped (Shows c.args.moment asked) asked.from asked.file g.F.Folder c.in-Err.halt plan c.in-Err.ensures
     (concludes_stopped shown (Err c.in-Err.halt) c.in-Err.halt refl plan c.stopped.ensures.refused c.stopped.ensures.well_formed c.stopped.ensures.writable c.stopped.ensures.no_usage
     c.stopped.ensures.read_fault))
 

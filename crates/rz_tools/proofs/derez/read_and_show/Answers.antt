@@ -43,7 +43,7 @@ returns-in-Err g c =
     finds_as g.F.Folder (Err c.in-Err.halt)
     (after_types g.F.Folder asked.from asked.file (TypesAre c.args.moment asked.types) (λ files compiled. ShowsText (HasText c.args.moment asked files compiled)) (Err c.in-Err.halt)
     c.in_ok-compiled.ensures
-    (shows_none g.F.Folder c.args.moment asked compiled c.in-Err.halt
+    (shows_none c.args.moment asked compiled g.F.Folder c.in-Err.halt
     (finds_said g.F.Folder asked.from asked.file (Err c.in-Err.halt) (rw c.as_str.ensures.value at c.read_fork-fork.ensures) c.in-Err.ensures)))
     (λ files answer is. (shows_then (TypesAre c.args.moment asked.types files) (HasText c.args.moment asked files) answer is.0, is.1))
 
@@ -64,6 +64,6 @@ returns g c =
     finds_as g.F.Folder (Ok fork)
     (after_types g.F.Folder asked.from asked.file (TypesAre c.args.moment asked.types) (λ files compiled. ShowsText (HasText c.args.moment asked files compiled)) (Ok fork)
     c.in_ok-compiled.ensures
-    (shows_fork g.F.Folder c.args.moment asked (compiled_of c.in_ok-compiled.compiled) fork c.in_ok-known.ensures refl refl
+    (shows_fork c.args.moment asked (compiled_of c.in_ok-compiled.compiled) g.F.Folder fork c.in_ok-known.ensures refl refl
     (finds_said g.F.Folder asked.from asked.file (Ok made) (rw c.as_str.ensures.value at c.read_fork-fork.ensures) c.in-Ok.ensures)))
     (λ files answer is. (shows_then (TypesAre c.args.moment asked.types files) (HasText c.args.moment asked files) answer is.0, is.1))
