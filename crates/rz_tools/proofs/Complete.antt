@@ -97,8 +97,8 @@ module _ (words : List (List ℕ)) (moment : Moment) (before after : World) (res
       let answer : Answer = (every words files moment).0 in record {
         answer = answer;
         only = record {
-              answers = (every words files moment).1;
-              only = λ other is. one words files moment other answer is (every words files moment).1;
+          answers = (every words files moment).1;
+          only = λ other is. one words files moment other answer is (every words files moment).1;
         };
         carried = carried answer;
         ended = λ free. absurd (not free);

@@ -34,10 +34,10 @@ returns-in-Ok g c =
       exact = over_told told (λ files. Answers words files moment made.0) _ (λ files so. exact words moment _ _ result c.one_answer.ensures made.0 fits carried files so) answered;
       fileless = λ none files. exact words moment _ _ result c.one_answer.ensures made.0 fits carried files (c.in-Ok.ensures.fileless none files made.0 made.1);
       usage = λ position. record {
-          only = λ is. replied.usage position (sym ends ∙ usage_of _ _ result made.0 carried (record { position = position }) is);
-          always = λ is. or_else (c.in-Ok.ensures.every_usage position is) (λ e. cc)
-              (λ so. stays_usage _ _ result made.0 carried (IsText c.in-Ok.reply) (record { position = position }) (ends ∙ so)
-              (subst (λ (o : Outcome). (result ≡ o) ⊎ (result ≡ WriteFault) ⊎ ((result ≡ NoMemory) × IsText c.in-Ok.reply)) (sym ends) c.carry_out.ensures.ended));
+        only = λ is. replied.usage position (sym ends ∙ usage_of _ _ result made.0 carried (record { position = position }) is);
+        always = λ is. or_else (c.in-Ok.ensures.every_usage position is) (λ e. cc)
+            (λ so. stays_usage _ _ result made.0 carried (IsText c.in-Ok.reply) (record { position = position }) (ends ∙ so)
+            (subst (λ (o : Outcome). (result ≡ o) ⊎ (result ≡ WriteFault) ⊎ ((result ≡ NoMemory) × IsText c.in-Ok.reply)) (sym ends) c.carry_out.ensures.ended));
       };
       inverse = λ is. inverse words moment _ _ result told
           (λ asked as_asked. shows_again c.one_command.ensures.command c.shown_forks_are_read_again.ensures c.reserved_words_are_spared.ensures words moment _ _ made.0 result is carried
@@ -57,8 +57,8 @@ returns-in-Err-ReadFault g c =
           (over_read words c.args.moment _ _ reads.unchanged reads.unwritten refl c.one_answer.ensures c.every_answer.ensures cause c.put_line.ensures);
       fileless = λ none. over_read words c.args.moment _ _ reads.unchanged reads.unwritten refl c.one_answer.ensures c.every_answer.ensures cause c.put_line.ensures;
       usage = λ position. record {
-          only = λ is. absurd (cc is);
-          always = λ is. or_else (c.in-Err-ReadFault.ensures.every_usage position is) (λ e. cc) (λ never. absurd never);
+        only = λ is. absurd (cc is);
+        always = λ is. or_else (c.in-Err-ReadFault.ensures.every_usage position is) (λ e. cc) (λ never. absurd never);
       };
       inverse = λ is. absurd (cc is);
     }
