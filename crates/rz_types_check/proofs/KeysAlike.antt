@@ -89,9 +89,10 @@ alike_more key (one ∷ keys) alike none first is =
     let are = kept key (one ∷ keys) none in
     let width = or_false (has_other_width key one) (list_any (has_other_width key) keys) are.width in
     let place = or_false (has_other_place key one) (list_any (has_other_place key) keys) are.place in
-    all_push (IsLike first) (one ∷ keys) key (alike first is)
-    (eqb-true key.width one.width (not_false (key.width == one.width) width.0) ∙ ap (λ (k : CaseKey). k.width) same,
-      same_place key.distance one.distance place.0 ∙ ap (λ (k : CaseKey). k.distance) same)
+    all_push (IsLike first) (one ∷ keys) key (alike first is) (
+      eqb-true key.width one.width (not_false (key.width == one.width) width.0) ∙ ap (λ (k : CaseKey). k.width) same,
+      same_place key.distance one.distance place.0 ∙ ap (λ (k : CaseKey). k.distance) same,
+    )
 
 turned : (a b : Bool) → (a || b) ≡ (b || (a || false))
 turned true true = refl

@@ -44,8 +44,8 @@ read_item-read_items-requires g t c =
     (list_asks c.args.item c.in-List.items c.in-List.place c.in-List.is) in
     λ κs below. (let within = inner_deeper c.args.item c.in-List.items c.in-List.place c.in-List.is in omega (arith, c.decreases, within), (below, may))
 
-pub read_item-read_items-requires-2 : goal.read_item-read_items-requires-2
-read_item-read_items-requires-2 g t c =
+pub read_item-read_items-requires-in-Named : goal.read_item-read_items-requires-in-Named
+read_item-read_items-requires-in-Named g t c =
     let may : MayRead g.F.Folder c.args.folder.now (LooksFor c.args.paths.now (ItemsAsk (plain_items c.in-Named.items))) =
     may_look_fewer g.F.Folder c.args.paths.now (ItemAsks (plain_item c.args.item)) (ItemsAsk (plain_items c.in-Named.items)) c.requires
     (named_asks c.args.item c.in-Named.name c.in-Named.items c.in-Named.place c.in-Named.is) in

@@ -17,5 +17,5 @@ invariant_of-self-in-Ok c =
     let none = alone c.args.own.now before _ c.requires in record {
       alike = subst AreAlike (sym c.in_ok-push.ensures.items) (alike_more _ before c.args.self.now.alike none);
       held = subst (HaveBits c.insert.new.self.keys) (sym c.in_ok-push.ensures.items)
-        (bits_more _ _ before _ c.in-Ok.field-0 c.args.self.now.held none c.in-Ok.ensures.added c.in-Ok.ensures.keys);
+          (bits_more _ _ before _ c.in-Ok.field-0 c.args.self.now.held none c.in-Ok.ensures.added c.in-Ok.ensures.keys);
     }
