@@ -1,9 +1,10 @@
 -- Files by their names: the first one that stands under some names, and the names of an included file. (MPW Rez.)
-use Rattle.std.specs.Prelude.{ℕ, List, [], ◌∷◌, ◌++◌, map, Option, Some, None, option_map}
+use Rattle.std.specs.Prelude.{◌≡◌, ℕ, List, [], ◌∷◌, ◌++◌, map, Option, Some, None, option_map, Ok, Err}
 use Rattle.std.specs.Option.{ok_or}
 use Rattle.std.specs.declared.result.Result.{Result}
 use Rattle.std.specs.FinMap as finite
 use Rattle.std.specs.Str.{encode_utf8_all}
+use Rattle.rz_core.specs.Message.{IsNameable}
 use Rattle.rz_core.specs.Roman.{roman_char}
 use Rattle.rz_core.specs.declared.fault.Fault.{Fault}
 use Rattle.rz_core.specs.declared.fault.Kept.TheVariants.{Name}
@@ -27,6 +28,18 @@ bytes_of files names missing = ok_or (option_map (λ found. found.1) (file_of fi
 -- 101
 abbrev pub missing_file : Option Mark → List ℕ → Fault
 missing_file mark name = record { number = 101; mark = mark; kept = Name name }
+
+-- a fault that a message can name whatever files there are: it has no mark
+abbrev pub IsUnplaced : Fault → Type 0
+IsUnplaced fault = (files : ℕ) → IsNameable files fault
+
+-- the bytes of the file of this name; 101 where there is none
+abbrev pub HasEntry : List ℕ → Option (List ℕ) → Result (List ℕ) Fault → Type 0
+HasEntry name None answer = answer ≡ Err (missing_file None name)
+HasEntry name (Some bytes) answer = answer ≡ Ok bytes
+
+abbrev pub HasBytes : List ℕ → Files → Result (List ℕ) Fault → Type 0
+HasBytes name files = HasEntry name (finite.get files name)
 
 -- the names of an included file in UTF-8: its own, and then after each path and `/`
 abbrev pub utf8_name : List ℕ → List ℕ

@@ -2,10 +2,11 @@
 
 ghost use Rattle.std.specs.Prelude.{◌≡◌, ℕ, ◌<◌, ◌^◌, length, IfOk, IfSome, option_map};
 ghost use Rattle.rz_core.specs.Message.{IsMarked, IsNameable};
+ghost use Rattle.rz_folder.specs.Finds.{Finds};
 ghost use Rattle.rz_folder.specs.MayRead.{IsOneOf, MayRead};
 ghost use Rattle.rz_folder.specs.OnlyReads.{OnlyReads};
 ghost use Rattle.rz_core.specs.Stop.{IsReadFault, OnRefusal, Yields};
-ghost use Rattle.rz_folder_paths.specs.Names.{bytes_of, file_of, missing_file};
+ghost use Rattle.rz_folder_paths.specs.Names.{bytes_of, file_of, missing_file, HasBytes, IsUnplaced};
 
 use rz_core::{Bytes, Fault, FileNames, Halt, Kept, Mark, NoMemory};
 use rz_folder::{Folder, Read};
@@ -62,6 +63,24 @@ pub fn read_file<F: Folder>(
     match find(alloc, folder, names)? {
         Some((_, bytes)) => Ok(bytes),
         None => Err(Halt::Refused(missing_file(alloc, Some(mark), kept)?)),
+    }
+}
+
+/// The bytes of the file of this name, fewer than 2^32. Refused with 101, without a mark, where no file has the name
+/// (kept: the name). No file changes, and no other name is read.
+pub fn read_present<F: Folder>(
+    alloc: Global,
+    folder: &mut F,
+    name: &str,
+) -> Result<Bytes, Halt<Fault>>
+    requires { F.may_read folder.old name.now }
+    ensures { Finds F.Folder folder.old folder.new result (HasBytes name.now) (λ bytes. length bytes < 2 ^ 32) IsUnplaced }
+{
+    match folder.read(alloc, name) {
+        Read::Bytes(bytes) => Ok(bytes),
+        Read::Missing => Err(Halt::Refused(missing_file(alloc, None, name.as_bytes())?)),
+        Read::Failed => Err(Halt::ReadFault),
+        Read::NoMemory => Err(Halt::NoMemory),
     }
 }
 

@@ -1,19 +1,25 @@
 -- A run ends with the one answer to its words.
-use Rattle.std.proofs.Common.{◌≡◌, ◌⊎◌, inl, inr, ℕ, List, [], Some, None, refl, sym, ap, subst, ◌∙◌}
+use Rattle.std.proofs.Common.{◌≡◌, ◌⊎◌, inl, inr, ℕ, List, [], Option, Some, None, refl, sym, ap, subst, ◌∙◌}
 use Rattle.std.specs.Prelude.{IfSome}
-use Rattle.std.specs.declared.option.Option.{Option}
 use Rattle.rz_core.specs.declared.moment.Moment.{Moment}
 use Rattle.rz_folder.specs.Folder.{Files}
 use Rattle.rz_folder.specs.Sink.{IsOut, Stream, Told}
 use Rattle.rz_tools_answer.proofs.Said.{out_so_far}
-use Rattle.rz_tools_answer.specs.Answer.{count_after, files_after, Answer, Write}
-use Rattle.rz_tools_answer.specs.Carried.{CarriesOut, EndsWith, IsAnswered, IsUnhindered, IsUntouched}
+use Rattle.rz_tools_answer.specs.Answer.{count_after, files_after, misused, Answer, Write}
+use Rattle.rz_tools_answer.specs.Carried.{CarriesOut, EndsWith, IsUnhindered, IsUntouched}
+use Rattle.rz_tools_answer.specs.Message.{no_memory_line, read_fault_line}
 use Rattle.rz_tools_answer.specs.WellFormed.{FitsOutcome, IsWellFormed}
-use Rattle.rz_tools_answer.specs.World.{ReadFailed, Says, World, WriteFailed}
+use Rattle.rz_tools_answer.specs.World.{ReadFailed, Says, SaysText, World, WriteFailed}
 use Rattle.rz_tools_answer.specs.declared.outcome.Outcome.{Outcome}
 use Rattle.rz_tools_answer.specs.declared.outcome.Outcome.TheVariants.{Done, Usage, Refused, ReadFault, WriteFault, NoMemory}
-use Rattle.rz_tools.proofs.Running.{OneAnswer}
-use Rattle.rz_tools.specs.Program.{Answers, IsOnlyAnswer}
+use Rattle.rz_tools.proofs.Running.{nothing_put, nothing_read, OneAnswer}
+use Rattle.rz_tools.specs.Again.{ShowsAgain}
+use Rattle.rz_tools.specs.Catalogues.{LeavesOthers, ListsBack}
+use Rattle.rz_tools.specs.DeRez.{DeRezAsked, IsDeRez}
+use Rattle.rz_tools.specs.Headline.{IsExact, IsHindered, IsInverse, IsWhole, Run}
+use Rattle.rz_tools.specs.Program.{Answers}
+use Rattle.rz_tools.specs.Restring.{IsRestring, RestringAsked}
+use Rattle.rz_tools.specs.Strings.{IsStrings, StringsAsked}
 
 abbrev pub EveryAnswer : Type 0
 EveryAnswer = (words : List (List ℕ)) (files : Files) (moment : Moment) → (answer : Answer) × Answers words files moment answer
@@ -52,14 +58,6 @@ module _ (done : Answer) (before after : World) where
   ends_with WriteFault fits free carried = absurd free
   ends_with NoMemory fits free carried = absurd free
 
-answered : (result : Outcome) → IsUnhindered result → IsAnswered result
-answered Done free = free
-answered (Usage fault) free = free
-answered (Refused fault) free = free
-answered ReadFault free = free
-answered WriteFault free = absurd free
-answered NoMemory free = free
-
 -- where no read and no write failed, want of memory alone hinders a run
 unfailed : (answer : Answer) (before after : World) (result : Outcome) → CarriesOut answer before after result → (ReadFailed before after → ⊥) → (WriteFailed before after → ⊥)
     → (result ≡ NoMemory) ⊎ IsUnhindered result
@@ -70,40 +68,82 @@ unfailed answer before after ReadFault carried read wrote = absurd (read carried
 unfailed answer before after WriteFault carried read wrote = absurd (wrote carried.ends.1)
 unfailed answer before after NoMemory carried read wrote = inl refl
 
-module _ (one : OneAnswer) (every : EveryAnswer) (words : List (List ℕ)) (moment : Moment) where
-  only : (files : Files) → IsOnlyAnswer words files moment (every words files moment).0
-  only files = record {
-    answers = (every words files moment).1;
-    only = λ other is. one words files moment other (every words files moment).0 is (every words files moment).1;
-  }
+module _ (words : List (List ℕ)) (moment : Moment) (before after : World) (result : Outcome) where
+  abbrev the_run : Run
+  the_run = record { words = words; moment = moment; before = before; after = after; result = result }
 
-  module _ (before after : World) (result : Outcome) where
-    abbrev IsComplete : Files → Type 0
-    IsComplete files = (answer : Answer) × IsOnlyAnswer words files moment answer × (IsUnhindered result → EndsWith answer before after result)
+  ends_or : (answer : Answer) → CarriesOut answer before after result → (IsUnhindered result → EndsWith answer before after result) → (IsHindered the_run → ⊥)
+      → (result ≡ NoMemory) ⊎ EndsWith answer before after result
+  ends_or answer carried ends free = by (unfailed answer before after result carried (λ read. free (inl read)) (λ wrote. free (inr wrote)))
+    where
+      by : (result ≡ NoMemory) ⊎ IsUnhindered result → (result ≡ NoMemory) ⊎ EndsWith answer before after result
+      by (inl none) = inl none
+      by (inr free) = inr (ends free)
 
-    pub complete : (done : Answer) → IsWellFormed done → CarriesOut done before after result → (files : Option Files)
-        → (IsAnswered result → IfSome files (λ files. Answers words files moment done)) → IfSome files IsComplete
-    complete done fits carried None answers = tt
-    complete done fits carried (Some files) answers = (
-      (every words files moment).0,
-      only files,
-      λ free. subst (λ (a : Answer). EndsWith a before after result) ((only files).only done (answers (answered result free))) (ends_with done before after result fits free carried),
-    )
+  -- an answer was carried out
+  pub exact : OneAnswer → (done : Answer) → IsWellFormed done → CarriesOut done before after result → (files : Files) → Answers words files moment done → IsExact the_run files
+  exact one done fits carried files answers =
+      let ends : IsUnhindered result → EndsWith done before after result = λ free. ends_with done before after result fits free carried in record {
+        answer = done;
+        only = record { answers = answers; only = λ other is. one words files moment other done is answers };
+        carried = carried;
+        ended = ends;
+        ends = ends_or done carried ends;
+      }
 
-    pub hindered : (IsUnhindered result → ⊥) → (files : Option Files) → IfSome files IsComplete
-    hindered not None = tt
-    hindered not (Some files) = ((every words files moment).0, only files, λ free. absurd (not free))
+  -- none was, so that each is carried out as far as any
+  pub hindered : OneAnswer → EveryAnswer → ((wanted : Answer) → CarriesOut wanted before after result) → (IsUnhindered result → ⊥) → (files : Files) → IsExact the_run files
+  hindered one every carried not files =
+      let answer : Answer = (every words files moment).0 in record {
+        answer = answer;
+        only = record {
+          answers = (every words files moment).1;
+          only = λ other is. one words files moment other answer is (every words files moment).1;
+        };
+        carried = carried answer;
+        ended = λ free. absurd (not free);
+        ends = ends_or answer (carried answer) (λ free. absurd (not free));
+      }
 
-    -- where no read and no write failed, the run ends with the answer, or for want of memory
-    abbrev IsWhole : Files → Type 0
-    IsWhole files =
-        (answer : Answer) × IsOnlyAnswer words files moment answer
-        × ((ReadFailed before after → ⊥) → (WriteFailed before after → ⊥) → (result ≡ NoMemory) ⊎ EndsWith answer before after result)
+-- A run that no answer was carried out in: a read failed, or memory was refused.
 
-    pub whole : (done : Answer) → CarriesOut done before after result → (files : Option Files) → IfSome files IsComplete → IfSome files IsWhole
-    whole done carried None known = tt
-    whole done carried (Some files) (answer, is, ends) = (answer, is, λ read wrote. by (unfailed done before after result carried read wrote))
-      where
-        by : (result ≡ NoMemory) ⊎ IsUnhindered result → (result ≡ NoMemory) ⊎ EndsWith answer before after result
-        by (inl none) = inl none
-        by (inr free) = inr (ends free)
+module _ (words : List (List ℕ)) (moment : Moment) (before after : World) where
+  abbrev IsSo : Outcome → Files → Type 0
+  IsSo result = IsExact (record { words = words; moment = moment; before = before; after = after; result = result })
+
+  abbrev IsWholeSo : Outcome → Type 0
+  IsWholeSo result = IsWhole (record { words = words; moment = moment; before = before; after = after; result = result })
+
+  module _ (files : after.files ≡ before.files) (unwritten : after.writes ≡ before.writes) (out : after.out ≡ before.out) where
+    pub over_read : OneAnswer → EveryAnswer → ReadFailed before after → SaysText read_fault_line before after → (told : Files) → IsSo ReadFault told
+    over_read one every cause says =
+        hindered words moment before after ReadFault one every (λ wanted. nothing_read wanted before after cause files unwritten out says) (λ free. free)
+
+    pub whole_read : ReadFailed before after → SaysText read_fault_line before after → IsWholeSo ReadFault
+    whole_read cause says = (misused 0, refl, nothing_read (misused 0) before after cause files unwritten out says, λ never. absurd never)
+
+    pub over_none : OneAnswer → EveryAnswer → SaysText no_memory_line before after → (told : Files) → IsSo NoMemory told
+    over_none one every says = hindered words moment before after NoMemory one every (λ wanted. nothing_put wanted before after files unwritten out says) (λ free. free)
+
+    pub whole_none : SaysText no_memory_line before after → IsWholeSo NoMemory
+    whole_none says = (misused 0, refl, nothing_put (misused 0) before after files unwritten out says, λ never. absurd never)
+
+-- The same where the files are told.
+
+pub over_files : (before : Option Files) (P : Files → Type 0) → ((files : Files) → P files) → IfSome before P
+over_files None P all = tt
+over_files (Some files) P all = all files
+
+pub over_told : (before : Option Files) (P Q : Files → Type 0) → ((files : Files) → P files → Q files) → IfSome before P → IfSome before Q
+over_told None P Q so holds = tt
+over_told (Some files) P Q so holds = so files holds
+
+-- what holds for each command that is an inverse of another
+module _ (words : List (List ℕ)) (moment : Moment) (before after : World) (result : Outcome) where
+  pub inverse : (told : Option Files)
+      → ((asked : DeRezAsked) → IsDeRez words asked → IfSome told (λ files. ShowsAgain moment asked files before.out after.out))
+      → ((asked : StringsAsked) → IsStrings words asked → IfSome told (λ files. ListsBack moment asked files before.out after.out))
+      → ((asked : RestringAsked) → IsRestring words asked → IfSome told (λ files. LeavesOthers moment asked files after.files))
+      → IfSome told (IsInverse (record { words = words; moment = moment; before = before; after = after; result = result }))
+  inverse None derez strings restring = tt
+  inverse (Some files) derez strings restring = record { derez = derez; strings = strings; restring = restring }

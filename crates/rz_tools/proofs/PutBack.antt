@@ -31,6 +31,7 @@ use Rattle.rz_tools.proofs.ShownAgain.{at_some, fork_parts, made_or_not, not_ref
 use Rattle.rz_tools.specs.Again.{HoldsFile}
 use Rattle.rz_tools.specs.Catalogues.{IsPutBack, ListsBack}
 use Rattle.rz_tools.specs.Program.{Answers}
+use Rattle.rz_tools.specs.Shown.{AnswersWords, ShowsFile}
 use Rattle.rz_tools.specs.Sources.{Compiled}
 use Rattle.rz_tools.specs.Strings.{AnswersStrings, HasCatalogue, HasFileCatalogue, IsStrings, StringsAsked}
 use Rattle.rz_tools.specs.Types.{TypesAre}
@@ -143,20 +144,22 @@ strings_answered commands words asked (items, is, same) files moment wanted answ
 -- a run that is done
 module _ (law : CataloguesArePutBack) (commands : OneCommand) (words : List (List ℕ)) (moment : Moment) (before after : World) (done : Answer) where
   pub lists_back : (result : Outcome) → result ≡ Done → CarriesOut done before after result → (asked : StringsAsked) → IsStrings words asked
-      → IfSome before.files (λ files. Answers words files moment done)
-      → IfSome before.files (λ files. IfSome (finite.get files asked.file) (λ bytes. done.outcome ≡ Done → HoldsFile asked.from bytes))
-      → IfSome before.files (λ files. ListsBack moment asked files before.out after.out)
-  lists_back result is carried asked as_asked answers held =
+      → IfSome before.files (λ files. AnswersWords words moment files done) → IfSome before.files (λ files. ListsBack moment asked files before.out after.out)
+  lists_back result is carried asked as_asked answers =
       let ends = (subst (λ r. CarriesOut done before after r) is carried).ends in
-      by before.files ends.0 ends.1.out answers held
+      by before.files ends.0 ends.1.out answers
     where
-      by : (b : Option Files) → done.outcome ≡ Done → Told (IsOut done.out) before.out after.out → IfSome b (λ files. Answers words files moment done)
-          → IfSome b (λ files. IfSome (finite.get files asked.file) (λ bytes. done.outcome ≡ Done → HoldsFile asked.from bytes)) → IfSome b (λ files. ListsBack moment asked files before.out after.out)
-      by None ended written answers held = tt
-      by (Some files) ended written answers held = λ bytes there fork admits.
+      held : (files : Files) → AnswersWords words moment files done → ShowsFile asked.file asked.from files done
+      held files so =
+          subst (λ (a : StringsAsked). ShowsFile a.file a.from files done) (sym as_asked.2) (so.1 (record { name = names.Strings; items = as_asked.0 }) as_asked.1)
+
+      by : (b : Option Files) → done.outcome ≡ Done → Told (IsOut done.out) before.out after.out → IfSome b (λ files. AnswersWords words moment files done)
+          → IfSome b (λ files. ListsBack moment asked files before.out after.out)
+      by None ended written answers = tt
+      by (Some files) ended written answers = λ bytes there fork admits.
           let parts = fork_parts asked.from bytes fork admits in
-          let listed = listed_answer moment asked files bytes fork done (strings_answered commands words asked as_asked files moment done answers) ended there admits in
-          let file = at_some (λ bytes. done.outcome ≡ Done → HoldsFile asked.from bytes) (finite.get files asked.file) bytes there held ended parts.0 parts.1 in (
+          let listed = listed_answer moment asked files bytes fork done (strings_answered commands words asked as_asked files moment done answers.0) ended there admits in
+          let file = at_some (HoldsFile asked.from) (finite.get files asked.file) bytes there (held files answers ended) parts.0 parts.1 in (
             listed.compiled,
             listed.entries,
             listed.types,

@@ -7,7 +7,7 @@ use Rattle.rz_core.specs.Message.{IsMarked}
 use Rattle.rz_core.specs.Resources.{same_key, KeysDiffer}
 use Rattle.rz_core.specs.declared.fault.Fault.{Fault}
 use Rattle.rz_core.specs.declared.fault.Mark.{Mark}
-use Rattle.rz_core.specs.Stop.{Meets, OnFault}
+use Rattle.rz_core.specs.Stop.{halt_of, Meets, OnFault, Yields}
 use Rattle.rz_core.specs.declared.resource.Resource.{Resource}
 use Rattle.rz_core.specs.declared.stop.Stop.{Stop}
 use Rattle.rz_core.specs.declared.stop.Stop.TheVariants.{Refused, NoMemory}
@@ -65,3 +65,8 @@ pub stopped_nameable : (X Y : Type 0) (Answers : Result X Fault → Type 0) (P :
     → Meets {X = X} (Err stop) Answers → OnFault {X = Y} (Err stop) P
 stopped_nameable X Y Answers P so (Refused fault) is = so fault is
 stopped_nameable X Y Answers P so NoMemory is = tt
+
+-- the end of a call that reads no files
+pub halts_as : {X : Type 0} (answers : Result X Fault → Type 0) (stop : Stop Fault) → Meets {X = X} (Err stop) answers → Yields {X = X} (Err (halt_of stop)) answers
+halts_as answers (Refused fault) is = is
+halts_as answers NoMemory is = tt

@@ -1,8 +1,10 @@
 -- A run, from the answer that was carried out after files were read.
-use Rattle.std.proofs.Common.{◌≡◌, ◌≤◌, ◌⊎◌, inl, inr, ℕ, List, Some, None, sym, subst, ◌∙◌, arith}
-use Rattle.std.specs.Prelude.{IfSome}
+use Rattle.std.proofs.Common.{◌≡◌, ◌≤◌, ◌⊎◌, inl, inr, ℕ, List, Err, sym, subst, ◌∙◌, arith}
 use Rattle.std.specs.declared.option.Option.{Option}
+use Rattle.rz_core.specs.Stop.{IsReadFault}
 use Rattle.rz_core.specs.declared.moment.Moment.{Moment}
+use Rattle.rz_core.specs.declared.stop.Halt.{Halt}
+use Rattle.rz_core.specs.declared.stop.Halt.TheVariants as halts
 use Rattle.rz_folder.specs.Counts.{Rose}
 use Rattle.rz_folder.specs.Folder.{Files}
 use Rattle.rz_folder.specs.Sink.{Stream}
@@ -10,8 +12,8 @@ use Rattle.rz_tools_args.specs.declared.read.UsageFault.{UsageFault}
 use Rattle.rz_tools_answer.specs.Answer.{Answer, Write}
 use Rattle.rz_tools_answer.specs.Carried.{at_file, at_text, CarriesOut, Ends, IsPartlyWritten, IsUntouched, SaysOf}
 use Rattle.rz_tools.specs.Program.{Answers}
-use Rattle.rz_tools_answer.specs.Message.{no_memory_line}
-use Rattle.rz_tools_answer.specs.World.{SaysText, World}
+use Rattle.rz_tools_answer.specs.Message.{no_memory_line, read_fault_line}
+use Rattle.rz_tools_answer.specs.World.{ReadFailed, SaysText, World}
 use Rattle.rz_tools_answer.specs.declared.outcome.Outcome.{Outcome}
 use Rattle.rz_tools_answer.specs.declared.outcome.Outcome.TheVariants.{Done, Usage, Refused, ReadFault, WriteFault, NoMemory}
 
@@ -72,34 +74,30 @@ pub nothing_put : (answer : Answer) (before after : World) → after.files ≡ b
     → SaysText no_memory_line before after → CarriesOut answer before after NoMemory
 nothing_put answer before after files unwritten out says = record { ends = record { files = files; counted = unwritten; out = inl out }; says = inl (out, says) }
 
--- Each answer is the one that was carried out.
+-- A read failed before anything was put.
+
+pub nothing_read : (answer : Answer) (before after : World) → ReadFailed before after → after.files ≡ before.files → after.writes ≡ before.writes → after.out ≡ before.out
+    → SaysText read_fault_line before after → CarriesOut answer before after ReadFault
+nothing_read answer before after cause files unwritten out says = record { ends = (cause, record { files = files; counted = unwritten; out = out }); says = says }
+
+pub did_fail : (X : Type 0) {E : Type 0} (halt : Halt E) → halt ≡ halts.ReadFault → IsReadFault {X = X} (Err halt)
+did_fail X {E} halt is = subst (λ (h : Halt E). IsReadFault {X = X} (Err h)) (sym is) tt
 
 abbrev pub OneAnswer : Type 0
 OneAnswer = (words : List (List ℕ)) (files : Files) (moment : Moment) (answer another : Answer) → Answers words files moment answer → Answers words files moment another → answer ≡ another
 
-module _ (words : List (List ℕ)) (moment : Moment) (before after : World) (result : Outcome) where
-  -- those to these words are carried out
-  abbrev pub IsEvery : Option Files → Type 0
-  IsEvery files = IfSome files (λ files. (wanted : Answer) → Answers words files moment wanted → CarriesOut wanted before after result)
+-- Usage.
 
-  pub every_answer : ((wanted : Answer) → CarriesOut wanted before after result) → (files : Option Files) → IsEvery files
-  every_answer all None = tt
-  every_answer all (Some files) = λ wanted meets. all wanted
+module _ (before after : World) (result : Outcome) (done : Answer) (carried : CarriesOut done before after result) where
+  pub usage_of : (fault : UsageFault) → result ≡ Usage fault → done.outcome ≡ Usage fault
+  usage_of fault is = (subst (λ r. CarriesOut done before after r) is carried).ends.0
 
-  module _ (one : OneAnswer) (done : Answer) (carried : CarriesOut done before after result) where
-    pub every : (files : Option Files) → IfSome files (λ files. Answers words files moment done) → IsEvery files
-    every None answers = tt
-    every (Some files) answers = λ wanted meets. subst (λ (a : Answer). CarriesOut a before after result) (one words files moment done wanted answers meets) carried
-
-    pub usage_of : (fault : UsageFault) → result ≡ Usage fault → done.outcome ≡ Usage fault
-    usage_of fault is = (subst (λ r. CarriesOut done before after r) is carried).ends.0
-
-    pub stays_usage : (IsWhere : Type 0) (fault : UsageFault) → done.outcome ≡ Usage fault → (result ≡ done.outcome) ⊎ (result ≡ WriteFault) ⊎ ((result ≡ NoMemory) × IsWhere)
-        → (result ≡ Usage fault) ⊎ (result ≡ NoMemory)
-    stays_usage IsWhere fault is (inl ended) = inl (ended ∙ is)
-    stays_usage IsWhere fault is (inr (inl failed)) =
-        let ends : done.outcome ≡ Done = (subst (λ r. CarriesOut done before after r) failed carried).ends.0 in let e : Usage fault ≡ Done = sym is ∙ ends in cc
-    stays_usage IsWhere fault is (inr (inr refused)) = inr refused.0
+  pub stays_usage : (IsWhere : Type 0) (fault : UsageFault) → done.outcome ≡ Usage fault → (result ≡ done.outcome) ⊎ (result ≡ WriteFault) ⊎ ((result ≡ NoMemory) × IsWhere)
+      → (result ≡ Usage fault) ⊎ (result ≡ NoMemory)
+  stays_usage IsWhere fault is (inl ended) = inl (ended ∙ is)
+  stays_usage IsWhere fault is (inr (inl failed)) =
+      let ends : done.outcome ≡ Done = (subst (λ r. CarriesOut done before after r) failed carried).ends.0 in let e : Usage fault ≡ Done = sym is ∙ ends in cc
+  stays_usage IsWhere fault is (inr (inr refused)) = inr refused.0
 
 pub or_else : {A B C : Type 0} → A ⊎ B → (A → C) → (B → C) → C
 or_else (inl a) first second = first a

@@ -1,27 +1,29 @@
 -- A sample, from its steps.
-use Rattle.std.proofs.Common.{◌≡◌, ◌<◌, ◌^◌, ℕ, List, [], ◌∷◌, ◌++◌, Some, Ok, Err, inl, refl, ap, sym, subst, ◌∙◌, length}
-use Rattle.std.specs.Prelude.{codes, IfOk, IsErrAnd}
+use Rattle.std.proofs.Common.{◌≡◌, ℕ, List, [], ◌∷◌, ◌++◌, Option, Some, Ok, Err, inl, ap, sym, subst, ◌∙◌, length, arith}
+use Rattle.std.specs.Prelude.{codes, IsErrAnd}
 use Rattle.std.specs.FinMap as finite
 use Rattle.std.specs.declared.result.Result.{Result}
 use Rattle.rz_core.proofs.Stops.{then_halts, then_yields}
-use Rattle.rz_core.specs.Decimal.{decimal_of}
-use Rattle.rz_core.specs.Stop.{seen, Yields}
+use Rattle.rz_bridge_form.specs.declared.form.Form.{Form}
+use Rattle.rz_core.specs.Stop.{seen, IsReadFault, OnRefusal, Yields}
 use Rattle.rz_core.specs.declared.moment.Moment.{Moment}
 use Rattle.rz_core.specs.declared.stop.Halt.{Halt}
 use Rattle.rz_core.specs.declared.stop.Halt.TheVariants as halts
+use Rattle.rz_folder.specs.Counts.{Rose}
 use Rattle.rz_folder.specs.Folder.{Files}
 use Rattle.rz_folder.specs.Sink.{all_out, PutsOut, Stream}
 use Rattle.rz_folder.specs.declared.sink.Put.{Put}
 use Rattle.rz_folder.specs.declared.sink.Put.TheVariants.{Done}
-use Rattle.rz_tools_answer.specs.Answer.{shown, Answer, Making}
-use Rattle.rz_tools_answer.specs.Made.{making_of}
-use Rattle.rz_tools_answer.specs.Plan.{answer_of, EndsIn}
+use Rattle.rz_tools_answer.specs.Answer.{Making}
+use Rattle.rz_tools_answer.specs.Made.{making_of, IsSayable}
 use Rattle.rz_tools_answer.specs.declared.made.Failing.{Failing}
 use Rattle.rz_tools_answer.specs.declared.made.Made.{Made}
-use Rattle.rz_tools_answer.specs.declared.plan.Plan.{Plan}
+use Rattle.rz_tools.specs.Again.{OfFile}
 use Rattle.rz_tools.specs.DeRez.{DeRezAsked, Shows}
+use Rattle.rz_tools.specs.Held.{ShowsText}
 use Rattle.rz_tools.specs.Rez.{Compiles, RezAsked}
-use Rattle.rz_tools.specs.Sample.{in_memory, number_line, sample_lines, AnswersSample, CompilesAgain, CompilesSample, IsSampled, IsSampledBehind, IsSampledWith, ShowsSample}
+use Rattle.rz_tools.specs.declared.reply.ForkShown.{ForkShown}
+use Rattle.rz_tools.specs.Sample.{in_memory, number_line, sample_lines, CompilesAgain, CompilesSample, IsSampled, IsSampledBehind, IsSampledWith, ShowsSample}
 
 -- Files in memory, and names.
 
@@ -64,7 +66,7 @@ collected held after bytes text put empty are is told =
 -- The steps.
 
 -- a call that ends all
-ended : (answers : Result Making Failing → Type 0) (stop : Halt Failing) → Yields {X = Making} (Err stop) answers
+pub ended : (answers : Result Making Failing → Type 0) (stop : Halt Failing) → Yields {X = Making} (Err stop) answers
     → (result : Result Made (Halt Failing)) → IsErrAnd result (λ end. end ≡ stop) → Yields (seen making_of result) answers
 ended answers stop stopped (Ok made) is = absurd is
 ended answers stop stopped (Err end) is = subst (λ (one : Halt Failing). Yields {X = Making} (Err one) answers) (sym is) stopped
@@ -120,15 +122,37 @@ lines_written count counted fork text again none first second third all empty sa
     (two ∙ ap (λ l. l ++ number_line (codes "fork ") (length fork))
     (one ∙ ap (λ l. l ++ number_line (codes "resources ") counted) empty ∙ ap (λ (n : ℕ). number_line (codes "resources ") n) same)))
 
--- The answer.
+-- the end of a call, as that of another
+module _ (end : Halt Failing) where
+  pub ended_made : (answers : Result Making Failing → Type 0) (result : Result Made (Halt Failing)) → IsErrAnd result (λ e. e ≡ end) → Yields {X = Making} (Err end) answers
+      → Yields (seen making_of result) answers
+  ended_made answers result is stopped = ended answers end stopped result is
 
-pub sample_made : (count : ℕ) (moment : Moment) → count < 2 ^ 32 → (making : Making) → IsSampled count moment (Ok making) → (answer : Answer) → answer ≡ shown making
-    → AnswersSample (decimal_of count ∷ []) moment answer
-sample_made count moment few making sampled answer is = (count, (refl, few), (Ok making, sampled, is))
+  pub end_sayable : (result : Result Made (Halt Failing)) → IsErrAnd result (λ e. e ≡ end) → OnRefusal {X = ForkShown} (Err end) IsSayable → OnRefusal (seen making_of result) IsSayable
+  end_sayable (Ok made) is sayable = absurd is
+  end_sayable (Err other) is sayable = subst (λ (h : Halt Failing). OnRefusal {X = Making} (Err h) IsSayable) (sym is) (by end sayable)
+    where
+      by : (end : Halt Failing) → OnRefusal {X = ForkShown} (Err end) IsSayable → OnRefusal {X = Making} (Err end) IsSayable
+      by (halts.Refused failing) sayable = sayable
+      by halts.ReadFault sayable = tt
+      by halts.NoMemory sayable = tt
 
-pub sample_stopped : {E : Type 0} (count : ℕ) (moment : Moment) → count < 2 ^ 32 → (stop : Halt Failing) → Yields {X = Making} (Err stop) (IsSampled count moment)
-    → (result : Result Plan E) → IfOk result (λ plan. EndsIn stop (answer_of plan)) → IfOk result (λ plan. AnswersSample (decimal_of count ∷ []) moment (answer_of plan))
-sample_stopped count moment few stop sampled (Err unanswered) ends = tt
-sample_stopped count moment few (halts.Refused failing) sampled (Ok plan) ends = (count, (refl, few), (Err failing, sampled, ends))
-sample_stopped count moment few halts.ReadFault sampled (Ok plan) ends = absurd ends
-sample_stopped count moment few halts.NoMemory sampled (Ok plan) ends = absurd ends
+  pub end_unread : (result : Result Made (Halt Failing)) → IsErrAnd result (λ e. e ≡ end) → (IsReadFault {X = ForkShown} (Err end) → ⊥) → IsReadFault (seen making_of result) → ⊥
+  end_unread (Ok made) is unread failed = absurd is
+  end_unread (Err other) is unread failed = unread (by end (subst (λ (h : Halt Failing). IsReadFault {X = Making} (Err h)) is failed))
+    where
+      by : (end : Halt Failing) → IsReadFault {X = Making} (Err end) → IsReadFault {X = ForkShown} (Err end)
+      by (halts.Refused failing) failed = failed
+      by halts.ReadFault failed = failed
+      by halts.NoMemory failed = failed
+
+-- what a fork that isn't shown answers
+pub same_end : (form : Option Form) (name : List ℕ) (answers : Files → Result Making Failing → Type 0) (files : Files) (end : Halt Failing)
+    → Yields {X = ForkShown} (Err end) (OfFile form name (λ files. ShowsText (answers files)) files) → Yields {X = Making} (Err end) (answers files)
+same_end form name answers files (halts.Refused failing) told = told.0 [] tt
+same_end form name answers files halts.ReadFault told = tt
+same_end form name answers files halts.NoMemory told = tt
+
+-- a shelf meets no fault of a read
+pub never_fails : {P : Type 0} → (P → Rose 0 0) → P → ⊥
+never_fails cause failed = let rose = cause failed in omega (arith, rose)

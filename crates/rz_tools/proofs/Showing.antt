@@ -1,9 +1,13 @@
--- The fork of a file that was read, or not, and its text.
-use Rattle.std.proofs.Common.{◌≡◌, ℕ, List, [], Ok, Err, Some, None, refl, sym, ap, subst, ◌∙◌}
+-- The fork of a file, and its text.
+use Rattle.std.proofs.Common.{◌≡◌, ℕ, List, [], Option, Ok, Err, Some, None, inl, inr, refl, sym, ap, subst, ◌∙◌}
 use Rattle.std.specs.Prelude.{◌<◌, ◌^◌, length, IfOk, IfSome}
 use Rattle.std.specs.FinMap as map
-use Rattle.std.specs.declared.option.Option.{Option}
 use Rattle.std.specs.declared.result.Result.{Result}
+use Rattle.rz_bridge.specs.declared.file.MacFile.{MacFile}
+use Rattle.rz_bridge_files.specs.Contents.{admit_fork, file_in, fork_in, IsFile}
+use Rattle.rz_bridge_files.specs.Faults.{or_torn}
+use Rattle.rz_bridge_form.specs.declared.form.Form.{Form}
+use Rattle.rz_core.specs.Answers.{Then}
 use Rattle.rz_core.specs.Stop.{seen, ◌>>=◌, Gives, Meets, Yields}
 use Rattle.rz_core.specs.declared.fault.Fault.{Fault}
 use Rattle.rz_core.specs.declared.moment.Moment.{Moment}
@@ -12,59 +16,29 @@ use Rattle.rz_core.specs.declared.stop.Halt.{Halt}
 use Rattle.rz_core.specs.declared.stop.Halt.TheVariants as halts
 use Rattle.rz_core.specs.declared.stop.Stop.{Stop}
 use Rattle.rz_core.specs.declared.stop.Stop.TheVariants.{Refused, NoMemory}
-use Rattle.rz_folder.specs.Folder.{Files, Reads}
-use Rattle.rz_folder.specs.declared.folder.Read.TheVariants as reads
-use Rattle.rz_bridge.specs.declared.file.MacFile.{MacFile}
-use Rattle.rz_bridge_files.specs.Contents.{admit_fork, file_in, fork_in, IsFile}
-use Rattle.rz_bridge_files.specs.Faults.{or_torn}
-use Rattle.rz_bridge_form.specs.declared.form.Form.{Form}
+use Rattle.rz_folder.proofs.Finding.{failed_so, refuses_so}
+use Rattle.rz_folder.proofs.Reading.{reads_as}
+use Rattle.rz_folder.specs.Finds.{Finds}
+use Rattle.rz_folder.specs.Folder.{Files}
+use Rattle.rz_folder.specs.declared.folder.Folder.{Ghosts}
 use Rattle.rz_fork.specs.Admit.{admitted}
 use Rattle.rz_fork.specs.Contents.{Fork}
 use Rattle.rz_fork.specs.declared.fault.ForkFault.{ForkFault}
-use Rattle.rz_folder_paths.specs.Names.{missing_file}
-use Rattle.rz_tools.specs.Again.{HoldsFile}
+use Rattle.rz_tools.specs.Again.{HoldsFile, OfFile}
 use Rattle.rz_tools.specs.DeRez.{DeRezAsked, HasFileText, HasFork, HasForkText, HasText, IsFork, IsForkOf}
+use Rattle.rz_tools.specs.Held.{making_with, IsShown, ShowsText}
 use Rattle.rz_tools.specs.Sources.{Compiled, SaidBeside}
 use Rattle.rz_tools.specs.Types.{known_by}
-use Rattle.rz_tools.proofs.Sourced.{beside}
+use Rattle.rz_tools.specs.declared.reply.ForkShown.{ForkShown}
 use Rattle.rz_tools_answer.specs.Answer.{Making}
-use Rattle.rz_tools_answer.specs.Made.{making_of, SaysBeside}
+use Rattle.rz_tools_answer.specs.Made.{IsSayable, IsWarned}
 use Rattle.rz_tools_answer.specs.declared.made.Failing.{Failing}
-use Rattle.rz_tools_answer.specs.declared.made.Made.{Made}
 use Rattle.rz_tools_text.specs.Chosen.{chosen}
 use Rattle.rz_tools_text.specs.Held.{known_of}
 use Rattle.rz_tools_text.specs.Put.{IsTextOf}
 use Rattle.rz_tools_text.specs.Shown.{Known}
 use Rattle.rz_tools_text.specs.Text.{ShowsEach}
 use Rattle.rz_tools_text.specs.declared.text.ForkText.{ForkText}
-
--- The fork of the file of a name.
-
-module _ (compiled : Compiled) (from : Option Form) (name : List ℕ) (output : Result (List ℕ) (Stop Fault)) (result : Result Made (Halt Failing))
-    (says : SaysBeside compiled.files compiled.work.warnings output result) where
-  abbrev IsRead : Files → Type 0
-  IsRead files = Yields (seen making_of result) (SaidBeside compiled (HasFork from name (map.get files name)))
-
-  read_so : (files : Files) (entry : Option (List ℕ)) → map.get files name ≡ entry → Meets output (HasFork from name entry) → IsRead files
-  read_so files entry is meets =
-      beside compiled (HasFork from name (map.get files name)) output result
-      (subst (λ (e : Option (List ℕ)). Meets output (HasFork from name e)) (sym is) meets) says
-
-  pub bytes_read : (before : Option Files) (bytes : List ℕ) → Reads name before (reads.Bytes bytes) → Meets output (IsForkOf (fork_in None from bytes)) → IfSome before IsRead
-  bytes_read None bytes told meets = tt
-  bytes_read (Some files) bytes told meets = read_so files (Some bytes) told.1 meets
-
-  pub missing_read : (before : Option Files) → Reads name before reads.Missing → Meets output (λ answer. answer ≡ Err (missing_file None name)) → IfSome before IsRead
-  missing_read None told meets = tt
-  missing_read (Some files) told meets = read_so files None told.1 meets
-
--- the files and the warnings of what was compiled
-pub said_so : (compiled : Compiled) (files : List (List ℕ)) (warnings : List Fault) → compiled.files ≡ files → compiled.work.warnings ≡ warnings
-    → (output : Result (List ℕ) (Stop Fault)) (result : Result Made (Halt Failing)) → SaysBeside files warnings output result
-    → SaysBeside compiled.files compiled.work.warnings output result
-said_so compiled files warnings same_files same_warnings output result says =
-    subst (λ (fs : List (List ℕ)). SaysBeside fs compiled.work.warnings output result) (sym same_files)
-    (subst (λ (ws : List Fault). SaysBeside files ws output result) (sym same_warnings) says)
 
 -- Bytes that are a fork, or not.
 
@@ -142,26 +116,43 @@ module _ (moment : Moment) (asked : DeRezAsked) (compiled : Compiled) where
   said_refusal entry failing (Ok bytes, has, so) = cc so
   said_refusal entry failing (Err fault, has, so) = (Err fault, refused_text entry fault has, so)
 
-  -- the same where the files are told
-  module _ (name : List ℕ) (named : name ≡ asked.file) where
-    abbrev HasRead : Result Making (Halt Failing) → Files → Type 0
-    HasRead end files = Yields end (SaidBeside compiled (HasFork asked.from name (map.get files name)))
+-- What is shown of a file, or what stopped the command.
 
-    there : (end : Result Making (Halt Failing)) (files : Files) → HasRead end files → Yields end (SaidBeside compiled (Answers (map.get files asked.file)))
-    there end files read = subst (λ (n : List ℕ). Yields end (SaidBeside compiled (HasFork asked.from n (map.get files n)))) named read
+module _ (moment : Moment) (asked : DeRezAsked) (compiled : Compiled) where
+  abbrev IsRead : Files → Result Making Failing → Type 0
+  IsRead = OfFile asked.from asked.file (λ files. SaidBeside compiled (HasFork asked.from asked.file (map.get files asked.file)))
 
-    pub text_told : (t : ForkText) → known_of t.known ≡ known_by moment compiled → t.only ≡ asked.only → t.skip ≡ asked.skip → (text : List ℕ) → IsTextOf t text → (said : List ℕ)
-        → (before : Option Files) → IfSome before (HasRead (Ok (record { bytes = t.fork; said = said })))
-        → IfSome before (λ files. HasText moment asked files compiled (Ok (record { bytes = text; said = said })))
-    text_told t known only skip text is said None read = tt
-    text_told t known only skip text is said (Some files) read =
-        said_text t known only skip text is (map.get files asked.file) said (there (Ok (record { bytes = t.fork; said = said })) files read)
+  abbrev IsShownOf : Files → Result ForkShown Failing → Type 0
+  IsShownOf = OfFile asked.from asked.file (λ files. ShowsText (HasText moment asked files compiled))
 
-    pub text_stopped : (stop : Halt Failing) (before : Option Files) → IfSome before (HasRead (Err stop)) → IfSome before (λ files. Yields {X = Making} (Err stop) (HasText moment asked files compiled))
-    text_stopped stop None read = tt
-    text_stopped (halts.Refused failing) (Some files) read = said_refusal (map.get files asked.file) failing (there (Err (halts.Refused failing)) files read)
-    text_stopped halts.ReadFault (Some files) read = tt
-    text_stopped halts.NoMemory (Some files) read = tt
+  module _ {F : Type 0} (g : Ghosts F) {old new : F} where
+    pub shows_fork : (fork : ForkShown) → known_of fork.text.known ≡ known_by moment compiled → fork.text.only ≡ asked.only → fork.text.skip ≡ asked.skip
+        → Finds g old new (Ok (record { bytes = fork.text.fork; said = fork.said })) IsRead (λ making. IsFork making.bytes × IsWarned making) IsSayable → Finds g old new (Ok fork) IsShownOf IsShown IsSayable
+    shows_fork fork known only skip finds = record { answered = by (g.files old) finds.answered; good = finds.good; bad = tt; reads = reads_as g old new (λ never. absurd never) finds.reads }
+      where
+        by : (before : Option Files) → IfSome before (λ files. IsRead files (Ok (record { bytes = fork.text.fork; said = fork.said }))) → IfSome before (λ files. IsShownOf files (Ok fork))
+        by None read = tt
+        by (Some files) read = ((λ text is. said_text moment asked compiled fork.text known only skip text is (map.get files asked.file) fork.said read.0), read.1)
+
+    pub shows_none : (halt : Halt Failing) → Finds g old new (Err halt) IsRead (λ making. IsFork making.bytes × IsWarned making) IsSayable → Finds g old new (Err halt) IsShownOf IsShown IsSayable
+    shows_none halt finds = record {
+      answered = by (g.files old) halt finds.answered;
+      good = tt;
+      bad = refuses_so Making ForkShown halt IsSayable finds.bad;
+      reads = reads_as g old new (failed_so ForkShown Making halt) finds.reads;
+    }
+      where
+        by : (before : Option Files) (halt : Halt Failing) → IfSome before (λ files. Yields {X = Making} (Err halt) (IsRead files)) → IfSome before (λ files. Yields {X = ForkShown} (Err halt) (IsShownOf files))
+        by None halt read = tt
+        by (Some files) (halts.Refused failing) read = ((λ text is. said_refusal moment asked compiled (map.get files asked.file) failing read.0), tt)
+        by (Some files) halts.ReadFault read = tt
+        by (Some files) halts.NoMemory read = tt
+
+-- after the types
+pub shows_then : (first : Result Compiled Failing → Type 0) (next : Compiled → Result Making Failing → Type 0) (answer : Result ForkShown Failing)
+    → Then first (λ compiled. ShowsText (next compiled)) answer → ShowsText (Then first next) answer
+shows_then first next answer (inl (compiled, made, shows)) = λ text is. inl (compiled, made, shows text is)
+shows_then first next answer (inr (failing, made, same)) = λ text is. inr (failing, made, ap (seen (making_with text)) same)
 
 -- A fork's file that is shown is as short as one.
 
@@ -174,41 +165,3 @@ holds_file form bytes data_file empty file is short other too =
     let same : ◌≡◌ {A = Result MacFile Fault} (Ok file) (Ok other) = sym is ∙ ap (λ (d : List ℕ). file_in None form bytes d) empty ∙ too in
     let e : file ≡ other = cc in
     subst (λ (f : MacFile). IsFile f.res_fork) e short
-
--- no bytes of a file that isn't there
-pub no_fork : (P : List ℕ → Type 0) (fault : Fault) (output : Result (List ℕ) (Stop Fault)) → Meets output (λ answer. answer ≡ Err fault) → IfOk output P
-no_fork P fault (Ok bytes) is = cc is
-no_fork P fault (Err stop) is = tt
-
--- what holds of the bytes that were to be given holds of those that are
-pub output_is : {E : Type 0} (result : Result Made (Halt Failing)) (P : List ℕ → Type 0) (output : Result (List ℕ) E) → IfOk result (λ made. output ≡ Ok made.bytes) → IfOk output P → IfOk result (λ made. P made.bytes)
-output_is (Ok made) P output is holds = subst (λ (o : Result (List ℕ) _). IfOk o P) is holds
-output_is (Err stop) P output is holds = tt
-
-module _ {X E : Type 0} (result : Result X E) (form : Option Form) (name : List ℕ) where
-  abbrev pub IsHeld : Option (List ℕ) → Type 0
-  IsHeld entry = IfSome entry (λ bytes. IfOk result (λ _. HoldsFile form bytes))
-
-  pub bytes_held : (before : Option Files) (bytes : List ℕ) → Reads name before (reads.Bytes bytes) → IfOk result (λ _. HoldsFile form bytes)
-      → IfSome before (λ files. IsHeld (map.get files name))
-  bytes_held None bytes told holds = tt
-  bytes_held (Some files) bytes told holds = subst IsHeld (sym told.1) holds
-
-  pub none_held : (before : Option Files) → Reads name before reads.Missing → IfSome before (λ files. IsHeld (map.get files name))
-  none_held None told = tt
-  none_held (Some files) told = subst IsHeld (sym told.1) tt
-
--- where bytes were given, a file was held
-pub made_held : (result : Result Made (Halt Failing)) (output : Result (List ℕ) (Halt Fault)) (form : Option Form) (name : List ℕ) → IfOk result (λ made. output ≡ Ok made.bytes)
-    → (before : Option Files) → IfSome before (λ files. IsHeld output form name (map.get files name)) → IfSome before (λ files. IsHeld result form name (map.get files name))
-made_held result output form name is None held = tt
-made_held result output form name is (Some files) held = by (map.get files name) held
-  where
-    by : (entry : Option (List ℕ)) → IsHeld output form name entry → IsHeld result form name entry
-    by None held = tt
-    by (Some bytes) held = output_is result (λ _. HoldsFile form bytes) output is held
-
--- the same of the name that was asked for
-pub held_there : (form : Option Form) (name file : List ℕ) → name ≡ file → (before : Option Files) → IfSome before (λ files. IfSome (map.get files name) (HoldsFile form))
-    → IfSome before (λ files. IfSome (map.get files file) (HoldsFile form))
-held_there form name file named before held = subst (λ (n : List ℕ). IfSome before (λ files. IfSome (map.get files n) (HoldsFile form))) named held

@@ -29,6 +29,7 @@ use Rattle.rz_tools_values.specs.Around.{Around}
 use Rattle.rz_pre_laws.specs.Definitions.{AreFree}
 use Rattle.rz_pre.specs.declared.program.Def.{Def}
 use Rattle.rz_tools.specs.Program.{command, misplaced, Answers, AnswersTo}
+use Rattle.rz_tools.specs.Shown.{AnswersWords, ShowsFile}
 use Rattle.rz_tools_answer.specs.Carried.{CarriesOut}
 use Rattle.rz_tools_text.specs.Shown.{Known}
 use Rattle.rz_tools_answer.specs.World.{World}
@@ -112,25 +113,27 @@ at_some P o x is holds = subst (λ (o : Option (List ℕ)). IfSome o P) is holds
 -- a run that is done
 module _ (commands : OneCommand) (law : ForksAreReadAgain) (spared : WordsAreSpared) (words : List (List ℕ)) (moment : Moment) (before after : World) (done : Answer) where
   pub shows_again : (result : Outcome) → result ≡ Done → CarriesOut done before after result → (asked : DeRezAsked) → IsDeRez words asked → AreFree asked.types.defs
-      → IfSome before.files (λ files. Answers words files moment done)
-      → IfSome before.files (λ files. IfSome (finite.get files asked.file) (λ bytes. done.outcome ≡ Done → HoldsFile asked.from bytes))
-      → IfSome before.files (λ files. ShowsAgain moment asked files before.out after.out)
-  shows_again result is carried asked as_asked free answers held =
+      → IfSome before.files (λ files. AnswersWords words moment files done) → IfSome before.files (λ files. ShowsAgain moment asked files before.out after.out)
+  shows_again result is carried asked as_asked free answers =
       let ends = (subst (λ r. CarriesOut done before after r) is carried).ends in
-      by before.files ends.0 ends.1.out answers held
+      by before.files ends.0 ends.1.out answers
     where
-      by : (b : Option Files) → done.outcome ≡ Done → Told (IsOut done.out) before.out after.out → IfSome b (λ files. Answers words files moment done)
-          → IfSome b (λ files. IfSome (finite.get files asked.file) (λ bytes. done.outcome ≡ Done → HoldsFile asked.from bytes)) → IfSome b (λ files. ShowsAgain moment asked files before.out after.out)
-      by None ended written answers held = tt
-      by (Some files) ended written answers held = λ bytes there fork admits short.
+      held : (files : Files) → AnswersWords words moment files done → ShowsFile asked.file asked.from files done
+      held files so =
+          subst (λ (a : DeRezAsked). ShowsFile a.file a.from files done) (sym as_asked.2) (so.1 (record { name = names.DeRez; items = as_asked.0 }) as_asked.1)
+
+      by : (b : Option Files) → done.outcome ≡ Done → Told (IsOut done.out) before.out after.out → IfSome b (λ files. AnswersWords words moment files done)
+          → IfSome b (λ files. ShowsAgain moment asked files before.out after.out)
+      by None ended written answers = tt
+      by (Some files) ended written answers = λ bytes there fork admits short.
           let parts = fork_parts asked.from bytes fork admits in
-          let shows = text_of_answer moment asked files bytes fork done (derez_answered commands words asked as_asked files moment done answers) ended there admits in (
+          let shows = text_of_answer moment asked files bytes fork done (derez_answered commands words asked as_asked files moment done answers.0) ended there admits in (
             shows.0,
             done.out,
             shows.1,
             written,
             law parts.0.res_fork
-                (at_some (λ bytes. done.outcome ≡ Done → HoldsFile asked.from bytes) (finite.get files asked.file) bytes there held ended parts.0 parts.1)
+                (at_some (HoldsFile asked.from) (finite.get files asked.file) bytes there (held files answers ended) parts.0 parts.1)
                 fork parts.2 asked.only asked.skip short (known_by moment shows.0)
                 (let typed = types_behind moment asked.types files shows.0 shows.1 in
                 spared (types_around moment asked.types files) (begun typed.types []) asked.types.files asked.types.paths asked.types.defs shows.0 free typed.compiled) done.out shows.2,

@@ -1,5 +1,5 @@
 -- The text that DeRez writes, read by Rez.
-use Rattle.std.specs.Prelude.{◌≡◌, ◌≤◌, ℕ, Bool, false, is_some, List, [], ◌∷◌, ◌++◌, length, Option, Some, None, Ok}
+use Rattle.std.specs.Prelude.{◌≡◌, ◌≤◌, ℕ, Bool, false, is_some, List, [], ◌∷◌, ◌++◌, length, Option, Some, None, Ok, IfOk, IfSome}
 use Rattle.std.specs.FinMap as finite
 use Rattle.std.specs.List.{AllByRecursion}
 use Rattle.std.specs.declared.result.Result.{Result}
@@ -77,6 +77,10 @@ CompilesAlone text list =
 -- what bytes of a form hold has a fork of as few bytes as a file has
 abbrev pub HoldsFile : Option Form → List ℕ → Type 0
 HoldsFile form bytes = (file : MacFile) → file_in None form bytes [] ≡ Ok file → IsFile file.res_fork
+
+-- the answer of a call that gives a value only of such a file
+abbrev pub OfFile : {X E : Type 0} → Option Form → List ℕ → (Files → Result X E → Type 0) → Files → Result X E → Type 0
+OfFile form name answers files answer = answers files answer × IfOk answer (λ value. IfSome (finite.get files name) (HoldsFile form))
 
 -- where the fork's file holds such a fork, the type files mean something, and a text is out that under it means again the
 -- resources that are shown

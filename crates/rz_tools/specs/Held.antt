@@ -1,16 +1,20 @@
 -- What the code holds of what words ask for, and of what sources mean.
-use Rattle.std.specs.Prelude.{◌≡◌, ℕ, List, option_map, Ok, Err}
+use Rattle.std.specs.Prelude.{ℕ, List, length, option_map, IfOk}
 use Rattle.std.specs.String.{string_bytes}
 use Rattle.std.specs.declared.result.Result.{Result}
-use Rattle.rz_core.specs.declared.fault.Fault.{Fault}
+use Rattle.rz_core.specs.Stop.{seen}
 use Rattle.rz_core.specs.declared.stop.Halt.{Halt}
 use Rattle.rz_core.specs.declared.stop.Halt.TheVariants as halts
-use Rattle.rz_core.specs.declared.stop.Stop.TheVariants.{Refused}
+use Rattle.rz_lex.specs.Lexeme.{AreLexed}
+use Rattle.rz_lex.specs.Within.{AreWithin}
+use Rattle.rz_pre.specs.Program.{State}
+use Rattle.rz_pre.specs.Reading.{IsProgram}
+use Rattle.rz_pre.specs.declared.program.Failure.{Failure}
+use Rattle.rz_pre.specs.declared.program.Program.{Program}
 use Rattle.rz_tools_answer.specs.Answer.{Making}
-use Rattle.rz_tools_answer.specs.Made.{SaysBeside}
+use Rattle.rz_tools_answer.specs.Warning.{AreWarnings, IsWarningText}
 use Rattle.rz_tools_answer.specs.declared.made.Failing.{Failing}
-use Rattle.rz_tools_answer.specs.declared.made.Made.{Made}
-use Rattle.rz_tools.specs.DeRez.{DeRezAsked}
+use Rattle.rz_tools.specs.DeRez.{DeRezAsked, IsFork}
 use Rattle.rz_tools.specs.Restring.{RestringAsked}
 use Rattle.rz_tools.specs.Rez.{RezAsked}
 use Rattle.rz_tools.specs.Sources as sources
@@ -26,6 +30,7 @@ use Rattle.rz_tools.specs.declared.strings.StringsWords.{StringsWords}
 use Rattle.rz_tools.specs.declared.types.TypesWords.{TypesWords}
 use Rattle.rz_tools_output.specs.Output.{target}
 use Rattle.rz_tools_text.specs.Held.{macros_held}
+use Rattle.rz_tools_text.specs.Put.{IsTextOf}
 use Rattle.rz_tools_work.specs.Held.{work_of}
 
 abbrev pub rez : RezWords → RezAsked
@@ -69,19 +74,33 @@ restring words = record {
 abbrev pub compiled_of : Compiled → sources.Compiled
 compiled_of compiled = record { work = work_of compiled.work; is_macro = macros_held compiled.macros; files = compiled.files }
 
--- what stopped a command before its first statement, where these files were opened
-abbrev pub halt_unsaid : List (List ℕ) → Halt Fault → Halt Failing
-halt_unsaid files (halts.Refused fault) = halts.Refused (unsaid files fault)
-halt_unsaid files halts.ReadFault = halts.ReadFault
-halt_unsaid files halts.NoMemory = halts.NoMemory
+-- what stopped a command while its sources were read
+abbrev pub not_read : Halt Failure → Halt Failing
+not_read (halts.Refused failure) = halts.Refused (unsaid failure.files failure.fault)
+not_read halts.ReadFault = halts.ReadFault
+not_read halts.NoMemory = halts.NoMemory
 
--- what is made, with the lines of warnings, of the answer of a call that reads files
-abbrev pub SaysHalted : List (List ℕ) → List Fault → Result (List ℕ) (Halt Fault) → Result Made (Halt Failing) → Type 0
-SaysHalted files warnings (Ok bytes) made = SaysBeside files warnings (Ok bytes) made
-SaysHalted files warnings (Err (halts.Refused fault)) made = SaysBeside files warnings (Err (Refused fault)) made
-SaysHalted files warnings (Err halts.ReadFault) made = made ≡ Err halts.ReadFault
-SaysHalted files warnings (Err halts.NoMemory) made = made ≡ Err halts.NoMemory
+-- the statements of a program can be read: its tokens are of its files, and are as a source has them
+pub record CanCompile (program : Program) : Type 0 where
+  pub within : AreWithin (length program.files) program.tokens
+  pub lexed : AreLexed program.tokens
+
+-- what is answered of the program that was read
+abbrev pub OfState : {X E : Type 0} → Program → (State → Result X E → Type 0) → Result X E → Type 0
+OfState program answers answer = (s : State) → IsProgram program s → answers s answer
+
+-- the marks of the warnings are of the files that were opened
+abbrev pub HasWarnings : sources.Compiled → Type 0
+HasWarnings compiled = AreWarnings (length compiled.files) compiled.work.warnings
 
 -- what is made of a fork that is shown by this text
 abbrev pub making_with : List ℕ → ForkShown → Making
 making_with text fork = record { bytes = text; said = fork.said }
+
+-- by each text of the fork that is shown, or by the refusal, this is answered
+abbrev pub ShowsText : (Result Making Failing → Type 0) → Result ForkShown Failing → Type 0
+ShowsText answers answer = (text : List ℕ) → IfOk answer (λ fork. IsTextOf fork.text text) → answers (seen (making_with text) answer)
+
+-- the bytes are a fork, and what is said beside its text is lines of warnings
+abbrev pub IsShown : ForkShown → Type 0
+IsShown fork = IsFork fork.text.fork × IsWarningText fork.said

@@ -13,3 +13,5 @@ pub mod Sample
 pub mod Again
 pub mod Program
 pub mod Asked
+pub mod Shown
+pub mod Headline

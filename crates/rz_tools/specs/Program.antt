@@ -42,3 +42,14 @@ pub data Answers (words : List (List ℕ)) (files : Files) (moment : Moment) (an
 pub record IsOnlyAnswer (words : List (List ℕ)) (files : Files) (moment : Moment) (answer : Answer) : Type 0 where
   pub answers : Answers words files moment answer
   pub only : (other : Answer) → Answers words files moment other → other ≡ answer
+
+-- the answer to this command doesn't depend on files
+abbrev pub IsFileless : CommandName → Type 0
+IsFileless names.Sample = Unit {0}
+IsFileless names.Help = Unit {0}
+IsFileless names.Version = Unit {0}
+IsFileless name = ⊥
+
+-- the words are such a command, or none: so their answer is the same whatever the files hold
+abbrev pub NeedNoFile : List (List ℕ) → Type 0
+NeedNoFile words = (asked : Asked) → IsCommand words asked → IsFileless asked.name

@@ -1,15 +1,19 @@
 -- What is to be carried out, and the answers that it stands for.
-use Rattle.std.specs.Prelude.{◌≡◌, List, [], ℕ}
+use Rattle.std.specs.Prelude.{◌≡◌, List, [], ℕ, IfOk, IfSome}
+use Rattle.std.specs.declared.result.Result.{Result}
+use Rattle.rz_core.specs.Stop.{IsReadFault}
+use Rattle.rz_core.specs.declared.stop.Halt.{Halt}
+use Rattle.rz_folder.specs.Folder.{Files}
+use Rattle.rz_folder.specs.OnlyReads.{OnlyReads}
+use Rattle.rz_folder.specs.declared.folder.Folder.{Ghosts}
 use Rattle.rz_list.specs.Held.{text_of, IsWhole}
 use Rattle.rz_tools_answer.specs.Answer.{shown, Answer}
 use Rattle.rz_tools_answer.specs.Plan.{answer_of}
-use Rattle.rz_tools_answer.specs.Warning.{IsWarningText}
 use Rattle.rz_tools_answer.specs.WellFormed.{AreWritable, IsWellFormed}
 use Rattle.rz_tools_answer.specs.declared.outcome.Outcome.{Outcome}
-use Rattle.rz_tools_answer.specs.declared.outcome.Outcome.TheVariants.{Done}
+use Rattle.rz_tools_answer.specs.declared.outcome.Outcome.TheVariants.{Done, Usage}
 use Rattle.rz_tools_text.specs.Put.{IsTextOf}
-use Rattle.rz_tools.specs.DeRez.{IsFork}
-use Rattle.rz_tools.specs.Held.{making_with}
+use Rattle.rz_tools.specs.Held.{making_with, IsShown}
 use Rattle.rz_tools.specs.declared.reply.Reply.{Reply}
 use Rattle.rz_tools.specs.declared.reply.Reply.TheVariants as replies
 
@@ -38,5 +42,17 @@ IsText (replies.List text) = ⊥
 -- it can be carried out
 abbrev pub IsSound : Reply → Type 0
 IsSound (replies.Plan plan) = IsWellFormed (answer_of plan) × AreWritable (answer_of plan).writes
-IsSound (replies.Text fork) = IsFork fork.text.fork × IsWarningText fork.said
+IsSound (replies.Text fork) = IsShown fork
 IsSound (replies.List text) = IsWhole text
+
+-- The reply of a call that only read: where the folder tells its files, each answer that it stands for is one of these. It can be
+-- carried out, and it is Usage only with the position of a misplaced word.
+pub record Replies {F E : Type 0} (g : Ghosts F) (old new : F) (result : Result Reply (Halt E)) (answers : Files → Answer → Type 0) (Misplaced : ℕ → Type 0) : Type 0 where
+  pub answered : IfSome (g.files old) (λ files. IfOk result (λ reply. EachAnswer reply (answers files)))
+  pub sound : IfOk result IsSound
+  pub usage : IfOk result (λ reply. (position : ℕ) → outcome_of reply ≡ Usage (record { position = position }) → Misplaced position)
+  pub reads : OnlyReads g old new (IsReadFault result)
+
+-- that of a command, which is never Usage
+abbrev pub IsReplyOf : {F E : Type 0} → Ghosts F → F → F → Result Reply (Halt E) → (Files → Answer → Type 0) → Type 0
+IsReplyOf g old new result answers = Replies g old new result answers (λ position. ⊥)

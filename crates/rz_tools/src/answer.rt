@@ -1,32 +1,27 @@
 //! The answer to arguments, with nothing of it carried out. A new command is an arm here and a case of `specs/Program`.
 
-ghost use Rattle.std.specs.Prelude.{◌≡◌, ◌⊎◌, ℕ, map, IfOk, IfSome, IsOkAnd, Err};
+ghost use Rattle.std.specs.Prelude.{◌≡◌, ◌⊎◌, ℕ, map, IfOk, IsOkAnd, Err};
 ghost use Rattle.std.specs.String.{string_bytes};
-ghost use Rattle.std.specs.FinMap as finite;
-ghost use Rattle.rz_core.specs.declared.stop.Halt.TheVariants.{NoMemory as no_memory, ReadFault};
+ghost use Rattle.rz_core.specs.declared.stop.Halt.TheVariants.{NoMemory as no_memory};
+ghost use Rattle.rz_folder.specs.Folder.{Files};
 ghost use Rattle.rz_folder.specs.MayRead.{MayReadOf};
-ghost use Rattle.rz_tools.specs.Asked.{CommandAsks, WordsAsk};
-ghost use Rattle.rz_folder.specs.OnlyReads.{OnlyReads};
 ghost use Rattle.rz_pre.specs.Lexed.{HaveLexedTexts};
-ghost use Rattle.rz_tools.specs.Again.{HoldsFile};
-ghost use Rattle.rz_tools.specs.DeRez.{derez_asked, DeRezAsked, IsDeRez};
-ghost use Rattle.rz_tools.specs.Program.{Answers, AnswersTo};
-ghost use Rattle.rz_tools.specs.Reply.{outcome_of, EachAnswer, IsSound};
-ghost use Rattle.rz_tools.specs.Strings.{strings_asked, IsStrings, StringsAsked};
-ghost use Rattle.rz_tools_answer.specs.Plan.{IsNoUsage};
+ghost use Rattle.rz_tools.specs.Asked.{CommandAsks, WordsAsk};
+ghost use Rattle.rz_tools.specs.Program.{Answers, AnswersTo, IsFileless, NeedNoFile};
+ghost use Rattle.rz_tools.specs.Reply.{outcome_of, EachAnswer, IsReplyOf, Replies};
+ghost use Rattle.rz_tools.specs.Shown.{AnswersCommand, AnswersWords};
 ghost use Rattle.rz_tools_args.specs.Command.{places_of, ArePlaces, IsMisplaced};
 ghost use Rattle.rz_tools_args.specs.Held.{asked, items_of};
 ghost use Rattle.rz_tools_args.specs.Items.{defs_of};
 ghost use Rattle.rz_tools_args.specs.Syntax.{syntax_of};
-ghost use Rattle.rz_tools_args.specs.declared.name.CommandName.TheVariants.{DeRez, Strings};
 
 use crate::derez::{DeRezWords, answer_derez};
 use crate::list::answer_list;
 use crate::reply::{Reply, planned};
-use crate::restring::{RestringWords, plan_restring};
-use crate::rez::{RezWords, plan_rez};
-use crate::sample::plan_sample;
-use crate::strings::{StringsWords, plan_strings};
+use crate::restring::{RestringWords, restring_fork};
+use crate::rez::{RezWords, compile};
+use crate::sample::sampled;
+use crate::strings::{StringsWords, list_strings};
 use rz_core::{Halt, Moment, Stop};
 use rz_folder::Folder;
 use rz_tools_answer::{Outcome, Plan, help_text, version_text};
@@ -44,16 +39,10 @@ pub fn answer<F: Folder>(
     moment: Moment,
 ) -> Result<Reply, Halt<Infallible>>
     requires { MayReadOf F.Folder folder.old (WordsAsk (map string_bytes words.now)) }
-    ensures answered { IfSome (F.files folder.old) (λ files. IfOk result (λ reply. EachAnswer reply (Answers (map string_bytes words.now) files moment))) }
-    ensures sound { IfOk result IsSound }
-    ensures usage { IfOk result (λ reply. (position : ℕ) → outcome_of reply ≡ Outcome.Usage (record { position = position }) → IsMisplaced (map string_bytes words.now) position) }
+    ensures replies { Replies F.Folder folder.old folder.new result (AnswersWords (map string_bytes words.now) moment) (IsMisplaced (map string_bytes words.now)) }
+    ensures fileless { NeedNoFile (map string_bytes words.now) → (files : Files) → IfOk result (λ reply. EachAnswer reply (Answers (map string_bytes words.now) files moment)) }
     ensures every_usage { (position : ℕ) → IsMisplaced (map string_bytes words.now) position
         → (result ≡ Err no_memory) ⊎ IsOkAnd result (λ reply. outcome_of reply ≡ Outcome.Usage (record { position = position })) }
-    ensures held { (asked : DeRezAsked) → IsDeRez (map string_bytes words.now) asked
-        → IfSome (F.files folder.old) (λ files. IfSome (finite.get files asked.file) (λ bytes. IfOk result (λ reply. outcome_of reply ≡ Outcome.Done → HoldsFile asked.from bytes))) }
-    ensures listed { (asked : StringsAsked) → IsStrings (map string_bytes words.now) asked
-        → IfSome (F.files folder.old) (λ files. IfSome (finite.get files asked.file) (λ bytes. IfOk result (λ reply. outcome_of reply ≡ Outcome.Done → HoldsFile asked.from bytes))) }
-    ensures reads { OnlyReads F.Folder folder.old folder.new (result ≡ Err ReadFault) }
 {
     one_command();
     definitions_are_lexed();
@@ -74,19 +63,14 @@ fn answer_command<F: Folder>(
     requires lexed { HaveLexedTexts (defs_of (items_of command)) }
     requires places { ArePlaces (syntax_of command.name).places (places_of (items_of command)) }
     requires may { MayReadOf F.Folder folder.old (CommandAsks command.name (items_of command)) }
-    ensures answered { IfSome (F.files folder.old) (λ files. IfOk result (λ reply. EachAnswer reply (AnswersTo (asked command.entry) files moment))) }
-    ensures sound { IfOk result IsSound }
-    ensures no_usage { IfOk result (λ reply. IsNoUsage (outcome_of reply)) }
-    ensures held { command.entry.name ≡ DeRez → IfSome (F.files folder.old) (λ files. IfSome (finite.get files (derez_asked (items_of command.entry)).file) (λ bytes.
-        IfOk result (λ reply. outcome_of reply ≡ Outcome.Done → HoldsFile (derez_asked (items_of command.entry)).from bytes))) }
-    ensures listed { command.entry.name ≡ Strings → IfSome (F.files folder.old) (λ files. IfSome (finite.get files (strings_asked (items_of command.entry)).file) (λ bytes.
-        IfOk result (λ reply. outcome_of reply ≡ Outcome.Done → HoldsFile (strings_asked (items_of command.entry)).from bytes))) }
-    ensures reads { OnlyReads F.Folder folder.old folder.new (result ≡ Err ReadFault) }
+    ensures replies { IsReplyOf F.Folder folder.old folder.new result (AnswersCommand (asked command.entry) moment) }
+    ensures fileless { IsFileless command.entry.name → (files : Files) → IfOk result (λ reply. EachAnswer reply (AnswersTo (asked command.entry) files moment)) }
 {
     match command.name {
         CommandName::Rez => {
             let words = RezWords::of(alloc, command)?;
-            let plan = plan_rez(alloc, folder, &words, moment);
+            let made = compile(alloc, folder, &words, moment);
+            let plan = Plan::to_write(alloc, words.target.name, made);
             drop(words);
             planned(plan)
         }
@@ -120,20 +104,22 @@ fn answer_command<F: Folder>(
         }
         CommandName::Strings => {
             let words = StringsWords::of(alloc, command)?;
-            let plan = plan_strings(alloc, folder, &words, moment);
+            let made = list_strings(alloc, folder, &words, moment);
             drop(words);
-            planned(plan)
+            planned(Plan::to_show(alloc, made))
         }
         CommandName::Restring => {
             let words = RestringWords::of(alloc, command)?;
-            let plan = plan_restring(alloc, folder, &words, moment);
+            let made = restring_fork(alloc, folder, &words, moment);
+            let plan = Plan::to_write(alloc, words.output, made);
             drop(words);
             planned(plan)
         }
         CommandName::Sample => {
             let count = command.number();
             drop(command);
-            planned(plan_sample(alloc, count, moment))
+            let made = sampled(alloc, count, moment);
+            planned(Plan::to_show(alloc, made))
         }
         CommandName::Help => {
             drop(command);

@@ -12,7 +12,6 @@
 #![tactic(auto)]
 
 mod answer;
-mod beside;
 mod derez;
 mod laws;
 mod list;

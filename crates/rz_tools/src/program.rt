@@ -1,20 +1,11 @@
 //! The top call: an answer is made, and then carried out. What a run promises is the contract of `run`.
 
-ghost use Rattle.std.specs.Prelude.{◌≡◌, ◌⊎◌, ℕ, map, IfSome};
+ghost use Rattle.std.specs.Prelude.{map};
 ghost use Rattle.std.specs.String.{string_bytes};
-ghost use Rattle.rz_tools.specs.Again.{ShowsAgain};
-ghost use Rattle.rz_tools.specs.Catalogues.{LeavesOthers, ListsBack};
-ghost use Rattle.rz_tools.specs.Restring.{IsRestring, RestringAsked};
-ghost use Rattle.rz_tools.specs.Strings.{IsStrings, StringsAsked};
-ghost use Rattle.rz_tools_answer.specs.Answer.{Answer};
-ghost use Rattle.rz_tools.specs.Program.{Answers, IsOnlyAnswer};
-ghost use Rattle.rz_tools_answer.specs.Carried.{CarriesOut, EndsWith, IsAnswered, IsUnhindered};
-ghost use Rattle.rz_tools_answer.specs.World.{ReadFailed, Runs, WriteFailed};
-ghost use Rattle.rz_tools_answer.specs.WellFormed.{IsWellFormed};
-ghost use Rattle.rz_tools.specs.DeRez.{DeRezAsked, IsDeRez};
 ghost use Rattle.rz_folder.specs.MayRead.{MayReadOf};
 ghost use Rattle.rz_tools.specs.Asked.{WordsAsk};
-ghost use Rattle.rz_tools_args.specs.Command.{IsMisplaced};
+ghost use Rattle.rz_tools.specs.Headline.{Headline};
+ghost use Rattle.rz_tools_answer.specs.World.{Runs};
 
 use crate::answer::answer;
 use crate::laws::{
@@ -56,42 +47,8 @@ pub fn run<F: Folder, O: Sink, E: Sink>(
     moment: Moment,
 ) -> Outcome
     requires { MayReadOf F.Folder folder.old (WordsAsk (map string_bytes words.now)) }
-    // Whatever the folder tells, an answer is carried out; where it tells its files, this is the answer to the words.
-    ensures carried { Runs F.Folder O.Sink E.Sink folder.old folder.new out.old out.new err.old err.new
-        (λ before after. (done : Answer) × IsWellFormed done × CarriesOut done before after result
-        × (IsAnswered result → IfSome before.files (λ files. Answers (map string_bytes words.now) files moment done))) }
-    ensures every { Runs F.Folder O.Sink E.Sink folder.old folder.new out.old out.new err.old err.new
-        (λ before after. IfSome before.files (λ files. (wanted : Answer) → Answers (map string_bytes words.now) files moment wanted
-        → CarriesOut wanted before after result)) }
-
-    // Where the folder tells its files, the words have exactly one answer, and a run that meets neither want of memory nor a
-    // failed read or write ends with it.
-    ensures complete { Runs F.Folder O.Sink E.Sink folder.old folder.new out.old out.new err.old err.new
-        (λ before after. IfSome before.files (λ files. (answer : Answer) × IsOnlyAnswer (map string_bytes words.now) files moment answer
-        × (IsUnhindered result → EndsWith answer before after result))) }
-
-    // The same by the counts of faults: where none of them rose, the run ends with its answer, or for want of memory.
-    ensures whole { Runs F.Folder O.Sink E.Sink folder.old folder.new out.old out.new err.old err.new
-        (λ before after. IfSome before.files (λ files. (answer : Answer) × IsOnlyAnswer (map string_bytes words.now) files moment answer
-        × ((ReadFailed before after → ⊥) → (WriteFailed before after → ⊥)
-        → (result ≡ Outcome.NoMemory) ⊎ EndsWith answer before after result))) }
-
-    // Usage comes exactly where the words are no command.
-    ensures usage { (position : ℕ) → result ≡ Outcome.Usage (record { position = position }) → IsMisplaced (map string_bytes words.now) position }
-    ensures every_usage { (position : ℕ) → IsMisplaced (map string_bytes words.now) position
-        → (result ≡ Outcome.Usage (record { position = position })) ⊎ (result ≡ Outcome.NoMemory) }
-
-    // What is shown of a fork means the resources again that are shown, when rez reads it after the same declarations.
-    ensures again { result ≡ Outcome.Done → (asked : DeRezAsked) → IsDeRez (map string_bytes words.now) asked
-        → IfSome (F.files folder.old) (λ files. ShowsAgain moment asked files (O.stream out.old) (O.stream out.new)) }
-
-    // What is listed of a fork is exactly its catalogue, and gives its resources again, put back under the same types.
-    ensures back { result ≡ Outcome.Done → (asked : StringsAsked) → IsStrings (map string_bytes words.now) asked
-        → IfSome (F.files folder.old) (λ files. ListsBack moment asked files (O.stream out.old) (O.stream out.new)) }
-
-    // What is written of a fork and a catalogue has all texts of the catalogue in their places, and all else of the fork stays.
-    ensures others { result ≡ Outcome.Done → (asked : RestringAsked) → IsRestring (map string_bytes words.now) asked
-        → IfSome (F.files folder.old) (λ files. LeavesOthers moment asked files (F.files folder.new)) }
+    ensures { Runs F.Folder O.Sink E.Sink folder.old folder.new out.old out.new err.old err.new
+        (λ before after. Headline (record { words = map string_bytes words.now; moment = moment; before = before; after = after; result = result })) }
 {
     one_answer();
     every_answer();

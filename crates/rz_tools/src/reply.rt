@@ -72,8 +72,5 @@ impl Reply {
 pub fn planned(plan: Result<Plan, Halt<Infallible>>) -> Result<Reply, Halt<Infallible>>
     ensures { result ≡ seen (λ plan. Reply.Plan plan) plan }
 {
-    match plan {
-        Ok(plan) => Ok(Reply::Plan(plan)),
-        Err(halt) => Err(halt),
-    }
+    Ok(Reply::Plan(plan?))
 }

@@ -1,19 +1,14 @@
 //! `sample`: a source of its own is compiled, its fork shown, and the text compiled again. What it answers is in
 //! `specs/Sample`.
 
-ghost use Rattle.std.specs.Prelude.{◌≡◌, ◌∷◌, ◌++◌, ◌<◌, [], codes, IfOk, OnOk, Err};
+ghost use Rattle.std.specs.Prelude.{◌≡◌, ◌++◌, [], codes, IfOk, OnOk};
 ghost use Rattle.std.specs.FinMap as finite;
-ghost use Rattle.rz_core.specs.Decimal.{decimal_of};
-ghost use Rattle.rz_core.specs.Stop.{seen, OnRefusal, Yields};
-ghost use Rattle.rz_core.specs.declared.stop.Halt.TheVariants.{ReadFault};
+ghost use Rattle.rz_core.specs.Stop.{seen, IsReadFault, OnRefusal, Yields};
 ghost use Rattle.rz_tools.specs.DeRez.{IsFork};
 ghost use Rattle.rz_tools.specs.Held.{derez, rez};
-ghost use Rattle.rz_tools.specs.Sample.{derez_of, number_line, rez_of, sample_lines, AnswersSample, CompilesAgain, CompilesSample, IsSampled, ShowsSample};
-ghost use Rattle.rz_tools_answer.specs.Made.{making_of, IsSayable};
-ghost use Rattle.rz_tools_answer.specs.Plan.{answer_of, IsNoUsage};
-ghost use Rattle.rz_tools_answer.specs.Warning.{IsWarningText};
+ghost use Rattle.rz_tools.specs.Sample.{derez_of, number_line, rez_of, sample_lines, CompilesAgain, CompilesSample, IsSampled, ShowsSample};
+ghost use Rattle.rz_tools_answer.specs.Made.{making_of, IsSayable, IsWarned};
 ghost use Rattle.rz_tools_text.specs.Put.{IsTextOf};
-ghost use Rattle.rz_tools_answer.specs.WellFormed.{AreWritable, IsWellFormed};
 
 use crate::derez::{DeRezWords, read_and_show};
 use crate::reply::ForkShown;
@@ -23,33 +18,18 @@ use crate::types::TypesWords;
 use rz_core::{Bytes, FileNames, Halt, Listing, Moment, NoMemory, write_decimal};
 use rz_folder::{Put, Shelf, TextSink};
 use rz_pre::Defs;
-use rz_tools_answer::{Failing, Made, Plan};
+use rz_tools_answer::{Failing, Made};
 use rz_tools_output::Target;
 use rz_tools_text::every_list_is_shown;
 use std::alloc::Global;
-use std::convert::Infallible;
 
-/// The answer to `sample` of so many resources: four lines, with the number of resources, and with the number of bytes of
-/// their fork, of its text, and of the fork of that text.
-pub fn plan_sample(alloc: Global, count: u32, moment: Moment) -> Result<Plan, Halt<Infallible>>
-    ensures answered { IfOk result (λ plan. AnswersSample (decimal_of count ∷ []) moment (answer_of plan)) }
-    ensures well_formed { IfOk result (λ plan. IsWellFormed (answer_of plan)) }
-    ensures writable { IfOk result (λ plan. AreWritable (answer_of plan).writes) }
-    ensures no_usage { IfOk result (λ plan. IsNoUsage plan.outcome) }
-    ensures quiet { result ≡ Err ReadFault → ⊥ }
-{
-    match sampled(alloc, count, moment) {
-        Ok(lines) => Ok(Plan::shown(alloc, lines)),
-        Err(stop) => Plan::stopped(alloc, stop),
-    }
-}
-
-/// The lines of a sample, or what stopped it.
-fn sampled(alloc: Global, count: u32, moment: Moment) -> Result<Made, Halt<Failing>>
+/// The lines of a sample of so many resources, or what stopped it: the number of resources, and the numbers of bytes of their
+/// fork, of its text, and of the fork of that text.
+pub fn sampled(alloc: Global, count: u32, moment: Moment) -> Result<Made, Halt<Failing>>
     ensures lines { Yields (seen making_of result) (IsSampled count moment) }
-    ensures sayable { OnRefusal result IsSayable }
-    ensures warned { IfOk result (λ made. IsWarningText made.said) }
-    ensures quiet { result ≡ Err ReadFault → ⊥ }
+    ensures good { IfOk (seen making_of result) IsWarned }
+    ensures bad { OnRefusal (seen making_of result) IsSayable }
+    ensures unread { IsReadFault (seen making_of result) → ⊥ }
 {
     let fork = compile_source(alloc, count, moment)?;
     let text = show_fork(alloc, &fork.bytes, moment)?;
@@ -64,8 +44,8 @@ fn sampled(alloc: Global, count: u32, moment: Moment) -> Result<Made, Halt<Faili
 /// The fork of the source.
 fn compile_source(alloc: Global, count: u32, moment: Moment) -> Result<Made, Halt<Failing>>
     ensures made { Yields (seen making_of result) (CompilesSample count moment) }
-    ensures sayable { OnRefusal result IsSayable }
-    ensures quiet { result ≡ Err ReadFault → ⊥ }
+    ensures bad { OnRefusal (seen making_of result) IsSayable }
+    ensures unread { IsReadFault (seen making_of result) → ⊥ }
 {
     let source = sample_source::source(alloc, count)?;
     let mut shelf = Shelf::new(alloc);
@@ -78,16 +58,14 @@ fn compile_source(alloc: Global, count: u32, moment: Moment) -> Result<Made, Hal
 /// The text of a fork, under the type of the source.
 fn show_fork(alloc: Global, fork: &Bytes, moment: Moment) -> Result<Made, Halt<Failing>>
     ensures made { Yields (seen making_of result) (ShowsSample moment fork.now) }
-    ensures sayable { OnRefusal result IsSayable }
-    ensures quiet { result ≡ Err ReadFault → ⊥ }
+    ensures bad { OnRefusal (seen making_of result) IsSayable }
+    ensures unread { IsReadFault (seen making_of result) → ⊥ }
 {
     let mut shelf = Shelf::new(alloc);
     hold(&mut shelf, "fork", fork.as_slice())?;
     hold(&mut shelf, "types", sample_source::types())?;
-    match read_and_show(alloc, &mut shelf, derez_words(alloc)?, moment) {
-        Ok(shown) => Ok(whole_text(alloc, shown)?),
-        Err(stop) => Err(stop),
-    }
+    let shown = read_and_show(alloc, &mut shelf, derez_words(alloc)?, moment)?;
+    Ok(whole_text(alloc, shown)?)
 }
 
 /// The text of a fork, whole, and what is said beside it.
@@ -113,8 +91,8 @@ fn whole_text(alloc: Global, shown: ForkShown) -> Result<Made, NoMemory>
 /// The fork of a text, after the type of the source.
 fn compile_text(alloc: Global, text: &Bytes, moment: Moment) -> Result<Made, Halt<Failing>>
     ensures made { Yields (seen making_of result) (CompilesAgain moment text.now) }
-    ensures sayable { OnRefusal result IsSayable }
-    ensures quiet { result ≡ Err ReadFault → ⊥ }
+    ensures bad { OnRefusal (seen making_of result) IsSayable }
+    ensures unread { IsReadFault (seen making_of result) → ⊥ }
 {
     let mut shelf = Shelf::new(alloc);
     let made = compile_text_on(alloc, &mut shelf, text, moment);
@@ -131,8 +109,8 @@ fn compile_text_on(
 ) -> Result<Made, Halt<Failing>>
     requires { shelf.old.files ≡ finite.empty }
     ensures made { Yields (seen making_of result) (CompilesAgain moment text.now) }
-    ensures sayable { OnRefusal result IsSayable }
-    ensures quiet { result ≡ Err ReadFault → ⊥ }
+    ensures bad { OnRefusal (seen making_of result) IsSayable }
+    ensures unread { IsReadFault (seen making_of result) → ⊥ }
 {
     hold(shelf, "types", sample_source::types())?;
     hold(shelf, "text", text.as_slice())?;

@@ -1,23 +1,23 @@
 //! Sources as both commands take them: the program, and what its statements make. What they mean is in `specs/Sources`.
 
-ghost use Rattle.std.specs.Prelude.{◌≡◌, length, Err, IfOk, IfSome};
-ghost use Rattle.rz_core.specs.Stop.{seen, OnRefusal, Yields};
-ghost use Rattle.rz_core.specs.declared.stop.Halt.TheVariants.{ReadFault};
-ghost use Rattle.rz_tools_answer.specs.Made.{IsSayable};
+ghost use Rattle.std.specs.Prelude.{◌≡◌, [], ℕ, List, length, Err};
+ghost use Rattle.rz_core.specs.Message.{IsNameable};
+ghost use Rattle.rz_core.specs.Stop.{seen, OnRefusal};
+ghost use Rattle.rz_tools_answer.specs.Made.{IsBeside, IsSayable};
 ghost use Rattle.rz_tools_answer.specs.Warning.{AreWarnings};
+ghost use Rattle.rz_folder.specs.Finds.{Finds};
 ghost use Rattle.rz_folder.specs.MayRead.{IsOneOf, MayRead, MayReadOf};
 ghost use Rattle.rz_folder_paths.specs.Names.{LooksFor};
 ghost use Rattle.rz_pre.specs.Reached.{IsReached};
 ghost use Rattle.rz_tools.specs.Asked.{AnyAsks};
-ghost use Rattle.rz_folder.specs.OnlyReads.{OnlyReads};
 ghost use Rattle.rz_lex.specs.Lexeme.{AreLexed};
 ghost use Rattle.rz_lex.specs.Within.{AreWithin};
 ghost use Rattle.rz_pre.specs.Lexed.{HaveLexedTexts};
-ghost use Rattle.rz_pre.specs.Program.{ProgramGoes, State};
-ghost use Rattle.rz_pre.specs.Reading.{IsProgram, OfProgram};
+ghost use Rattle.rz_pre.specs.Program.{ProgramGoes};
+ghost use Rattle.rz_pre.specs.Reading.{OfProgram};
 ghost use Rattle.rz_tools_work.specs.Held.{work_of};
 ghost use Rattle.rz_tools_values.specs.Around.{around};
-ghost use Rattle.rz_tools.specs.Held.{compiled_of, halt_unsaid};
+ghost use Rattle.rz_tools.specs.Held.{compiled_of, not_read, CanCompile, HasWarnings, OfState};
 ghost use Rattle.rz_tools.specs.Sources.{HasWork, Unsaid};
 
 use crate::step::compile_statements;
@@ -25,7 +25,7 @@ use rz_core::{Bytes, Fault, FileNames, Halt, Words};
 use rz_folder::Folder;
 use rz_pre::{Defs, Failure, Program, Tool, preprocess};
 use rz_stmt::all_tokens_are_statements;
-use rz_tools_answer::{Failing, refusal};
+use rz_tools_answer::{Failing, Faults, say_stop};
 use rz_tools_values::Setting;
 use rz_tools_work::Work;
 use std::alloc::Global;
@@ -43,17 +43,11 @@ pub struct Compiled {
 
 /// What stopped a command before the first statement of a program, where these files were opened.
 pub fn unsaid(alloc: Global, halt: Halt<Fault>, files: FileNames) -> Halt<Failing>
-    ensures { result ≡ halt_unsaid files halt }
+    requires { OnRefusal {X = List ℕ} (Err halt) (IsNameable (length files)) }
+    ensures { IsBeside files [] (Err halt) (Err result) }
 {
-    match halt {
-        Halt::Refused(fault) => Halt::Refused(Failing {
-            fault,
-            files,
-            said: Bytes::new(alloc),
-        }),
-        Halt::ReadFault => Halt::ReadFault,
-        Halt::NoMemory => Halt::NoMemory,
-    }
+    let warnings = Faults::new(alloc);
+    say_stop(alloc, halt, &warnings, files)
 }
 
 /// The program of the sources of these names, as the tool reads it, or what stopped the command. No file changes. Over a
@@ -68,24 +62,29 @@ pub fn read_program<F: Folder>(
 ) -> Result<Program, Halt<Failing>>
     requires lexed { HaveLexedTexts defs.now }
     requires may { MayReadOf F.Folder folder.old (λ files. IsReached paths.now files (IsOneOf names.now)) }
-    ensures read { IfSome (F.files folder.old) (λ files. Yields result (OfProgram (Unsaid (ProgramGoes files tool names.now paths.now defs.now)))) }
-    ensures sayable { OnRefusal result IsSayable }
-    ensures within { IfOk result (λ program. AreWithin (length program.files) program.tokens) }
-    ensures lexed { IfOk result (λ program. AreLexed program.tokens) }
-    ensures reads { OnlyReads F.Folder folder.old folder.new (result ≡ Err ReadFault) }
+    ensures { Finds F.Folder folder.old folder.new result (λ files. OfProgram (Unsaid (ProgramGoes files tool names.now paths.now defs.now))) CanCompile IsSayable }
 {
     match preprocess(alloc, folder, tool, names, paths, defs) {
         Ok(program) => Ok(program),
-        Err(Halt::Refused(failure)) => {
+        Err(halt) => Err(not_read(alloc, halt)),
+    }
+}
+
+/// What stopped a command while its sources were read.
+fn not_read(alloc: Global, halt: Halt<Failure>) -> Halt<Failing>
+    ensures { result ≡ not_read halt }
+{
+    match halt {
+        Halt::Refused(failure) => {
             let Failure { fault, files } = failure;
-            Err(Halt::Refused(Failing {
+            Halt::Refused(Failing {
                 fault,
                 files,
                 said: Bytes::new(alloc),
-            }))
+            })
         }
-        Err(Halt::ReadFault) => Err(Halt::ReadFault),
-        Err(Halt::NoMemory) => Err(Halt::NoMemory),
+        Halt::ReadFault => Halt::ReadFault,
+        Halt::NoMemory => Halt::NoMemory,
     }
 }
 
@@ -104,10 +103,7 @@ pub fn compile_program<F: Folder>(
     requires lexed { AreLexed program.tokens }
     requires warnings { AreWarnings (length program.files) start.warnings }
     requires may { MayRead F.Folder folder.old (LooksFor paths.now (AnyAsks setting.tool program.tokens)) }
-    ensures compiled { IfSome (F.files folder.old) (λ files. (s : State) → IsProgram program s → Yields (seen compiled_of result) (HasWork (around setting paths.now files) (work_of start) s)) }
-    ensures warned { IfOk result (λ compiled. AreWarnings (length compiled.files) compiled.work.warnings) }
-    ensures sayable { OnRefusal result IsSayable }
-    ensures reads { OnlyReads F.Folder folder.old folder.new (result ≡ Err ReadFault) }
+    ensures { Finds F.Folder folder.old folder.new (seen compiled_of result) (λ files. OfState program (HasWork (around setting paths.now files) (work_of start))) HasWarnings IsSayable }
 {
     all_tokens_are_statements();
     let Program {
@@ -122,23 +118,11 @@ pub fn compile_program<F: Folder>(
             macros,
             files,
         }),
-        Err(Halt::Refused(fault)) => {
+        Err(halt) => {
             drop(macros);
-            let refused = refusal(alloc, fault, &work.warnings, files);
+            let stop = say_stop(alloc, halt, &work.warnings, files);
             drop(work);
-            Err(Halt::Refused(refused?))
-        }
-        Err(Halt::ReadFault) => {
-            drop(work);
-            drop(macros);
-            drop(files);
-            Err(Halt::ReadFault)
-        }
-        Err(Halt::NoMemory) => {
-            drop(work);
-            drop(macros);
-            drop(files);
-            Err(Halt::NoMemory)
+            Err(stop)
         }
     }
 }

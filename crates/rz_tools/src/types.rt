@@ -1,26 +1,20 @@
 //! Type files: the types that they declare, under which resources are shown. What they mean is in `specs/Types`.
 
-ghost use Rattle.std.specs.Prelude.{◌≡◌, ◌≤◌, drop, length, Err, IfOk, IfSome};
-ghost use Rattle.rz_core.specs.Stop.{seen, OnRefusal, Yields};
-ghost use Rattle.rz_core.specs.declared.stop.Halt.TheVariants.{ReadFault};
-ghost use Rattle.rz_folder.specs.MayRead.{IsIt, MayRead, MayReadOf};
-ghost use Rattle.rz_tools.specs.Asked.{TypesAsk};
-ghost use Rattle.rz_folder.specs.OnlyReads.{OnlyReads};
-ghost use Rattle.rz_lex.specs.Lexeme.{AreLexed};
-ghost use Rattle.rz_lex.specs.Within.{AreWithin};
+ghost use Rattle.std.specs.Prelude.{◌≡◌, ◌≤◌, drop, length, IfOk};
+ghost use Rattle.rz_core.specs.Stop.{seen};
+ghost use Rattle.rz_folder.specs.Finds.{Finds};
+ghost use Rattle.rz_folder.specs.MayRead.{MayReadOf};
 ghost use Rattle.rz_pre.specs.Lexed.{HaveLexedTexts};
-ghost use Rattle.rz_pre.specs.Program.{State};
-ghost use Rattle.rz_pre.specs.Reading.{IsProgram};
-ghost use Rattle.rz_tools.specs.Held.{compiled_of, types_asked};
-ghost use Rattle.rz_tools.specs.Types.{types_items, AreTyped, TypesAre};
+ghost use Rattle.rz_tools.specs.Asked.{TypesAsk};
+ghost use Rattle.rz_tools.specs.Held.{compiled_of, types_asked, HasWarnings};
+ghost use Rattle.rz_tools.specs.Types.{types_items, TypesAre};
 ghost use Rattle.rz_tools_args.specs.Held.{items_of};
 ghost use Rattle.rz_tools_answer.specs.Made.{IsSayable};
-ghost use Rattle.rz_tools_answer.specs.Warning.{AreWarnings};
 
 use crate::sources::{Compiled, compile_program, read_program, unsaid};
 use rz_core::{FileNames, Halt, Moment, NoMemory, Resources};
 use rz_folder::Folder;
-use rz_pre::{Defs, Program, Tool};
+use rz_pre::{Defs, Tool};
 use rz_tools_answer::Failing;
 use rz_tools_args::{Command, Flag, Switch};
 use rz_tools_tmpl::read_templates;
@@ -87,40 +81,22 @@ pub fn compile_types<F: Folder>(
 ) -> Result<Compiled, Halt<Failing>>
     requires lexed { HaveLexedTexts words.now.defs }
     requires may { MayReadOf F.Folder folder.old (TypesAsk (types_asked words.now)) }
-    ensures compiled { IfSome (F.files folder.old) (λ files. Yields (seen compiled_of result) (TypesAre moment (types_asked words.now) files)) }
-    ensures warned { IfOk result (λ compiled. AreWarnings (length compiled.files) compiled.work.warnings) }
-    ensures sayable { OnRefusal result IsSayable }
-    ensures reads { OnlyReads F.Folder folder.old folder.new (result ≡ Err ReadFault) }
+    ensures { Finds F.Folder folder.old folder.new (seen compiled_of result) (TypesAre moment (types_asked words.now)) HasWarnings IsSayable }
 {
-    match read_program(
+    let program = read_program(
         alloc,
         folder,
         Tool::DeRez,
         &words.files,
         &words.paths,
         &words.defs,
-    ) {
-        Ok(program) => compile_under(alloc, folder, words, program, moment),
-        Err(stop) => Err(stop),
-    }
-}
-
-/// What a program means, after the types of the file of templates.
-fn compile_under<F: Folder>(
-    alloc: Global,
-    folder: &mut F,
-    words: &TypesWords<'_>,
-    program: Program,
-    moment: Moment,
-) -> Result<Compiled, Halt<Failing>>
-    requires within { AreWithin (length program.files) program.tokens }
-    requires lexed { AreLexed program.tokens }
-    requires may { MayRead F.Folder folder.old (IsIt (types_asked words.now).tmpl) }
-    ensures compiled { IfSome (F.files folder.old) (λ files. (s : State) → IsProgram program s → Yields (seen compiled_of result) (AreTyped moment (types_asked words.now) files s)) }
-    ensures warned { IfOk result (λ compiled. AreWarnings (length compiled.files) compiled.work.warnings) }
-    ensures sayable { OnRefusal result IsSayable }
-    ensures reads { OnlyReads F.Folder folder.old folder.new (result ≡ Err ReadFault) }
-{
+    )?;
+    let types = match read_templates(alloc, folder, words.tmpl) {
+        Ok(types) => types,
+        Err(halt) => return Err(unsaid(alloc, halt, program.files)),
+    };
+    let start = Work::begun(alloc, types, Resources::new(alloc))?;
+    let searches = FileNames::new(alloc);
     let setting = Setting {
         tool: Tool::DeRez,
         redeclare: words.redeclare,
@@ -128,12 +104,5 @@ fn compile_under<F: Folder>(
         over: false,
         moment,
     };
-    match read_templates(alloc, folder, words.tmpl) {
-        Ok(types) => {
-            let start = Work::begun(alloc, types, Resources::new(alloc))?;
-            let paths = FileNames::new(alloc);
-            compile_program(alloc, folder, &paths, program, start, setting)
-        }
-        Err(halt) => Err(unsaid(alloc, halt, program.files)),
-    }
+    compile_program(alloc, folder, &searches, program, start, setting)
 }

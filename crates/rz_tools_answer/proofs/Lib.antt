@@ -3,3 +3,4 @@ pub mod Warnings
 pub mod Beside
 pub mod Carried
 pub mod Complete
+pub mod Planning

@@ -8,3 +8,4 @@ pub mod Help
 pub mod World
 pub mod Carried
 pub mod Plan
+pub mod Plans

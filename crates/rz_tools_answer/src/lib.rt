@@ -23,4 +23,4 @@ pub use made::{Failing, Made};
 pub use message::{NO_MEMORY, READ_FAULT, WRITE_FAULT, usage_line};
 pub use outcome::Outcome;
 pub use plan::{Plan, Write, Writes};
-pub use warning::{Faults, refusal, say_beside};
+pub use warning::{Faults, say_beside, say_stop};

@@ -3,10 +3,11 @@
 ghost use Rattle.std.specs.Prelude.{◌≡◌, length, [], map, Err, IfOk};
 ghost use Rattle.rz_core.specs.Message.{IsNameable};
 ghost use Rattle.rz_tools_answer.specs.Answer.{misused, refused, shown, written};
-ghost use Rattle.rz_core.specs.Stop.{OnRefusal};
+ghost use Rattle.rz_core.specs.Stop.{seen, OnRefusal};
 ghost use Rattle.rz_core.specs.declared.stop.Halt.TheVariants.{ReadFault};
-ghost use Rattle.rz_tools_answer.specs.Made.{making_of, IsSayable};
+ghost use Rattle.rz_tools_answer.specs.Made.{making_of, FitsFile, IsSayable, IsWarned};
 ghost use Rattle.rz_tools_answer.specs.Plan.{answer_of, write_of, IsRefused, EndsIn};
+ghost use Rattle.rz_tools_answer.specs.Plans.{Concludes};
 ghost use Rattle.rz_tools_answer.specs.WellFormed.{AreWritable, IsWellFormed};
 ghost use Rattle.rz_tools_answer.specs.declared.made.Made.{Made as MadeOf};
 
@@ -96,6 +97,37 @@ impl Plan {
             said: Bytes::new(alloc),
         };
         Ok(Plan::shown(alloc, made))
+    }
+
+    /// To write what a command made to the file of this name, or to say what stopped it.
+    pub fn to_write(
+        alloc: Global,
+        name: &str,
+        made: Result<Made, Halt<Failing>>,
+    ) -> Result<Plan, Halt<Infallible>>
+        requires good { IfOk (seen making_of made) FitsFile }
+        requires bad { OnRefusal (seen making_of made) IsSayable }
+        ensures { Concludes (written name.now) made result }
+    {
+        match made {
+            Ok(made) => Ok(Plan::written(alloc, name, made)?),
+            Err(halt) => Plan::stopped(alloc, halt),
+        }
+    }
+
+    /// To write what a command made to standard output, or to say what stopped it.
+    pub fn to_show(
+        alloc: Global,
+        made: Result<Made, Halt<Failing>>,
+    ) -> Result<Plan, Halt<Infallible>>
+        requires good { IfOk (seen making_of made) IsWarned }
+        requires bad { OnRefusal (seen making_of made) IsSayable }
+        ensures { Concludes shown made result }
+    {
+        match made {
+            Ok(made) => Ok(Plan::shown(alloc, made)),
+            Err(halt) => Plan::stopped(alloc, halt),
+        }
     }
 
     /// To say that the words are no command.

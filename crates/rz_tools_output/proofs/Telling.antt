@@ -1,7 +1,5 @@
 -- What `list` tells, from what its calls gave.
 use Rattle.std.proofs.Common.{◌≡◌, ℕ, List, [], Option, Some, None, Ok, Err, sym, ap, subst, ◌∙◌}
-use Rattle.std.specs.Prelude.{IfSome}
-use Rattle.std.specs.FinMap as finite
 use Rattle.std.specs.declared.result.Result.{Result}
 use Rattle.rz_bridge.specs.declared.file.MacFile.{MacFile}
 use Rattle.rz_bridge_files.specs.Contents.{admit_fork, file_in, form_or, IsFile}
@@ -9,21 +7,17 @@ use Rattle.rz_bridge_files.specs.Faults.{or_broken, or_torn}
 use Rattle.rz_bridge_form.specs.Forms.{content_of}
 use Rattle.rz_bridge_form.specs.declared.form.Form.{Form}
 use Rattle.rz_core.proofs.Once.{ok}
-use Rattle.rz_core.specs.Stop.{◌>>=◌, halt_of, Gives, Yields}
+use Rattle.rz_core.specs.Stop.{◌>>=◌, Gives}
 use Rattle.rz_core.specs.declared.fault.Fault.{Fault}
-use Rattle.rz_core.specs.declared.stop.Halt.{Halt}
 use Rattle.rz_core.specs.declared.stop.Stop.{Stop}
 use Rattle.rz_core.specs.declared.stop.Stop.TheVariants.{Refused, NoMemory}
-use Rattle.rz_folder.specs.Folder.{Files, Reads}
-use Rattle.rz_folder.specs.declared.folder.Read.TheVariants as read
 use Rattle.rz_fork.specs.Admit.{admitted}
 use Rattle.rz_fork.specs.Contents.{Fork}
 use Rattle.rz_fork.specs.declared.fault.ForkFault.{ForkFault}
 use Rattle.rz_list.proofs.Parted.{contents_are}
 use Rattle.rz_list.specs.Held.{text_of, IsWhole}
 use Rattle.rz_list.specs.Text.{file_text}
-use Rattle.rz_tools_output.specs.Det.{DetAsked}
-use Rattle.rz_tools_output.specs.List.{listed_in, listed_of}
+use Rattle.rz_tools_output.specs.List.{listed_in}
 
 -- a fork that is admitted without a mark
 admits : (held : Result Fork ForkFault) (fork : Fork) → or_torn None held ≡ Ok fork → held ≡ Ok fork
@@ -60,18 +54,6 @@ module _ (from : Option Form) (bytes : List ℕ) (form : Form) (of_form : form �
     is_whole short (fork, so) = (short.1, (fork, subst (λ (b : List ℕ). admitted b ≡ Ok fork) same (admits (admitted piece) fork so)))
 
   pub listed_refused : (stop : Stop Fault) → Gives {X = MacFile} (file_in None (Some form) bytes data_file) (Err stop)
-      → Yields {X = List ℕ} (Err (halt_of stop)) (λ answer. listed_in from bytes ≡ answer)
+      → Gives {X = List ℕ} (listed_in from bytes) (Err stop)
   listed_refused (Refused fault) is = told_of (Err fault) is
   listed_refused NoMemory is = tt
-
--- What is read.
-
-module _ (asked : DetAsked) (name : List ℕ) (same : name ≡ asked.file) (result : Result (List ℕ) (Halt Fault)) where
-  listed_entry : (files : Files) (entry : Option (List ℕ)) → finite.get files name ≡ entry → Yields result (λ answer. listed_of asked entry ≡ answer)
-      → Yields result (λ answer. listed_of asked (finite.get files asked.file) ≡ answer)
-  listed_entry files entry is told = subst (λ (e : Option (List ℕ)). Yields result (λ answer. listed_of asked e ≡ answer)) (sym is ∙ ap (finite.get files) same) told
-
-  pub listed_read : (bytes : List ℕ) (before : Option Files) → Reads name before (read.Bytes bytes) → Yields result (λ answer. listed_in asked.from bytes ≡ answer)
-      → IfSome before (λ files. Yields result (λ answer. listed_of asked (finite.get files asked.file) ≡ answer))
-  listed_read bytes None reads told = tt
-  listed_read bytes (Some files) reads told = listed_entry files (Some bytes) reads.1 told

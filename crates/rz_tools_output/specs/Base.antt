@@ -1,9 +1,11 @@
 -- What `rez` begins with: a new file, or with `-a` what the file of the output's name holds. (MPW Rez.)
-use Rattle.std.specs.Prelude.{ℕ, ◌==◌, nat_lt, pos, if◌then◌else◌, Bool, true, false, List, [], length, map, bit_and, bit_or, Option, Some, None, Ok, Err}
+use Rattle.std.specs.Prelude.{◌≡◌, ◌≤◌, ℕ, ◌==◌, nat_lt, pos, if◌then◌else◌, Bool, true, false, List, [], length, map, bit_and, bit_or, Option, Some, None, Ok, Err}
 use Rattle.std.specs.FinMap as finite
+use Rattle.std.specs.List.{AllByRecursion}
 use Rattle.std.specs.declared.result.Result.{Result}
 use Rattle.rz_bridge.specs.declared.file.MacFile.{MacFile}
 use Rattle.rz_core.specs.Lists.{first_of, unless_fault}
+use Rattle.rz_core.specs.Resources.{KeysDiffer}
 use Rattle.rz_core.specs.Stop.{◌>>=◌}
 use Rattle.rz_core.specs.declared.fault.Fault.{Fault}
 use Rattle.rz_core.specs.declared.fault.Kept.TheVariants.{Number}
@@ -13,6 +15,7 @@ use Rattle.rz_bridge_files.specs.Contents.{admit_fork, file_in, form_or}
 use Rattle.rz_folder.specs.Folder.{Files}
 use Rattle.rz_folder_paths.specs.Names.{missing_file}
 use Rattle.rz_fork.specs.Contents.{Fork}
+use Rattle.rz_set.specs.ResSet.{AreNamed}
 use Rattle.rz_bridge_form.specs.Forms.{raw_file, raw_finder}
 use Rattle.rz_bridge_form.specs.declared.form.Form.{Form}
 use Rattle.rz_bridge_form.specs.declared.form.Form.TheVariants.{Raw}
@@ -45,6 +48,11 @@ abbrev pub or_empty : Option (List ℕ) → List ℕ
 or_empty None = []
 or_empty (Some bytes) = bytes
 
+-- the call gave these
+abbrev pub HasOrNone : Option (List ℕ) → Result (List ℕ) Fault → Type 0
+HasOrNone None answer = answer ≡ Ok []
+HasOrNone (Some bytes) answer = answer ≡ Ok bytes
+
 -- 220 with the attributes
 abbrev pub read_only : ℕ → Fault
 read_only attributes = record { number = 220; mark = None; kept = Number (pos attributes) }
@@ -76,6 +84,18 @@ base_of append name files = if append then base_in false None (or_empty (finite.
 abbrev pub base_held : Option Form → List ℕ → Option (List ℕ) → Result Base Fault
 base_held form name None = Err (missing_file None name)
 base_held form name (Some bytes) = base_in true form bytes
+
+-- What can be begun with: the keys of the resources differ, and their names and the reserved bytes are as short as a fork has
+-- them.
+pub record CanBegin (base : Base) : Type 0 where
+  pub keys : KeysDiffer [] base.fork.list
+  pub named : AreNamed base.fork.list
+  pub room : length base.fork.reserved ≤ 240
+
+-- and no resource is too long
+pub record IsShortBase (base : Base) : Type 0 where
+  pub begins : CanBegin base
+  pub short : AllByRecursion (λ r. length r.bytes ≤ 16777212) base.fork.list
 
 -- the attributes of the map that is written: the bit 80 too where it becomes read only
 abbrev pub attributes_asked : Bool → Base → ℕ

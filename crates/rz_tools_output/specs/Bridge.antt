@@ -9,6 +9,7 @@ use Rattle.rz_tools_answer.specs.declared.outcome.Outcome.TheVariants.{Done}
 use Rattle.rz_tools_answer.specs.declared.plan.Write as code
 use Rattle.rz_bridge.specs.declared.file.MacFile.{MacFile}
 use Rattle.rz_core.specs.Answers.{Then}
+use Rattle.rz_core.specs.Stop.{seen}
 use Rattle.rz_core.specs.declared.fault.Fault.{Fault}
 use Rattle.rz_bridge_files.specs.Contents.{file_in, form_or}
 use Rattle.rz_bridge_files.specs.Names.{Named}
@@ -107,5 +108,4 @@ bridge words = record { file = string_bytes words.file; output = words.output.no
 
 -- what the code is to write, or what stopped it
 abbrev pub writes_of : {E : Type 0} → Result (List code.Write) E → Result (List Write) E
-writes_of (Ok writes) = Ok (map write_of writes)
-writes_of (Err stop) = Err stop
+writes_of result = seen (map write_of) result

@@ -40,6 +40,9 @@ abbrev pub breaks_of : DetAsked → Option (List ℕ) → Result (List ℕ) Faul
 breaks_of asked None = Err (missing_file None asked.file)
 breaks_of asked (Some bytes) = breaks_in asked.from bytes
 
+abbrev pub HasBreaks : DetAsked → Files → Result (List ℕ) Fault → Type 0
+HasBreaks asked files answer = breaks_of asked (finite.get files asked.file) ≡ answer
+
 -- the text is written to the output, however many rules are broken, or the fault ends the run
 abbrev pub told : Result (List ℕ) Fault → Answer
 told (Ok text) = shown (record { bytes = text; said = [] })

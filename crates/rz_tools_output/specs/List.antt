@@ -23,6 +23,9 @@ abbrev pub listed_of : DetAsked → Option (List ℕ) → Result (List ℕ) Faul
 listed_of asked None = Err (missing_file None asked.file)
 listed_of asked (Some bytes) = listed_in asked.from bytes
 
+abbrev pub HasList : DetAsked → Files → Result (List ℕ) Fault → Type 0
+HasList asked files answer = listed_of asked (finite.get files asked.file) ≡ answer
+
 -- the text is written to the output, or the fault ends the run
 abbrev pub AnswersList : DetAsked → Files → Answer → Type 0
 AnswersList asked files answer = answer ≡ told (listed_of asked (finite.get files asked.file))

@@ -1,16 +1,17 @@
 //! What `rez` and `restring` begin with: a new file, or one that is there. What is taken of it is in `specs/Base`.
 
-ghost use Rattle.std.specs.Prelude.{◌≡◌, ◌<◌, ◌≤◌, ◌^◌, [], ℕ, true, length, None, IfOk, IfSome};
+ghost use Rattle.std.specs.Prelude.{◌≡◌, ◌<◌, ◌≤◌, ◌^◌, [], ℕ, true, length, None, IfOk};
 ghost use Rattle.std.specs.FinMap as finite;
 ghost use Rattle.std.specs.List.{AllByRecursion};
 ghost use Rattle.rz_core.specs.Message.{IsNameable};
 ghost use Rattle.rz_core.specs.declared.fault.Kept.TheVariants.{Number};
 ghost use Rattle.rz_core.specs.Resources.{KeysDiffer};
-ghost use Rattle.rz_core.specs.Stop.{seen, Gives, IsReadFault, OnFault, OnRefusal, Yields};
-ghost use Rattle.rz_folder.specs.OnlyReads.{OnlyReads};
+ghost use Rattle.rz_core.specs.Stop.{seen, Gives, OnFault};
+ghost use Rattle.rz_folder.specs.Finds.{Finds};
+ghost use Rattle.rz_folder_paths.specs.Names.{IsUnplaced};
 ghost use Rattle.rz_bridge_files.specs.Contents.{form_or};
 ghost use Rattle.rz_set.specs.ResSet.{AreNamed};
-ghost use Rattle.rz_tools_output.specs.Base.{base_held, base_in, base_of, begun_of, limited, new_base, read_only};
+ghost use Rattle.rz_tools_output.specs.Base.{base_held, base_in, base_of, begun_of, limited, new_base, read_only, CanBegin, HasOrNone, IsShortBase};
 
 use bitflags::Flags;
 use rz_bridge::{Finder, MacFile};
@@ -18,7 +19,7 @@ use rz_bridge_files::{admit_fork, file_in};
 use rz_bridge_form::{Form, form_of};
 use rz_core::{Bytes, Fault, Halt, Kept, OsType, Resources, Stop};
 use rz_folder::{Folder, Read};
-use rz_folder_paths::missing_file;
+use rz_folder_paths::read_present;
 use rz_fork::{ForkView, MapAttributes};
 use std::alloc::Global;
 
@@ -63,19 +64,27 @@ pub fn read_base<F: Folder>(
     name: &str,
 ) -> Result<Beginning, Halt<Fault>>
     requires { append ≡ true → F.may_read folder.old name.now }
-    ensures base { IfSome (F.files folder.old) (λ files. Yields (seen begun_of result) (λ answer. base_of append name.now files ≡ answer)) }
-    ensures keys { IfOk result (λ begun. KeysDiffer [] begun.list) }
-    ensures named { IfOk result (λ begun. AreNamed begun.list) }
-    ensures room { IfOk result (λ begun. length begun.base.reserved ≤ 240) }
-    ensures nameable { (files : ℕ) → OnRefusal result (IsNameable files) }
-    ensures reads { OnlyReads F.Folder folder.old folder.new (IsReadFault result) }
+    ensures { Finds F.Folder folder.old folder.new (seen begun_of result) (λ files answer. base_of append name.now files ≡ answer) CanBegin IsUnplaced }
 {
     if !append {
         return Ok(new_file(alloc));
     }
+    let bytes = read_or_empty(alloc, folder, name)?;
+    Ok(base_in(alloc, false, None, bytes)?)
+}
+
+/// The bytes of the file of this name, or none where no file has the name.
+pub fn read_or_empty<F: Folder>(
+    alloc: Global,
+    folder: &mut F,
+    name: &str,
+) -> Result<Bytes, Halt<Fault>>
+    requires { F.may_read folder.old name.now }
+    ensures { Finds F.Folder folder.old folder.new result (λ files. HasOrNone (finite.get files name.now)) (λ bytes. length bytes < 2 ^ 32) IsUnplaced }
+{
     match folder.read(alloc, name) {
-        Read::Bytes(bytes) => begin_in(alloc, false, None, bytes),
-        Read::Missing => begin_in(alloc, false, None, Bytes::new(alloc)),
+        Read::Bytes(bytes) => Ok(bytes),
+        Read::Missing => Ok(Bytes::new(alloc)),
         Read::Failed => Err(Halt::ReadFault),
         Read::NoMemory => Err(Halt::NoMemory),
     }
@@ -123,42 +132,10 @@ pub fn read_held<F: Folder>(
     name: &str,
 ) -> Result<Beginning, Halt<Fault>>
     requires { F.may_read folder.old name.now }
-    ensures base { IfSome (F.files folder.old) (λ files. Yields (seen begun_of result) (λ answer. base_held form name.now (finite.get files name.now) ≡ answer)) }
-    ensures keys { IfOk result (λ begun. KeysDiffer [] begun.list) }
-    ensures named { IfOk result (λ begun. AreNamed begun.list) }
-    ensures short { IfOk result (λ begun. AllByRecursion (λ r. length r.bytes ≤ 16777212) begun.list) }
-    ensures room { IfOk result (λ begun. length begun.base.reserved ≤ 240) }
-    ensures nameable { (files : ℕ) → OnRefusal result (IsNameable files) }
-    ensures reads { OnlyReads F.Folder folder.old folder.new (IsReadFault result) }
+    ensures { Finds F.Folder folder.old folder.new (seen begun_of result) (λ files answer. base_held form name.now (finite.get files name.now) ≡ answer) IsShortBase IsUnplaced }
 {
-    match folder.read(alloc, name) {
-        Read::Bytes(bytes) => begin_in(alloc, true, form, bytes),
-        Read::Missing => Err(Halt::Refused(missing_file(alloc, None, name.as_bytes())?)),
-        Read::Failed => Err(Halt::ReadFault),
-        Read::NoMemory => Err(Halt::NoMemory),
-    }
-}
-
-/// What bytes hold to begin with, of a call that reads files.
-fn begin_in(
-    alloc: Global,
-    short: bool,
-    form: Option<Form>,
-    bytes: Bytes,
-) -> Result<Beginning, Halt<Fault>>
-    requires { length bytes < 2 ^ 32 }
-    ensures base { Yields (seen begun_of result) (λ answer. base_in short form bytes ≡ answer) }
-    ensures keys { IfOk result (λ begun. KeysDiffer [] begun.list) }
-    ensures named { IfOk result (λ begun. AreNamed begun.list) }
-    ensures short { short ≡ true → IfOk result (λ begun. AllByRecursion (λ r. length r.bytes ≤ 16777212) begun.list) }
-    ensures room { IfOk result (λ begun. length begun.base.reserved ≤ 240) }
-    ensures nameable { (files : ℕ) → OnRefusal result (IsNameable files) }
-    ensures unread { IsReadFault result → ⊥ }
-{
-    match base_in(alloc, short, form, bytes) {
-        Ok(begun) => Ok(begun),
-        Err(stop) => Err(Halt::from(stop)),
-    }
+    let bytes = read_present(alloc, folder, name)?;
+    Ok(base_in(alloc, true, form, bytes)?)
 }
 
 /// What bytes hold to begin with, in the form that is asked for or else that they have. The resources are copied out of their

@@ -1,30 +1,30 @@
 //! `bridge`: a file of one form, written in another. What it answers is in `specs/Bridge`.
 
-ghost use Rattle.std.specs.Prelude.{◌≡◌, ◌<◌, ◌≤◌, ◌^◌, ℕ, [], get_or, length, map, Err, IfOk, IfSome};
+ghost use Rattle.std.specs.Prelude.{◌≡◌, ◌<◌, ◌≤◌, ◌^◌, ℕ, [], get_or, length, map, IfOk, IsOkAnd};
 ghost use Rattle.std.specs.FinMap as finite;
 ghost use Rattle.std.specs.String.{string_bytes};
-ghost use Rattle.rz_tools_answer.specs.Plan.{answer_of, write_of, IsNoUsage};
-ghost use Rattle.rz_tools_answer.specs.WellFormed.{AreWritable, IsWellFormed};
-ghost use Rattle.rz_core.specs.declared.stop.Halt.TheVariants.{ReadFault};
+ghost use Rattle.rz_tools_answer.specs.Plan.{write_of};
+ghost use Rattle.rz_tools_answer.specs.Plans.{Plans};
+ghost use Rattle.rz_tools_answer.specs.WellFormed.{AreWritable};
 ghost use Rattle.rz_core.specs.Answers.{Then};
-ghost use Rattle.rz_core.specs.Stop.{Meets, OnFault, IsReadFault, OnRefusal, Yields};
+ghost use Rattle.rz_core.specs.Stop.{Meets, OnFault};
 ghost use Rattle.rz_core.specs.Message.{IsNameable};
 ghost use Rattle.rz_bridge_files.specs.Names.{Named};
+ghost use Rattle.rz_folder.specs.Finds.{Finds};
 ghost use Rattle.rz_folder.specs.MayRead.{MayRead};
+ghost use Rattle.rz_folder_paths.specs.Names.{IsUnplaced};
 ghost use Rattle.rz_bridge_form.specs.DataFile.{IsDataFile};
-ghost use Rattle.rz_folder.specs.OnlyReads.{OnlyReads};
 ghost use Rattle.rz_tools_args.specs.Held.{items_of};
-ghost use Rattle.rz_tools_output.specs.Bridge.{bridge, bridge_asked, writes_of, AnswersBridge, AreWrites, Bridges, HasBeside, IsHeld, IsRead, IsWrittenAs, BridgeAsks};
+ghost use Rattle.rz_tools_output.specs.Bridge.{bridge, bridge_asked, writes_of, AnswersBridge, AreWrites, Bridges, HasBeside, IsRead, IsWrittenAs, BridgeAsks};
 
-use crate::base::form_or;
-use crate::halted::halted;
+use crate::base::{form_or, read_or_empty};
 use rz_bridge::MacFile;
 use rz_bridge_files::{file_in, named, write_as};
 use rz_bridge_form::{Form, data_file_name};
 use rz_core::{Bytes, Fault, FileNames, Halt, NoMemory, Stop};
-use rz_folder::{Folder, Read};
-use rz_folder_paths::missing_file;
-use rz_tools_answer::{Plan, Write, Writes};
+use rz_folder::Folder;
+use rz_folder_paths::read_present;
+use rz_tools_answer::{Faults, Plan, Write, Writes, say_stop};
 use rz_tools_args::{Command, Flag};
 use std::alloc::Global;
 use std::convert::Infallible;
@@ -82,15 +82,15 @@ pub fn plan_bridge<F: Folder>(
     words: &BridgeWords<'_>,
 ) -> Result<Plan, Halt<Infallible>>
     requires { MayRead F.Folder folder.old (BridgeAsks (bridge words.now)) }
-    ensures answered { IfSome (F.files folder.old) (λ files. IfOk result (λ plan. AnswersBridge (bridge words.now) files (answer_of plan))) }
-    ensures well_formed { IfOk result (λ plan. IsWellFormed (answer_of plan)) }
-    ensures writable { IfOk result (λ plan. AreWritable (answer_of plan).writes) }
-    ensures no_usage { IfOk result (λ plan. IsNoUsage plan.outcome) }
-    ensures reads { OnlyReads F.Folder folder.old folder.new (result ≡ Err ReadFault) }
+    ensures { Plans F.Folder folder.old folder.new result (AnswersBridge (bridge words.now)) }
 {
     match bridge_file(alloc, folder, words) {
         Ok(writes) => Ok(Plan::writing(alloc, writes)),
-        Err(halt) => halted(alloc, halt),
+        Err(halt) => {
+            let warnings = Faults::new(alloc);
+            let stop = say_stop(alloc, halt, &warnings, FileNames::new(alloc));
+            Plan::stopped(alloc, stop)
+        }
     }
 }
 
@@ -101,15 +101,10 @@ fn bridge_file<F: Folder>(
     words: &BridgeWords<'_>,
 ) -> Result<Writes, Halt<Fault>>
     requires { MayRead F.Folder folder.old (BridgeAsks (bridge words.now)) }
-    ensures writes { IfSome (F.files folder.old) (λ files. Yields (writes_of result) (Bridges (bridge words.now) files)) }
-    ensures writable { IfOk result (λ writes. AreWritable (map write_of writes)) }
-    ensures nameable { (files : ℕ) → OnRefusal result (IsNameable files) }
-    ensures reads { OnlyReads F.Folder folder.old folder.new (IsReadFault result) }
+    ensures { Finds F.Folder folder.old folder.new (writes_of result) (Bridges (bridge words.now)) AreWritable IsUnplaced }
 {
-    match read_whole(alloc, folder, words) {
-        Ok(file) => Ok(written_as(alloc, words, file)?),
-        Err(halt) => Err(halt),
-    }
+    let file = read_whole(alloc, folder, words)?;
+    Ok(written_as(alloc, words, file)?)
 }
 
 /// What the file holds, with the data file of AppleDouble beside it.
@@ -119,39 +114,14 @@ fn read_whole<F: Folder>(
     words: &BridgeWords<'_>,
 ) -> Result<MacFile, Halt<Fault>>
     requires { MayRead F.Folder folder.old (BridgeAsks (bridge words.now)) }
-    ensures file { IfSome (F.files folder.old) (λ files. Yields result (IsRead (bridge words.now) files (finite.get files (string_bytes words.now.file)))) }
-    ensures short { IfOk result (λ file. length file.res_fork < 2 ^ 32) }
-    ensures nameable { (files : ℕ) → OnRefusal result (IsNameable files) }
-    ensures reads { OnlyReads F.Folder folder.old folder.new (IsReadFault result) }
+    ensures { Finds F.Folder folder.old folder.new result (λ files. IsRead (bridge words.now) files (finite.get files (bridge words.now).file))
+        (λ file. length file.res_fork < 2 ^ 32) IsUnplaced }
 {
     let name = words.file.as_str();
-    match folder.read(alloc, name) {
-        Read::Bytes(bytes) => read_held(alloc, folder, words, bytes),
-        Read::Missing => Err(Halt::Refused(missing_file(alloc, None, name.as_bytes())?)),
-        Read::Failed => Err(Halt::ReadFault),
-        Read::NoMemory => Err(Halt::NoMemory),
-    }
-}
-
-/// What bytes hold, with the data file of AppleDouble beside the file.
-fn read_held<F: Folder>(
-    alloc: Global,
-    folder: &mut F,
-    words: &BridgeWords<'_>,
-    bytes: Bytes,
-) -> Result<MacFile, Halt<Fault>>
-    requires short { length bytes < 2 ^ 32 }
-    requires may { MayRead F.Folder folder.old (IsDataFile (bridge words.now).file) }
-    ensures file { IfSome (F.files folder.old) (λ files. Yields result (IsHeld (bridge words.now) files bytes)) }
-    ensures short { IfOk result (λ file. length file.res_fork < 2 ^ 32) }
-    ensures nameable { (files : ℕ) → OnRefusal result (IsNameable files) }
-    ensures reads { OnlyReads F.Folder folder.old folder.new (IsReadFault result) }
-{
+    let bytes = read_present(alloc, folder, name)?;
     let form = form_or(words.from, bytes.as_slice());
-    match read_beside(alloc, folder, form, words.file.as_str()) {
-        Ok(data_file) => Ok(file_in(alloc, words.from, bytes, data_file, None)?),
-        Err(halt) => Err(halt),
-    }
+    let data_file = read_beside(alloc, folder, form, name)?;
+    Ok(file_in(alloc, words.from, bytes, data_file, None)?)
 }
 
 /// The data file beside a header file of AppleDouble; it is empty where there is none, and no other form has one.
@@ -162,20 +132,13 @@ fn read_beside<F: Folder>(
     header: &str,
 ) -> Result<Bytes, Halt<Fault>>
     requires { MayRead F.Folder folder.old (IsDataFile header.now) }
-    ensures data_file { IfSome (F.files folder.old) (λ files. IfOk result (HasBeside form header.now files)) }
-    ensures unrefused { OnRefusal result (λ _. ⊥) }
-    ensures reads { OnlyReads F.Folder folder.old folder.new (IsReadFault result) }
+    ensures { Finds F.Folder folder.old folder.new result (λ files answer. IsOkAnd answer (HasBeside form header.now files)) (λ _. Unit {0}) IsUnplaced }
 {
     if !matches!(form, Form::AppleDouble) {
         return Ok(Bytes::new(alloc));
     }
     let name = data_file_name(alloc, header)?;
-    match folder.read(alloc, name.as_str()) {
-        Read::Bytes(bytes) => Ok(bytes),
-        Read::Missing => Ok(Bytes::new(alloc)),
-        Read::Failed => Err(Halt::ReadFault),
-        Read::NoMemory => Err(Halt::NoMemory),
-    }
+    read_or_empty(alloc, folder, name.as_str())
 }
 
 /// What is to be written of a file, which takes a name where it has none.

@@ -1,26 +1,20 @@
 //! `det`: the rules that a fork breaks, as text. What it answers is in `specs/Det`.
 
-ghost use Rattle.std.specs.Prelude.{◌≡◌, ◌<◌, ◌^◌, ℕ, length, Err, IfOk, IfSome};
-ghost use Rattle.std.specs.FinMap as finite;
-ghost use Rattle.std.specs.String.{string_bytes};
-ghost use Rattle.rz_core.specs.Message.{IsNameable};
-ghost use Rattle.rz_core.specs.Stop.{IsReadFault, OnRefusal, Yields};
-ghost use Rattle.rz_core.specs.declared.stop.Halt.TheVariants.{ReadFault};
-ghost use Rattle.rz_folder.specs.OnlyReads.{OnlyReads};
-ghost use Rattle.rz_tools_answer.specs.Plan.{answer_of, IsNoUsage};
-ghost use Rattle.rz_tools_answer.specs.WellFormed.{AreWritable, IsWellFormed};
+ghost use Rattle.std.specs.Prelude.{◌≡◌, IfOk};
+ghost use Rattle.rz_folder.specs.Finds.{Finds};
+ghost use Rattle.rz_folder_paths.specs.Names.{IsUnplaced};
+ghost use Rattle.rz_tools_answer.specs.Plans.{Plans};
 ghost use Rattle.rz_tools_args.specs.Held.{items_of};
-ghost use Rattle.rz_tools_output.specs.Det.{breaks_in, breaks_of, det, det_asked, AnswersDet};
+ghost use Rattle.rz_tools_output.specs.Det.{det, det_asked, AnswersDet, HasBreaks};
 
 use crate::bridge::first_of;
-use crate::halted::halted;
 use rz_bridge_files::file_in;
 use rz_bridge_form::Form;
-use rz_core::{Bytes, Fault, Halt, NoMemory};
+use rz_core::{Bytes, Fault, FileNames, Halt, NoMemory};
 use rz_det::breaks_text;
-use rz_folder::{Folder, Read};
-use rz_folder_paths::missing_file;
-use rz_tools_answer::{Made, Plan};
+use rz_folder::Folder;
+use rz_folder_paths::read_present;
+use rz_tools_answer::{Faults, Plan, say_beside};
 use rz_tools_args::{Command, Flag};
 use std::alloc::Global;
 use std::convert::Infallible;
@@ -59,19 +53,13 @@ pub fn plan_det<F: Folder>(
     words: &DetWords,
 ) -> Result<Plan, Halt<Infallible>>
     requires { F.may_read folder.old (det words.now).file }
-    ensures answered { IfSome (F.files folder.old) (λ files. IfOk result (λ plan. AnswersDet (det words.now) files (answer_of plan))) }
-    ensures well_formed { IfOk result (λ plan. IsWellFormed (answer_of plan)) }
-    ensures writable { IfOk result (λ plan. AreWritable (answer_of plan).writes) }
-    ensures no_usage { IfOk result (λ plan. IsNoUsage plan.outcome) }
-    ensures reads { OnlyReads F.Folder folder.old folder.new (result ≡ Err ReadFault) }
+    ensures { Plans F.Folder folder.old folder.new result (AnswersDet (det words.now)) }
 {
-    match read_breaks(alloc, folder, words) {
-        Ok(bytes) => {
-            let said = Bytes::new(alloc);
-            Ok(Plan::shown(alloc, Made { bytes, said }))
-        }
-        Err(halt) => halted(alloc, halt),
-    }
+    let text = read_breaks(alloc, folder, words);
+    let warnings = Faults::new(alloc);
+    let files = FileNames::new(alloc);
+    let made = say_beside(alloc, text, &warnings, files);
+    Plan::to_show(alloc, made)
 }
 
 /// The text for the file of this name.
@@ -81,26 +69,9 @@ fn read_breaks<F: Folder>(
     words: &DetWords,
 ) -> Result<Bytes, Halt<Fault>>
     requires { F.may_read folder.old (det words.now).file }
-    ensures text { IfSome (F.files folder.old) (λ files. Yields result (λ answer. breaks_of (det words.now) (finite.get files (string_bytes words.now.file)) ≡ answer)) }
-    ensures nameable { (files : ℕ) → OnRefusal result (IsNameable files) }
-    ensures reads { OnlyReads F.Folder folder.old folder.new (IsReadFault result) }
+    ensures { Finds F.Folder folder.old folder.new result (HasBreaks (det words.now)) (λ _. Unit {0}) IsUnplaced }
 {
-    let name = words.file.as_str();
-    match folder.read(alloc, name) {
-        Read::Bytes(bytes) => breaks_in(alloc, words.from, bytes),
-        Read::Missing => Err(Halt::Refused(missing_file(alloc, None, name.as_bytes())?)),
-        Read::Failed => Err(Halt::ReadFault),
-        Read::NoMemory => Err(Halt::NoMemory),
-    }
-}
-
-/// The text for a file of these bytes.
-fn breaks_in(alloc: Global, from: Option<Form>, bytes: Bytes) -> Result<Bytes, Halt<Fault>>
-    requires { length bytes < 2 ^ 32 }
-    ensures text { Yields result (λ answer. breaks_in from bytes ≡ answer) }
-    ensures nameable { (files : ℕ) → OnRefusal result (IsNameable files) }
-    ensures unread { IsReadFault result → ⊥ }
-{
-    let file = file_in(alloc, from, bytes, Bytes::new(alloc), None)?;
+    let bytes = read_present(alloc, folder, words.file.as_str())?;
+    let file = file_in(alloc, words.from, bytes, Bytes::new(alloc), None)?;
     Ok(breaks_text(alloc, file.res_fork.as_slice())?)
 }

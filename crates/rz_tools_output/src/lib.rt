@@ -15,7 +15,6 @@
 mod base;
 mod bridge;
 mod det;
-mod halted;
 mod list;
 mod output;
 mod target;
@@ -23,7 +22,6 @@ mod target;
 pub use base::{Base, Beginning, all_short, read_base, read_held};
 pub use bridge::{BridgeWords, plan_bridge};
 pub use det::{DetWords, plan_det};
-pub use halted::halted as plan_halted;
 pub use list::read_list;
 pub use output::write_output;
 pub use target::Target;

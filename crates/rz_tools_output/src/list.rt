@@ -1,24 +1,23 @@
 //! `list`: the text of a file, which is put piece by piece. What it answers is in `specs/List`.
 
-ghost use Rattle.std.specs.Prelude.{◌≡◌, ◌<◌, ◌^◌, ℕ, length, Ok, IfErr, IfOk, IfSome, OnOk};
-ghost use Rattle.std.specs.FinMap as finite;
-ghost use Rattle.std.specs.String.{string_bytes};
+ghost use Rattle.std.specs.Prelude.{◌≡◌, ◌<◌, ◌^◌, ℕ, length, Ok, IfErr, IfOk, OnOk};
 ghost use Rattle.rz_bridge_files.specs.Contents.{admit_fork};
 ghost use Rattle.rz_core.specs.Message.{IsNameable};
-ghost use Rattle.rz_core.specs.Stop.{seen, IsReadFault, OnRefusal, Yields};
-ghost use Rattle.rz_folder.specs.OnlyReads.{OnlyReads};
+ghost use Rattle.rz_core.specs.Stop.{seen, Gives, OnFault};
+ghost use Rattle.rz_folder.specs.Finds.{Finds};
+ghost use Rattle.rz_folder_paths.specs.Names.{IsUnplaced};
 ghost use Rattle.rz_fork.specs.Contents.{Fork};
 ghost use Rattle.rz_list.specs.Held.{text_of, IsWhole};
 ghost use Rattle.rz_tools_output.specs.Det.{det};
-ghost use Rattle.rz_tools_output.specs.List.{listed_in, listed_of};
+ghost use Rattle.rz_tools_output.specs.List.{listed_in, HasList};
 
 use crate::base::form_or;
 use crate::det::DetWords;
 use rz_bridge_files::{admit_fork, file_in};
 use rz_bridge_form::Form;
-use rz_core::{Bytes, Fault, Halt};
-use rz_folder::{Folder, Read};
-use rz_folder_paths::missing_file;
+use rz_core::{Bytes, Fault, Halt, Stop};
+use rz_folder::Folder;
+use rz_folder_paths::read_present;
 use rz_list::FileText;
 use std::alloc::Global;
 
@@ -33,33 +32,25 @@ pub fn read_list<F: Folder>(
     words: &DetWords,
 ) -> Result<FileText, Halt<Fault>>
     requires { F.may_read folder.old (det words.now).file }
-    ensures text { IfSome (F.files folder.old) (λ files. Yields (seen text_of result) (λ answer. listed_of (det words.now) (finite.get files (string_bytes words.now.file)) ≡ answer)) }
+    ensures text { Finds F.Folder folder.old folder.new (seen text_of result) (HasList (det words.now)) (λ _. Unit {0}) IsUnplaced }
     ensures whole { IfOk result IsWhole }
-    ensures nameable { (files : ℕ) → OnRefusal result (IsNameable files) }
-    ensures reads { OnlyReads F.Folder folder.old folder.new (IsReadFault result) }
 {
-    let name = words.file.as_str();
-    match folder.read(alloc, name) {
-        Read::Bytes(bytes) => text_in(alloc, words.from, bytes),
-        Read::Missing => Err(Halt::Refused(missing_file(alloc, None, name.as_bytes())?)),
-        Read::Failed => Err(Halt::ReadFault),
-        Read::NoMemory => Err(Halt::NoMemory),
-    }
+    let bytes = read_present(alloc, folder, words.file.as_str())?;
+    Ok(text_in(alloc, words.from, bytes)?)
 }
 
 /// The text of a file of these bytes.
-fn text_in(alloc: Global, from: Option<Form>, bytes: Bytes) -> Result<FileText, Halt<Fault>>
+fn text_in(alloc: Global, from: Option<Form>, bytes: Bytes) -> Result<FileText, Stop<Fault>>
     requires { length bytes < 2 ^ 32 }
-    ensures text { Yields (seen text_of result) (λ answer. listed_in from bytes ≡ answer) }
+    ensures text { Gives (listed_in from bytes) (seen text_of result) }
     ensures whole { IfOk result IsWhole }
-    ensures nameable { (files : ℕ) → OnRefusal result (IsNameable files) }
-    ensures unread { IsReadFault result → ⊥ }
+    ensures nameable { (files : ℕ) → OnFault result (IsNameable files) }
 {
     let form = form_or(from, bytes.as_slice());
     let file = file_in(alloc, Some(form), bytes, Bytes::new(alloc), None)?;
     match check_fork(file.res_fork.as_slice()) {
         Ok(()) => Ok(FileText { form, file }),
-        Err(fault) => Err(Halt::Refused(fault)),
+        Err(fault) => Err(Stop::Refused(fault)),
     }
 }
 
@@ -70,8 +61,6 @@ fn check_fork(fork: &[u8]) -> Result<(), Fault>
     ensures err { IfErr result (λ fault. admit_fork None fork.now ≡ Err fault) }
     ensures nameable { (files : ℕ) → IfErr result (IsNameable files) }
 {
-    match admit_fork(fork, None) {
-        Ok(_) => Ok(()),
-        Err(fault) => Err(fault),
-    }
+    admit_fork(fork, None)?;
+    Ok(())
 }

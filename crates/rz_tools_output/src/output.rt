@@ -39,10 +39,8 @@ pub fn write_output(
     ensures short { IfOk result (λ bytes. length bytes < 2 ^ 32) }
 {
     let attributes = attributes_asked(into.read_only, &base);
-    match write_list(alloc, list, attributes, base.reserved.as_slice()) {
-        Ok(fork) => write_file(alloc, into, base, fork, moment),
-        Err(stop) => Err(stop),
-    }
+    let fork = write_list(alloc, list, attributes, base.reserved.as_slice())?;
+    write_file(alloc, into, base, fork, moment)
 }
 
 /// The attributes of the map that is written.

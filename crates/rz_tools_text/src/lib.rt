@@ -15,5 +15,5 @@ mod text;
 
 pub use chosen::is_chosen;
 pub use laws::{every_list_is_shown, one_shown_text};
-pub use shown::Known;
+pub use shown::{Known, facts_of};
 pub use text::ForkText;

@@ -102,8 +102,8 @@ fn put_lines<O: Sink>(lines: ShowLines<'_>, out: &mut O) -> Put
     Put::Done
 }
 
-/// What is known of a resource that is lent beside its bytes.
-fn facts_of(alloc: Global, view: &ResView<'_>, moment: Moment) -> Result<Facts, NoMemory>
+/// What is known of a resource that is lent beside its bytes. Its name is copied.
+pub fn facts_of(alloc: Global, view: &ResView<'_>, moment: Moment) -> Result<Facts, NoMemory>
     ensures { IfOk result (λ facts. facts ≡ facts_of moment (lent view.now)) }
 {
     Ok(Facts {

@@ -1,20 +1,21 @@
 //! The file whose 'TMPL' resources declare types. What they declare is in `specs/Templates`.
 
-ghost use Rattle.std.specs.Prelude.{◌<◌, ◌^◌, ℕ, length, option_map, IfSome, None};
+ghost use Rattle.std.specs.Prelude.{◌<◌, ◌^◌, ℕ, length, option_map, None};
 ghost use Rattle.std.specs.FinMap as finite;
 ghost use Rattle.rz_core.specs.Message.{IsNameable};
-ghost use Rattle.rz_core.specs.Stop.{seen, IsReadFault, OnRefusal, Yields};
+ghost use Rattle.rz_core.specs.Stop.{seen, Meets, OnFault};
 ghost use Rattle.rz_bridge_files.specs.Contents.{fork_in};
+ghost use Rattle.rz_folder.specs.Finds.{Finds};
 ghost use Rattle.rz_folder.specs.MayRead.{IsIt, MayRead};
-ghost use Rattle.rz_folder.specs.OnlyReads.{OnlyReads};
+ghost use Rattle.rz_folder_paths.specs.Names.{IsUnplaced};
 ghost use Rattle.rz_types_table.specs.TypeTable.{table_of};
 ghost use Rattle.rz_tools_tmpl.specs.Templates.{TypesAt, TypesIn, TypesOf};
 
 use crate::declared::declared_by;
 use rz_bridge_files::{admit_fork, file_in};
-use rz_core::{Bytes, Fault, Halt};
-use rz_folder::{Folder, Read};
-use rz_folder_paths::missing_file;
+use rz_core::{Bytes, Fault, Halt, Stop};
+use rz_folder::Folder;
+use rz_folder_paths::read_present;
 use rz_types_table::TypeTable;
 use std::alloc::Global;
 
@@ -36,9 +37,7 @@ pub fn read_templates<F: Folder>(
     name: Option<&str>,
 ) -> Result<TypeTable, Halt<Fault>>
     requires { MayRead F.Folder folder.old (IsIt (option_map (λ name. name.now) name)) }
-    ensures types { IfSome (F.files folder.old) (λ files. Yields (seen table_of result) (TypesOf (option_map (λ name. name.now) name.entry) files)) }
-    ensures nameable { (files : ℕ) → OnRefusal result (IsNameable files) }
-    ensures reads { OnlyReads F.Folder folder.old folder.new (IsReadFault result) }
+    ensures { Finds F.Folder folder.old folder.new (seen table_of result) (TypesOf (option_map (λ name. name.now) name.entry)) (λ _. Unit {0}) IsUnplaced }
 {
     match name {
         Some(name) => templates_at(alloc, folder, name),
@@ -53,28 +52,21 @@ fn templates_at<F: Folder>(
     name: &str,
 ) -> Result<TypeTable, Halt<Fault>>
     requires { F.may_read folder.old name.now }
-    ensures types { IfSome (F.files folder.old) (λ files. Yields (seen table_of result) (TypesAt name.now (finite.get files name.now))) }
-    ensures nameable { (files : ℕ) → OnRefusal result (IsNameable files) }
-    ensures reads { OnlyReads F.Folder folder.old folder.new (IsReadFault result) }
+    ensures { Finds F.Folder folder.old folder.new (seen table_of result) (λ files. TypesAt name.now (finite.get files name.now)) (λ _. Unit {0}) IsUnplaced }
 {
-    match folder.read(alloc, name) {
-        Read::Bytes(bytes) => templates_in(alloc, bytes),
-        Read::Missing => Err(Halt::Refused(missing_file(alloc, None, name.as_bytes())?)),
-        Read::Failed => Err(Halt::ReadFault),
-        Read::NoMemory => Err(Halt::NoMemory),
-    }
+    let bytes = read_present(alloc, folder, name)?;
+    Ok(templates_in(alloc, bytes)?)
 }
 
 /// Those of a file of these bytes.
-fn templates_in(alloc: Global, bytes: Bytes) -> Result<TypeTable, Halt<Fault>>
+fn templates_in(alloc: Global, bytes: Bytes) -> Result<TypeTable, Stop<Fault>>
     requires { length bytes < 2 ^ 32 }
-    ensures types { Yields (seen table_of result) (TypesIn (fork_in None None bytes)) }
-    ensures nameable { (files : ℕ) → OnRefusal result (IsNameable files) }
-    ensures unread { IsReadFault result → ⊥ }
+    ensures types { Meets (seen table_of result) (TypesIn (fork_in None None bytes)) }
+    ensures nameable { (files : ℕ) → OnFault result (IsNameable files) }
 {
     let file = file_in(alloc, None, bytes, Bytes::new(alloc), None)?;
     match admit_fork(file.res_fork.as_slice(), None) {
-        Ok(fork) => Ok(declared_by(alloc, &fork)?),
-        Err(fault) => Err(Halt::Refused(fault)),
+        Ok(fork) => declared_by(alloc, &fork),
+        Err(fault) => Err(Stop::Refused(fault)),
     }
 }

@@ -1,35 +1,32 @@
-use Rattle.std.proofs.Common.{◌≡◌, ℕ, List, [], rules, sym, ap, subst, ◌∙◌, refl}
-use Rattle.std.specs.FinMap as finite
-use Rattle.std.specs.Prelude.{IfOk, IfSome}
-use Rattle.rz_core.specs.declared.stop.Halt.TheVariants.{ReadFault}
-use Rattle.rz_folder.proofs.Reading.{reads_as}
+use Rattle.std.proofs.Common.{◌≡◌, ℕ, List, [], arith, sym, ap, subst, ◌∙◌, refl}
+use Rattle.std.specs.Prelude.{IfOk}
+use Rattle.rz_folder.proofs.Allowed.{may_read_these}
+use Rattle.rz_folder.specs.MayRead.{MayRead, MayReadOf}
 use Rattle.rz_pre.specs.Lexed.{HaveLexedTexts}
-use Rattle.rz_tools_answer.proofs.Warnings.{no_lines}
-use Rattle.rz_tools_answer.specs.Answer.{shown}
-use Rattle.rz_tools_answer.specs.WellFormed.{IsWellFormed}
-use Rattle.rz_tools_answer.specs.declared.outcome.Outcome.TheVariants.{Done}
-use Rattle.rz_tools.specs.Again.{HoldsFile}
-use Rattle.rz_tools.specs.Reply.{outcome_of}
+use Rattle.rz_tools_answer.proofs.Planning.{plans_made}
+use Rattle.rz_tools_answer.specs.Answer.{shown, written}
+use Rattle.rz_tools_answer.specs.Help.{help_text, version_text}
 use Rattle.rz_tools_args.specs.Command.{places_of}
 use Rattle.rz_tools_args.specs.Held.{items_of}
-use Rattle.rz_tools_args.specs.declared.name.CommandName.TheVariants as names
-use Rattle.rz_tools.specs.DeRez.{derez_asked, DeRezAsked}
-use Rattle.rz_tools.specs.Held.{derez, restring, rez, strings}
-use Rattle.rz_tools.specs.Restring.{restring_asked, RestringAsked}
-use Rattle.rz_tools.specs.Strings.{strings_asked, StringsAsked}
-use Rattle.rz_tools.specs.Rez.{rez_asked, RezAsked}
-use Rattle.rz_tools_output.specs.Bridge.{bridge, bridge_asked, BridgeAsks, BridgeAsked}
-use Rattle.rz_tools_output.specs.Det.{det, det_asked, DetAsked}
-use Rattle.rz_tools.proofs.Planned.{as_bridge, as_derez, as_det, as_held, as_list, as_named, as_planned, as_restring, as_rez, as_sample, as_strings, plan_named}
-use Rattle.rz_tools.proofs.Replied.{plan_end, plan_held, plan_no_usage, plan_sound}
-use Rattle.rz_folder.specs.MayRead.{MayRead, MayReadOf}
 use Rattle.rz_tools_args.specs.declared.name.CommandName.{CommandName}
+use Rattle.rz_tools_args.specs.declared.name.CommandName.TheVariants as names
+use Rattle.rz_tools_output.specs.Bridge.{bridge_asked, AnswersBridge, BridgeAsks, BridgeAsked}
+use Rattle.rz_tools_output.specs.Det.{det_asked, AnswersDet, DetAsked}
+use Rattle.rz_tools_output.specs.List.{AnswersList}
+use Rattle.rz_tools.proofs.Commands.{named, planned_as, plans_shown, replies_none, sampled_answers, sampled_replies, text_replies}
 use Rattle.rz_tools.specs.Asked.{CommandAsks, DeRezAsks, RestringAsks, RezAsks, StringsAsk}
-use Rattle.rz_folder.proofs.Allowed.{may_read_these}
+use Rattle.rz_tools.specs.DeRez.{AnswersDeRez, DeRezAsked}
+use Rattle.rz_tools.specs.Held.{restring, rez, strings}
+use Rattle.rz_tools.specs.Program.{AnswersItems, IsFileless}
+use Rattle.rz_tools.specs.Reply.{EachAnswer}
+use Rattle.rz_tools.specs.Restring.{AnswersRestring, RestringAsked, Restrings}
+use Rattle.rz_tools.specs.Rez.{AnswersRez, Compiles, RezAsked}
+use Rattle.rz_tools.specs.Shown.{ShowsFile}
+use Rattle.rz_tools.specs.Strings.{AnswersStrings, Lists, StringsAsked}
 use Rattle.rz_tools.proofs.answer.answer_command.Goals as goal
 
-pub plan_rez-plan-requires-clause-may : goal.plan_rez-plan-requires-clause-may
-plan_rez-plan-requires-clause-may g c =
+pub compile-made-requires-clause-may : goal.compile-made-requires-clause-may
+compile-made-requires-clause-may g c =
     subst (λ (a : RezAsked). MayReadOf g.F.Folder c.args.folder.now (RezAsks a)) (sym c.in_ok-words-in-Rez.ensures)
     (subst (λ (name : CommandName). MayReadOf g.F.Folder c.args.folder.now (CommandAsks name (items_of c.args.command))) c.in-Rez.is c.requires.may)
 
@@ -38,13 +35,13 @@ answer_derez-requires-clause-may g c =
     subst (λ (a : DeRezAsked). MayReadOf g.F.Folder c.args.folder.now (DeRezAsks a)) (sym c.in_ok-words-in-DeRez.ensures)
     (subst (λ (name : CommandName). MayReadOf g.F.Folder c.args.folder.now (CommandAsks name (items_of c.args.command))) c.in-DeRez.is c.requires.may)
 
-pub plan_strings-plan-requires-clause-may : goal.plan_strings-plan-requires-clause-may
-plan_strings-plan-requires-clause-may g c =
+pub list_strings-made-requires-clause-may : goal.list_strings-made-requires-clause-may
+list_strings-made-requires-clause-may g c =
     subst (λ (a : StringsAsked). MayReadOf g.F.Folder c.args.folder.now (StringsAsk a)) (sym c.in_ok-words-in-Strings.ensures)
     (subst (λ (name : CommandName). MayReadOf g.F.Folder c.args.folder.now (CommandAsks name (items_of c.args.command))) c.in-Strings.is c.requires.may)
 
-pub plan_restring-plan-requires-clause-may : goal.plan_restring-plan-requires-clause-may
-plan_restring-plan-requires-clause-may g c =
+pub restring_fork-made-requires-clause-may : goal.restring_fork-made-requires-clause-may
+restring_fork-made-requires-clause-may g c =
     subst (λ (a : RestringAsked). MayReadOf g.F.Folder c.args.folder.now (RestringAsks a)) (sym c.in_ok-words-in-Restring.ensures)
     (subst (λ (name : CommandName). MayReadOf g.F.Folder c.args.folder.now (CommandAsks name (items_of c.args.command))) c.in-Restring.is c.requires.may)
 
@@ -69,164 +66,173 @@ answer_list-reply-requires g c =
     (subst (λ (name : CommandName). MayReadOf g.F.Folder c.args.folder.now (CommandAsks name (items_of c.args.command))) c.in-List.is c.requires.may)
     (λ name. name ≡ (det_asked (items_of c.args.command)).file) (λ files told name is. is) (det_asked (items_of c.args.command)).file refl)
 
-pub plan_rez-plan-requires-clause-lexed : goal.plan_rez-plan-requires-clause-lexed
-plan_rez-plan-requires-clause-lexed g c = subst HaveLexedTexts (sym (ap (λ (a : RezAsked). a.defs) c.in_ok-words-in-Rez.ensures)) c.requires.lexed
+pub compile-made-requires-clause-lexed : goal.compile-made-requires-clause-lexed
+compile-made-requires-clause-lexed g c = subst HaveLexedTexts (sym (ap (λ (a : RezAsked). a.defs) c.in_ok-words-in-Rez.ensures)) c.requires.lexed
 
 pub answer_derez-requires-clause-lexed : goal.answer_derez-requires-clause-lexed
 answer_derez-requires-clause-lexed g c = subst HaveLexedTexts (sym (ap (λ (a : DeRezAsked). a.types.defs) c.in_ok-words-in-DeRez.ensures)) c.requires.lexed
 
-pub plan_strings-plan-requires-clause-lexed : goal.plan_strings-plan-requires-clause-lexed
-plan_strings-plan-requires-clause-lexed g c = subst HaveLexedTexts (sym (ap (λ (a : StringsAsked). a.types.defs) c.in_ok-words-in-Strings.ensures)) c.requires.lexed
+pub list_strings-made-requires-clause-lexed : goal.list_strings-made-requires-clause-lexed
+list_strings-made-requires-clause-lexed g c = subst HaveLexedTexts (sym (ap (λ (a : StringsAsked). a.types.defs) c.in_ok-words-in-Strings.ensures)) c.requires.lexed
 
-pub plan_restring-plan-requires-clause-lexed : goal.plan_restring-plan-requires-clause-lexed
-plan_restring-plan-requires-clause-lexed g c = subst HaveLexedTexts (sym (ap (λ (a : RestringAsked). a.types.defs) c.in_ok-words-in-Restring.ensures)) c.requires.lexed
+pub restring_fork-made-requires-clause-lexed : goal.restring_fork-made-requires-clause-lexed
+restring_fork-made-requires-clause-lexed g c = subst HaveLexedTexts (sym (ap (λ (a : RestringAsked). a.types.defs) c.in_ok-words-in-Restring.ensures)) c.requires.lexed
 
--- Plans.
+-- Commands that read files.
 
-pub returns-in_ok-words-in-Rez-clause-answered : goal.returns-in_ok-words-in-Rez-clause-answered
-returns-in_ok-words-in-Rez-clause-answered g c =
-    plan_named c.args.command.name names.Rez (items_of c.args.command) c.args.moment c.in-Rez.is (g.F.Folder.files c.args.folder.now)
-    c.plan_rez-plan.result c.planned.result c.planned.ensures
-    (as_rez c.args.moment (g.F.Folder.files c.args.folder.now) c.plan_rez-plan.result (rez c.in_ok-words-in-Rez.words) (rez_asked (items_of c.args.command)) c.in_ok-words-in-Rez.ensures
-    c.plan_rez-plan.ensures.answered)
+pub returns-in_ok-words-in-Rez-clause-replies : goal.returns-in_ok-words-in-Rez-clause-replies
+returns-in_ok-words-in-Rez-clause-replies g c =
+    planned_as g.F.Folder c.args.command.name names.Rez (items_of c.args.command) c.args.moment c.in-Rez.is c.to_write-plan.result c.planned.result c.planned.ensures
+    (plans_made g.F.Folder (written (rez c.in_ok-words-in-Rez.words).target.name) (Compiles c.args.moment (rez c.in_ok-words-in-Rez.words)) c.compile-made.result c.compile-made.ensures c.to_write-plan.ensures)
+    (λ files answer is. (subst (λ (a : RezAsked). AnswersRez a files c.args.moment answer) c.in_ok-words-in-Rez.ensures is, tt))
 
-pub returns-in_ok-words-in-Rez-clause-sound : goal.returns-in_ok-words-in-Rez-clause-sound
-returns-in_ok-words-in-Rez-clause-sound g c = plan_sound c.plan_rez-plan.result c.planned.result c.planned.ensures c.plan_rez-plan.ensures.well_formed c.plan_rez-plan.ensures.writable
+pub returns-in_ok-words-in-DeRez-clause-replies : goal.returns-in_ok-words-in-DeRez-clause-replies
+returns-in_ok-words-in-DeRez-clause-replies g c =
+    named g.F.Folder c.args.command.name names.DeRez (items_of c.args.command) c.args.moment c.in-DeRez.is c.answer_derez.result c.answer_derez.ensures
+    (λ files answer is. subst (λ (a : DeRezAsked). AnswersDeRez a files c.args.moment answer × ShowsFile a.file a.from files answer) c.in_ok-words-in-DeRez.ensures is)
 
-pub returns-in_ok-words-in-Rez-clause-no_usage : goal.returns-in_ok-words-in-Rez-clause-no_usage
-returns-in_ok-words-in-Rez-clause-no_usage g c = plan_no_usage c.plan_rez-plan.result c.planned.result c.planned.ensures c.plan_rez-plan.ensures.no_usage
+pub returns-in_ok-words-in-Bridge-clause-replies : goal.returns-in_ok-words-in-Bridge-clause-replies
+returns-in_ok-words-in-Bridge-clause-replies g c =
+    planned_as g.F.Folder c.args.command.name names.Bridge (items_of c.args.command) c.args.moment c.in-Bridge.is c.plan_bridge-plan.result c.planned-in-Bridge.result c.planned-in-Bridge.ensures
+    c.plan_bridge-plan.ensures (λ files answer is. (subst (λ (a : BridgeAsked). AnswersBridge a files answer) c.in_ok-words-in-Bridge.ensures is, tt))
 
-pub returns-in_ok-words-in-Rez-clause-reads : goal.returns-in_ok-words-in-Rez-clause-reads
-returns-in_ok-words-in-Rez-clause-reads g c =
-    reads_as g.F.Folder c.args.folder.now c.plan_rez-plan.new.folder
-    (plan_end c.plan_rez-plan.result c.planned.result c.planned.ensures ReadFault) c.plan_rez-plan.ensures.reads
+pub returns-in_ok-words-in-Det-clause-replies : goal.returns-in_ok-words-in-Det-clause-replies
+returns-in_ok-words-in-Det-clause-replies g c =
+    planned_as g.F.Folder c.args.command.name names.Det (items_of c.args.command) c.args.moment c.in-Det.is c.plan_det-plan.result c.planned-in-Det.result c.planned-in-Det.ensures
+    c.plan_det-plan.ensures (λ files answer is. (subst (λ (a : DetAsked). AnswersDet a files answer) c.in_ok-words-in-Det.ensures is, tt))
 
-pub returns-in_ok-words-in-Bridge-clause-answered : goal.returns-in_ok-words-in-Bridge-clause-answered
-returns-in_ok-words-in-Bridge-clause-answered g c =
-    plan_named c.args.command.name names.Bridge (items_of c.args.command) c.args.moment c.in-Bridge.is (g.F.Folder.files c.args.folder.now)
-    c.plan_bridge-plan.result c.planned-in-Bridge.result c.planned-in-Bridge.ensures
-    (as_bridge c.args.moment (g.F.Folder.files c.args.folder.now) c.plan_bridge-plan.result (bridge c.in_ok-words-in-Bridge.words) (bridge_asked (items_of c.args.command)) c.in_ok-words-in-Bridge.ensures
-    c.plan_bridge-plan.ensures.answered)
+pub returns-in_ok-words-in-List-clause-replies : goal.returns-in_ok-words-in-List-clause-replies
+returns-in_ok-words-in-List-clause-replies g c =
+    named g.F.Folder c.args.command.name names.List (items_of c.args.command) c.args.moment c.in-List.is c.answer_list-reply.result c.answer_list-reply.ensures
+    (λ files answer is. (subst (λ (a : DetAsked). AnswersList a files answer) c.in_ok-words-in-List.ensures is, tt))
 
-pub returns-in_ok-words-in-Bridge-clause-sound : goal.returns-in_ok-words-in-Bridge-clause-sound
-returns-in_ok-words-in-Bridge-clause-sound g c = plan_sound c.plan_bridge-plan.result c.planned-in-Bridge.result c.planned-in-Bridge.ensures c.plan_bridge-plan.ensures.well_formed c.plan_bridge-plan.ensures.writable
+pub returns-in_ok-words-in-Strings-clause-replies : goal.returns-in_ok-words-in-Strings-clause-replies
+returns-in_ok-words-in-Strings-clause-replies g c =
+    let asked = strings c.in_ok-words-in-Strings.words in
+    planned_as g.F.Folder c.args.command.name names.Strings (items_of c.args.command) c.args.moment c.in-Strings.is c.to_show.result c.planned-in-Strings.result c.planned-in-Strings.ensures
+    (plans_shown (Lists c.args.moment asked) asked.from asked.file g.F.Folder c.list_strings-made.result c.to_show.result c.list_strings-made.ensures c.to_show.ensures)
+    (λ files answer is. subst (λ (a : StringsAsked). AnswersStrings a files c.args.moment answer × ShowsFile a.file a.from files answer) c.in_ok-words-in-Strings.ensures is)
 
-pub returns-in_ok-words-in-Bridge-clause-no_usage : goal.returns-in_ok-words-in-Bridge-clause-no_usage
-returns-in_ok-words-in-Bridge-clause-no_usage g c = plan_no_usage c.plan_bridge-plan.result c.planned-in-Bridge.result c.planned-in-Bridge.ensures c.plan_bridge-plan.ensures.no_usage
+pub returns-in_ok-words-in-Restring-clause-replies : goal.returns-in_ok-words-in-Restring-clause-replies
+returns-in_ok-words-in-Restring-clause-replies g c =
+    let asked = restring c.in_ok-words-in-Restring.words in
+    planned_as g.F.Folder c.args.command.name names.Restring (items_of c.args.command) c.args.moment c.in-Restring.is
+    c.to_write-plan-in-Restring.result c.planned-in-Restring.result c.planned-in-Restring.ensures
+    (plans_made g.F.Folder (written asked.output) (Restrings c.args.moment asked) c.restring_fork-made.result c.restring_fork-made.ensures c.to_write-plan-in-Restring.ensures)
+    (λ files answer is. (subst (λ (a : RestringAsked). AnswersRestring a files c.args.moment answer) c.in_ok-words-in-Restring.ensures is, tt))
 
-pub returns-in_ok-words-in-Bridge-clause-reads : goal.returns-in_ok-words-in-Bridge-clause-reads
-returns-in_ok-words-in-Bridge-clause-reads g c =
-    reads_as g.F.Folder c.args.folder.now c.plan_bridge-plan.new.folder
-    (plan_end c.plan_bridge-plan.result c.planned-in-Bridge.result c.planned-in-Bridge.ensures ReadFault) c.plan_bridge-plan.ensures.reads
+pub returns-in_ok-words-in-Rez-clause-fileless : goal.returns-in_ok-words-in-Rez-clause-fileless
+returns-in_ok-words-in-Rez-clause-fileless g c is = absurd (subst IsFileless c.in-Rez.is is)
 
-pub returns-in_ok-words-in-Det-clause-answered : goal.returns-in_ok-words-in-Det-clause-answered
-returns-in_ok-words-in-Det-clause-answered g c =
-    plan_named c.args.command.name names.Det (items_of c.args.command) c.args.moment c.in-Det.is (g.F.Folder.files c.args.folder.now)
-    c.plan_det-plan.result c.planned-in-Det.result c.planned-in-Det.ensures
-    (as_det c.args.moment (g.F.Folder.files c.args.folder.now) c.plan_det-plan.result (det c.in_ok-words-in-Det.words) (det_asked (items_of c.args.command)) c.in_ok-words-in-Det.ensures
-    c.plan_det-plan.ensures.answered)
+pub returns-in_ok-words-in-DeRez-clause-fileless : goal.returns-in_ok-words-in-DeRez-clause-fileless
+returns-in_ok-words-in-DeRez-clause-fileless g c is = absurd (subst IsFileless c.in-DeRez.is is)
 
-pub returns-in_ok-words-in-Det-clause-sound : goal.returns-in_ok-words-in-Det-clause-sound
-returns-in_ok-words-in-Det-clause-sound g c = plan_sound c.plan_det-plan.result c.planned-in-Det.result c.planned-in-Det.ensures c.plan_det-plan.ensures.well_formed c.plan_det-plan.ensures.writable
+pub returns-in_ok-words-in-Bridge-clause-fileless : goal.returns-in_ok-words-in-Bridge-clause-fileless
+returns-in_ok-words-in-Bridge-clause-fileless g c is = absurd (subst IsFileless c.in-Bridge.is is)
 
-pub returns-in_ok-words-in-Det-clause-no_usage : goal.returns-in_ok-words-in-Det-clause-no_usage
-returns-in_ok-words-in-Det-clause-no_usage g c = plan_no_usage c.plan_det-plan.result c.planned-in-Det.result c.planned-in-Det.ensures c.plan_det-plan.ensures.no_usage
+pub returns-in_ok-words-in-Det-clause-fileless : goal.returns-in_ok-words-in-Det-clause-fileless
+returns-in_ok-words-in-Det-clause-fileless g c is = absurd (subst IsFileless c.in-Det.is is)
 
-pub returns-in_ok-words-in-Det-clause-reads : goal.returns-in_ok-words-in-Det-clause-reads
-returns-in_ok-words-in-Det-clause-reads g c =
-    reads_as g.F.Folder c.args.folder.now c.plan_det-plan.new.folder
-    (plan_end c.plan_det-plan.result c.planned-in-Det.result c.planned-in-Det.ensures ReadFault) c.plan_det-plan.ensures.reads
+pub returns-in_ok-words-in-List-clause-fileless : goal.returns-in_ok-words-in-List-clause-fileless
+returns-in_ok-words-in-List-clause-fileless g c is = absurd (subst IsFileless c.in-List.is is)
 
-pub returns-in_ok-words-in-Strings-clause-answered : goal.returns-in_ok-words-in-Strings-clause-answered
-returns-in_ok-words-in-Strings-clause-answered g c =
-    plan_named c.args.command.name names.Strings (items_of c.args.command) c.args.moment c.in-Strings.is (g.F.Folder.files c.args.folder.now)
-    c.plan_strings-plan.result c.planned-in-Strings.result c.planned-in-Strings.ensures
-    (as_strings c.args.moment (g.F.Folder.files c.args.folder.now) c.plan_strings-plan.result (strings c.in_ok-words-in-Strings.words) (strings_asked (items_of c.args.command)) c.in_ok-words-in-Strings.ensures
-    c.plan_strings-plan.ensures.answered)
+pub returns-in_ok-words-in-Strings-clause-fileless : goal.returns-in_ok-words-in-Strings-clause-fileless
+returns-in_ok-words-in-Strings-clause-fileless g c is = absurd (subst IsFileless c.in-Strings.is is)
 
-pub returns-in_ok-words-in-Strings-clause-sound : goal.returns-in_ok-words-in-Strings-clause-sound
-returns-in_ok-words-in-Strings-clause-sound g c = plan_sound c.plan_strings-plan.result c.planned-in-Strings.result c.planned-in-Strings.ensures c.plan_strings-plan.ensures.well_formed c.plan_strings-plan.ensures.writable
+pub returns-in_ok-words-in-Restring-clause-fileless : goal.returns-in_ok-words-in-Restring-clause-fileless
+returns-in_ok-words-in-Restring-clause-fileless g c is = absurd (subst IsFileless c.in-Restring.is is)
 
-pub returns-in_ok-words-in-Strings-clause-no_usage : goal.returns-in_ok-words-in-Strings-clause-no_usage
-returns-in_ok-words-in-Strings-clause-no_usage g c = plan_no_usage c.plan_strings-plan.result c.planned-in-Strings.result c.planned-in-Strings.ensures c.plan_strings-plan.ensures.no_usage
+-- What the plan of a command asks of what it made.
 
-pub returns-in_ok-words-in-Strings-clause-reads : goal.returns-in_ok-words-in-Strings-clause-reads
-returns-in_ok-words-in-Strings-clause-reads g c =
-    reads_as g.F.Folder c.args.folder.now c.plan_strings-plan.new.folder
-    (plan_end c.plan_strings-plan.result c.planned-in-Strings.result c.planned-in-Strings.ensures ReadFault) c.plan_strings-plan.ensures.reads
+pub to_write-plan-requires-clause-good : goal.to_write-plan-requires-clause-good
+to_write-plan-requires-clause-good g c = c.compile-made.ensures.good
 
-pub returns-in_ok-words-in-Restring-clause-answered : goal.returns-in_ok-words-in-Restring-clause-answered
-returns-in_ok-words-in-Restring-clause-answered g c =
-    plan_named c.args.command.name names.Restring (items_of c.args.command) c.args.moment c.in-Restring.is (g.F.Folder.files c.args.folder.now)
-    c.plan_restring-plan.result c.planned-in-Restring.result c.planned-in-Restring.ensures
-    (as_restring c.args.moment (g.F.Folder.files c.args.folder.now) c.plan_restring-plan.result (restring c.in_ok-words-in-Restring.words) (restring_asked (items_of c.args.command)) c.in_ok-words-in-Restring.ensures
-    c.plan_restring-plan.ensures.answered)
+pub to_write-plan-requires-clause-bad : goal.to_write-plan-requires-clause-bad
+to_write-plan-requires-clause-bad g c = c.compile-made.ensures.bad
 
-pub returns-in_ok-words-in-Restring-clause-sound : goal.returns-in_ok-words-in-Restring-clause-sound
-returns-in_ok-words-in-Restring-clause-sound g c = plan_sound c.plan_restring-plan.result c.planned-in-Restring.result c.planned-in-Restring.ensures c.plan_restring-plan.ensures.well_formed c.plan_restring-plan.ensures.writable
+pub to_show-requires-clause-good : goal.to_show-requires-clause-good
+to_show-requires-clause-good g c = c.list_strings-made.ensures.good
 
-pub returns-in_ok-words-in-Restring-clause-no_usage : goal.returns-in_ok-words-in-Restring-clause-no_usage
-returns-in_ok-words-in-Restring-clause-no_usage g c = plan_no_usage c.plan_restring-plan.result c.planned-in-Restring.result c.planned-in-Restring.ensures c.plan_restring-plan.ensures.no_usage
+pub to_show-requires-clause-bad : goal.to_show-requires-clause-bad
+to_show-requires-clause-bad g c = c.list_strings-made.ensures.bad
 
-pub returns-in_ok-words-in-Restring-clause-reads : goal.returns-in_ok-words-in-Restring-clause-reads
-returns-in_ok-words-in-Restring-clause-reads g c =
-    reads_as g.F.Folder c.args.folder.now c.plan_restring-plan.new.folder
-    (plan_end c.plan_restring-plan.result c.planned-in-Restring.result c.planned-in-Restring.ensures ReadFault) c.plan_restring-plan.ensures.reads
+pub to_write-plan-in-Restring-requires-clause-good : goal.to_write-plan-in-Restring-requires-clause-good
+to_write-plan-in-Restring-requires-clause-good g c = c.restring_fork-made.ensures.good
 
-pub returns-in-Sample-clause-answered : goal.returns-in-Sample-clause-answered
-returns-in-Sample-clause-answered g c =
-    plan_named c.args.command.name names.Sample (items_of c.args.command) c.args.moment c.in-Sample.is (g.F.Folder.files c.args.folder.now)
-    c.plan_sample.result c.planned-in-Sample.result c.planned-in-Sample.ensures
-    (as_sample c.args.moment (g.F.Folder.files c.args.folder.now) c.plan_sample.result _ (places_of (items_of c.args.command)) c.number-count.ensures c.plan_sample.ensures.answered)
+pub to_write-plan-in-Restring-requires-clause-bad : goal.to_write-plan-in-Restring-requires-clause-bad
+to_write-plan-in-Restring-requires-clause-bad g c = c.restring_fork-made.ensures.bad
 
-pub returns-in-Sample-clause-sound : goal.returns-in-Sample-clause-sound
-returns-in-Sample-clause-sound g c = plan_sound c.plan_sample.result c.planned-in-Sample.result c.planned-in-Sample.ensures c.plan_sample.ensures.well_formed c.plan_sample.ensures.writable
+pub to_show-in-Sample-requires-clause-good : goal.to_show-in-Sample-requires-clause-good
+to_show-in-Sample-requires-clause-good g c = c.sampled-made.ensures.good
 
-pub returns-in-Sample-clause-no_usage : goal.returns-in-Sample-clause-no_usage
-returns-in-Sample-clause-no_usage g c = plan_no_usage c.plan_sample.result c.planned-in-Sample.result c.planned-in-Sample.ensures c.plan_sample.ensures.no_usage
+pub to_show-in-Sample-requires-clause-bad : goal.to_show-in-Sample-requires-clause-bad
+to_show-in-Sample-requires-clause-bad g c = c.sampled-made.ensures.bad
 
--- The text of a fork.
+-- A sample.
 
-pub returns-in_ok-words-in-DeRez-clause-answered : goal.returns-in_ok-words-in-DeRez-clause-answered
-returns-in_ok-words-in-DeRez-clause-answered g c =
-    as_named c.args.command.name names.DeRez (items_of c.args.command) c.args.moment c.in-DeRez.is (g.F.Folder.files c.args.folder.now) c.answer_derez.result
-    (as_derez (g.F.Folder.files c.args.folder.now) c.answer_derez.result (derez c.in_ok-words-in-DeRez.words) (derez_asked (items_of c.args.command)) c.in_ok-words-in-DeRez.ensures
-    c.args.moment c.answer_derez.ensures.answered)
+pub returns-in-Sample-clause-replies : goal.returns-in-Sample-clause-replies
+returns-in-Sample-clause-replies g c =
+    sampled_replies g.F.Folder c.args.command.name (items_of c.args.command) c.args.moment c.in-Sample.is c.number-count.result (omega arith) c.number-count.ensures
+    c.sampled-made.result c.sampled-made.ensures.lines c.sampled-made.ensures.unread c.to_show-in-Sample.result c.to_show-in-Sample.ensures
+    c.planned-in-Sample.result c.planned-in-Sample.ensures
 
-pub returns-in_ok-words-in-List-clause-answered : goal.returns-in_ok-words-in-List-clause-answered
-returns-in_ok-words-in-List-clause-answered g c =
-    as_named c.args.command.name names.List (items_of c.args.command) c.args.moment c.in-List.is (g.F.Folder.files c.args.folder.now) c.answer_list-reply.result
-    (as_list (g.F.Folder.files c.args.folder.now) c.answer_list-reply.result (det c.in_ok-words-in-List.words) (det_asked (items_of c.args.command)) c.in_ok-words-in-List.ensures
-    c.answer_list-reply.ensures.answered)
-
-pub returns-in_ok-words-in-DeRez-clause-held : goal.returns-in_ok-words-in-DeRez-clause-held
-returns-in_ok-words-in-DeRez-clause-held g c is =
-    as_held (g.F.Folder.files c.args.folder.now) c.answer_derez.result (derez c.in_ok-words-in-DeRez.words) (derez_asked (items_of c.args.command)) c.in_ok-words-in-DeRez.ensures
-    c.answer_derez.ensures.held
-
-pub returns-in_ok-words-in-Strings-clause-listed : goal.returns-in_ok-words-in-Strings-clause-listed
-returns-in_ok-words-in-Strings-clause-listed g c is =
-    let before = g.F.Folder.files c.args.folder.now in
-    let own = strings c.in_ok-words-in-Strings.words in
-    subst (λ (a : StringsAsked). IfSome before (λ files. IfSome (finite.get files a.file) (λ bytes. IfOk c.planned-in-Strings.result (λ reply. outcome_of reply ≡ Done → HoldsFile a.from bytes))))
-    c.in_ok-words-in-Strings.ensures
-    (plan_held c.plan_strings-plan.result c.planned-in-Strings.result c.planned-in-Strings.ensures before (λ files. finite.get files own.file) (HoldsFile own.from) c.plan_strings-plan.ensures.held)
+pub returns-in-Sample-clause-fileless : goal.returns-in-Sample-clause-fileless
+returns-in-Sample-clause-fileless g c is files =
+    subst (λ (n : CommandName). IfOk c.planned-in-Sample.result (λ reply. EachAnswer reply (AnswersItems n (items_of c.args.command) files c.args.moment))) (sym c.in-Sample.is)
+    (sampled_answers c.number-count.result c.args.moment (omega arith) (places_of (items_of c.args.command)) c.number-count.ensures
+    c.sampled-made.result c.sampled-made.ensures.lines c.to_show-in-Sample.result c.to_show-in-Sample.ensures.answered c.planned-in-Sample.result c.planned-in-Sample.ensures)
 
 -- Texts that are there.
 
-pub returns-in_ok-text-in-Help-clause-answered : goal.returns-in_ok-text-in-Help-clause-answered
-returns-in_ok-text-in-Help-clause-answered g c =
-    as_planned c.args.command.name names.Help (items_of c.args.command) c.args.moment c.in-Help.is (g.F.Folder.files c.args.folder.now) c.in_ok-text-in-Help.field-0
-    (λ files. c.in_ok-text-in-Help.ensures
-    ∙ ap (λ (text : List ℕ). shown (record { bytes = text; said = [] })) (c.as_slice-in-Help.ensures ∙ c.in_ok-help_text-in-Help.ensures))
+pub returns-in_ok-text-in-Help-clause-replies : goal.returns-in_ok-text-in-Help-clause-replies
+returns-in_ok-text-in-Help-clause-replies g c =
+    text_replies g.F.Folder c.args.command.name (items_of c.args.command) c.args.moment names.Help c.in-Help.is c.in_ok-text-in-Help.field-0 help_text
+    (c.in_ok-text-in-Help.ensures ∙ ap (λ (text : List ℕ). shown (record { bytes = text; said = [] })) (c.as_slice-in-Help.ensures ∙ c.in_ok-help_text-in-Help.ensures))
+    (λ files answer is. (is, tt))
 
-pub returns-in_ok-text-in-Version-clause-answered : goal.returns-in_ok-text-in-Version-clause-answered
-returns-in_ok-text-in-Version-clause-answered g c =
-    as_planned c.args.command.name names.Version (items_of c.args.command) c.args.moment c.in-Version.is (g.F.Folder.files c.args.folder.now) c.in_ok-text-in-Version.field-0
-    (λ files. c.in_ok-text-in-Version.ensures ∙ ap (λ (text : List ℕ). shown (record { bytes = text; said = [] })) c.version_text.ensures)
+pub returns-in_ok-text-in-Version-clause-replies : goal.returns-in_ok-text-in-Version-clause-replies
+returns-in_ok-text-in-Version-clause-replies g c =
+    text_replies g.F.Folder c.args.command.name (items_of c.args.command) c.args.moment names.Version c.in-Version.is c.in_ok-text-in-Version.field-0 version_text
+    (c.in_ok-text-in-Version.ensures ∙ ap (λ (text : List ℕ). shown (record { bytes = text; said = [] })) c.version_text.ensures) (λ files answer is. (is, tt))
 
-pub returns-in_ok-text-in-Help-clause-sound : goal.returns-in_ok-text-in-Help-clause-sound
-returns-in_ok-text-in-Help-clause-sound g c = (subst IsWellFormed (sym c.in_ok-text-in-Help.ensures) no_lines, search rules)
+pub returns-in_ok-text-in-Help-clause-fileless : goal.returns-in_ok-text-in-Help-clause-fileless
+returns-in_ok-text-in-Help-clause-fileless g c is files answer same =
+    subst (λ (n : CommandName). AnswersItems n (items_of c.args.command) files c.args.moment answer) (sym c.in-Help.is)
+    (same ∙ c.in_ok-text-in-Help.ensures ∙ ap (λ (text : List ℕ). shown (record { bytes = text; said = [] })) (c.as_slice-in-Help.ensures ∙ c.in_ok-help_text-in-Help.ensures))
 
-pub returns-in_ok-text-in-Version-clause-sound : goal.returns-in_ok-text-in-Version-clause-sound
-returns-in_ok-text-in-Version-clause-sound g c = (subst IsWellFormed (sym c.in_ok-text-in-Version.ensures) no_lines, search rules)
+pub returns-in_ok-text-in-Version-clause-fileless : goal.returns-in_ok-text-in-Version-clause-fileless
+returns-in_ok-text-in-Version-clause-fileless g c is files answer same =
+    subst (λ (n : CommandName). AnswersItems n (items_of c.args.command) files c.args.moment answer) (sym c.in-Version.is)
+    (same ∙ c.in_ok-text-in-Version.ensures ∙ ap (λ (text : List ℕ). shown (record { bytes = text; said = [] })) c.version_text.ensures)
+
+-- Memory was refused.
+
+pub returns-in_err-words-in-Rez-clause-replies : goal.returns-in_err-words-in-Rez-clause-replies
+returns-in_err-words-in-Rez-clause-replies g c = replies_none g.F.Folder c.from_residual.result c.from_residual.ensures.1
+
+pub returns-in_err-words-in-DeRez-clause-replies : goal.returns-in_err-words-in-DeRez-clause-replies
+returns-in_err-words-in-DeRez-clause-replies g c = replies_none g.F.Folder c.from_residual-in_err-words-in-DeRez.result c.from_residual-in_err-words-in-DeRez.ensures.1
+
+pub returns-in_err-words-in-Bridge-clause-replies : goal.returns-in_err-words-in-Bridge-clause-replies
+returns-in_err-words-in-Bridge-clause-replies g c = replies_none g.F.Folder c.from_residual-in_err-words-in-Bridge.result c.from_residual-in_err-words-in-Bridge.ensures.1
+
+pub returns-in_err-words-in-Det-clause-replies : goal.returns-in_err-words-in-Det-clause-replies
+returns-in_err-words-in-Det-clause-replies g c = replies_none g.F.Folder c.from_residual-in_err-words-in-Det.result c.from_residual-in_err-words-in-Det.ensures.1
+
+pub returns-in_err-words-in-List-clause-replies : goal.returns-in_err-words-in-List-clause-replies
+returns-in_err-words-in-List-clause-replies g c = replies_none g.F.Folder c.from_residual-in_err-words-in-List.result c.from_residual-in_err-words-in-List.ensures.1
+
+pub returns-in_err-words-in-Strings-clause-replies : goal.returns-in_err-words-in-Strings-clause-replies
+returns-in_err-words-in-Strings-clause-replies g c = replies_none g.F.Folder c.from_residual-in_err-words-in-Strings.result c.from_residual-in_err-words-in-Strings.ensures.1
+
+pub returns-in_err-words-in-Restring-clause-replies : goal.returns-in_err-words-in-Restring-clause-replies
+returns-in_err-words-in-Restring-clause-replies g c = replies_none g.F.Folder c.from_residual-in_err-words-in-Restring.result c.from_residual-in_err-words-in-Restring.ensures.1
+
+pub returns-in_err-help_text-in-Help-clause-replies : goal.returns-in_err-help_text-in-Help-clause-replies
+returns-in_err-help_text-in-Help-clause-replies g c = replies_none g.F.Folder c.from_residual-in_err-help_text-in-Help.result c.from_residual-in_err-help_text-in-Help.ensures.1
+
+pub returns-in_err-text-in-Help-clause-replies : goal.returns-in_err-text-in-Help-clause-replies
+returns-in_err-text-in-Help-clause-replies g c = replies_none g.F.Folder c.from_residual-in_err-text-in-Help.result c.from_residual-in_err-text-in-Help.ensures.1
+
+pub returns-in_err-text-in-Version-clause-replies : goal.returns-in_err-text-in-Version-clause-replies
+returns-in_err-text-in-Version-clause-replies g c = replies_none g.F.Folder c.from_residual-in_err-text-in-Version.result c.from_residual-in_err-text-in-Version.ensures.1

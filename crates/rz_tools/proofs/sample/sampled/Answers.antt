@@ -20,5 +20,5 @@ returns-clause-lines c =
     again_made c.args.count c.args.moment (making_of c.in_ok-fork.fork) (making_of c.in_ok-text.text) c.in_ok-fork.ensures.made c.in_ok-text.ensures.made
     (making_of c.in_ok-again.again) _ c.new.result c.in_ok-again.ensures.made c.in_ok-bytes.ensures c.new.ensures
 
-pub returns-clause-warned : goal.returns-clause-warned
-returns-clause-warned c = subst IsWarningText (sym c.new.ensures) no_lines
+pub returns-clause-good : goal.returns-clause-good
+returns-clause-good c = subst IsWarningText (sym c.new.ensures) no_lines

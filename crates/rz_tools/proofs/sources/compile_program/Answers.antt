@@ -1,39 +1,43 @@
-use Rattle.std.proofs.Common.{List, length, subst, Err}
-use Rattle.std.specs.Prelude.{IfSome}
-use Rattle.rz_core.specs.Stop.{Yields}
-use Rattle.rz_core.specs.declared.fault.Fault.{Fault}
-use Rattle.rz_lex.specs.declared.token.Token.{Token}
-use Rattle.rz_core.specs.declared.stop.Halt.{Halt}
-use Rattle.rz_stmt.specs.Statements.{AreStatements}
-use Rattle.rz_tools_values.specs.Around.{around}
+use Rattle.std.proofs.Common.{ℕ, List, length}
+use Rattle.rz_core.specs.Message.{IsNameable}
+use Rattle.rz_folder.proofs.Finding.{failed_so, refuses_so}
+use Rattle.rz_folder.proofs.Reading.{reads_as}
+use Rattle.rz_tools_answer.specs.Answer.{Making}
+use Rattle.rz_tools_answer.specs.Made.{IsSayable}
+use Rattle.rz_tools_answer.specs.declared.made.Made.{Made}
 use Rattle.rz_tools_work.specs.Held.{work_of}
-use Rattle.rz_tools.specs.Step.{Means, with_work}
-use Rattle.rz_tools.proofs.Sourced.{refusal_told, work_told}
+use Rattle.rz_tools.specs.Sources.{Compiled}
+use Rattle.rz_tools.proofs.Sourced.{stop_told, work_told}
 use Rattle.rz_tools.proofs.sources.compile_program.Goals as goal
 
-pub returns-in-Ok-clause-compiled : goal.returns-in-Ok-clause-compiled
-returns-in-Ok-clause-compiled g c =
+pub returns-in-Ok : goal.returns-in-Ok
+returns-in-Ok g c =
     let cut = c.all_tokens_are_statements.ensures c.args.program.tokens in
-    work_told c.args.setting c.args.paths.now (work_of c.args.start) cut.0 c.args.program cut.1
-    (g.F.Folder.files c.args.folder.now) (work_of c.compile_statements.new.work) c.in-Ok.ensures.work
+    record {
+      answered = work_told c.args.setting c.args.paths.now (work_of c.args.start) cut.0 c.args.program cut.1
+          (g.F.Folder.files c.args.folder.now) (work_of c.compile_statements.new.work) c.in-Ok.ensures.work;
+      good = c.compile_statements.ensures.warned (length c.args.program.files) c.requires.within c.requires.warnings;
+      bad = tt;
+      reads = c.in-Ok.ensures.reads;
+    }
 
-pub returns-in_ok-refused-in-Err-Refused-clause-compiled : goal.returns-in_ok-refused-in-Err-Refused-clause-compiled
-returns-in_ok-refused-in-Err-Refused-clause-compiled g c =
+pub say_stop-stop-requires-clause-fault : goal.say_stop-stop-requires-clause-fault
+say_stop-stop-requires-clause-fault g c =
+    refuses_so (Unit {0}) (List ℕ) c.in-Err.halt (IsNameable (length c.args.program.files)) (c.in-Err.ensures.nameable (length c.args.program.files) c.requires.within)
+
+pub say_stop-stop-requires-clause-warnings : goal.say_stop-stop-requires-clause-warnings
+say_stop-stop-requires-clause-warnings g c = c.compile_statements.ensures.warned (length c.args.program.files) c.requires.within c.requires.warnings
+
+pub returns-in-Err : goal.returns-in-Err
+returns-in-Err g c =
     let cut = c.all_tokens_are_statements.ensures c.args.program.tokens in
-    refusal_told c.args.setting c.args.paths.now (work_of c.args.start) cut.0 c.args.program cut.1
-    (g.F.Folder.files c.args.folder.now) (work_of c.compile_statements.new.work) c.in-Err-Refused.fault
-    (subst (λ (h : Halt Fault). IfSome (g.F.Folder.files c.args.folder.now) (λ files. (statements : List (List Token)) → AreStatements c.args.program.tokens statements
-    → Yields (with_work (work_of c.compile_statements.new.work) (Err h)) (Means (around c.args.setting c.args.paths.now files) (work_of c.args.start) statements)))
-    c.in-Err-Refused.field-0-is c.in-Err-Refused.ensures.work)
-    c.in_ok-refused-in-Err-Refused.field-0 (rw c.in-Err-Refused.fault-is at c.in_ok-refused-in-Err-Refused.ensures.failing)
-
-pub refusal-refused-requires-clause-fault : goal.refusal-refused-requires-clause-fault
-refusal-refused-requires-clause-fault g c = rw c.in-Err-Refused.fault-is (rw c.in-Err-Refused.field-0-is at (c.in-Err-Refused.ensures.nameable (length c.args.program.files) c.requires.within))
-
-pub refusal-refused-requires-clause-warnings : goal.refusal-refused-requires-clause-warnings
-refusal-refused-requires-clause-warnings g c =
-    c.compile_statements.ensures.warned (length c.args.program.files) c.requires.within c.requires.warnings
-
-pub returns-in-Ok-clause-warned : goal.returns-in-Ok-clause-warned
-returns-in-Ok-clause-warned g c =
-    c.compile_statements.ensures.warned (length c.args.program.files) c.requires.within c.requires.warnings
+    let beside = c.say_stop-stop.ensures in
+    let stop = c.say_stop-stop.result in
+    record {
+      answered = stop_told c.args.setting c.args.paths.now (work_of c.args.start) cut.0 c.args.program cut.1
+          (g.F.Folder.files c.args.folder.now) (work_of c.compile_statements.new.work) c.in-Err.halt stop c.in-Err.ensures.work beside;
+      good = tt;
+      bad = refuses_so Making Compiled stop IsSayable beside.sayable;
+      reads = reads_as g.F.Folder c.args.folder.now c.compile_statements.new.folder
+          (λ failed. failed_so (List ℕ) (Unit {0}) c.in-Err.halt (beside.read_fault (failed_so Compiled Made stop failed))) c.in-Err.ensures.reads;
+    }

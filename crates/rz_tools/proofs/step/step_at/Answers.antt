@@ -15,7 +15,7 @@ use Rattle.rz_tools_work.proofs.Calls.{halted_refuses, went_as}
 use Rattle.rz_tools_work.specs.Held.{work_of}
 use Rattle.rz_tools_work.specs.Lists.{list_after}
 use Rattle.rz_tools_work.specs.Work.{declared, with_list}
-use Rattle.rz_tools.proofs.Planned.{always}
+use Rattle.rz_tools.proofs.Complete.{over_files}
 use Rattle.rz_tools.proofs.Resources.{put_of, put_one}
 use Rattle.rz_tools.proofs.Stepping.{did, done_so, first_mark, listed, stopped, within_at}
 use Rattle.rz_folder_paths.proofs.Looking.{may_look_fewer}
@@ -39,7 +39,7 @@ resource_of_items-made-requires g c = may_look_fewer g.F.Folder c.args.paths.now
     (λ own asks. (statement_of c.in-Ok.stmt, c.in-Ok.ensures.parsed, subst (λ (s : Statement). StatementAsks s own) c.in-Compile.ensures asks))
 
 pub returns-in-Empty-clause-stepped : goal.returns-in-Empty-clause-stepped
-returns-in-Empty-clause-stepped g c = always (g.F.Folder.files c.args.folder.now) _ (λ files.
+returns-in-Empty-clause-stepped g c = over_files (g.F.Folder.files c.args.folder.now) _ (λ files.
     did (around c.args.setting c.args.paths.now files) (work_of c.args.work.now) (tokens_at c.args.tokens c.args.span) c.at.result.now.mark
     (first_mark c.args.tokens c.args.span c.at.result.now c.requires.span c.at.ensures) (statement_of c.in-Ok.stmt) Empty c.in-Ok.ensures.parsed c.in-Empty.ensures
     (Ok tt) (work_of c.args.work.now) refl tt)
@@ -108,7 +108,7 @@ declare_type-requires g c = record {
 }
 
 pub returns-in-Declare-clause-stepped : goal.returns-in-Declare-clause-stepped
-returns-in-Declare-clause-stepped g c = always (g.F.Folder.files c.args.folder.now) _ (λ files.
+returns-in-Declare-clause-stepped g c = over_files (g.F.Folder.files c.args.folder.now) _ (λ files.
     let work = work_of c.args.work.now in
     let after = work_of c.declare_type.new.work in
     did (around c.args.setting c.args.paths.now files) work (tokens_at c.args.tokens c.args.span) c.at.result.now.mark
@@ -127,6 +127,6 @@ returns-in-Declare-clause-warned g c files within are =
     c.declare_type.ensures.warned files (within_at files c.args.tokens c.args.span.start c.at.result.now within c.at.ensures) are
 
 pub returns-in-Err-clause-stepped : goal.returns-in-Err-clause-stepped
-returns-in-Err-clause-stepped g c = always (g.F.Folder.files c.args.folder.now) _ (λ files.
+returns-in-Err-clause-stepped g c = over_files (g.F.Folder.files c.args.folder.now) _ (λ files.
     stopped (around c.args.setting c.args.paths.now files) (work_of c.args.work.now) (tokens_at c.args.tokens c.args.span) c.in-Err.stop c.halted-in-Err.result
     c.in-Err.ensures.parsed c.halted-in-Err.ensures.halted)

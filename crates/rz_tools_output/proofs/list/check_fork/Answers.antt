@@ -1,4 +1,7 @@
+use Rattle.std.proofs.lemmas.Result.{err_from_is_err_and}
 use Rattle.rz_tools_output.proofs.list.check_fork.Goals as goal
 
-pub returns-in-Err-clause-nameable : goal.returns-in-Err-clause-nameable
-returns-in-Err-clause-nameable c files = c.in-Err.ensures.nameable files tt
+pub returns-in_err-admit_fork-clause-nameable : goal.returns-in_err-admit_fork-clause-nameable
+returns-in_err-admit_fork-clause-nameable c files =
+    let p = err_from_is_err_and c.from_residual.result c.from_residual.ensures.1 in
+    rw (p.1, p.2) (c.in_err-admit_fork.ensures.nameable files tt)
