@@ -1,6 +1,5 @@
 pub mod Examples
 pub mod Held
-pub mod Symbols
 pub mod Widths
 pub mod RowHeight
 pub mod Names

@@ -1,5 +1,7 @@
 pub mod SameNames
-pub mod Symbols
+pub mod SymbolNames
+pub mod SymbolPlaces
+pub mod SymbolWalks
 pub mod RowKeys
 pub mod RowPlaces
 pub mod Noting

@@ -3,7 +3,7 @@
 ghost use Rattle.std.specs.Prelude.{◌≡◌};
 ghost use Rattle.rz_types_fields.specs.Field.{plain_field, takes_value};
 
-use crate::Texts;
+use crate::{Symbols, Texts};
 use rz_core::{Listing, Word};
 use rz_expr::Expr;
 
@@ -62,9 +62,6 @@ pub struct Symbol {
     /// The value.
     pub value: i32,
 }
-
-/// The symbols of a number, in order.
-pub type Symbols = Listing<Symbol>;
 
 /// A list of expressions.
 pub type Exprs = Listing<Expr>;

@@ -8,8 +8,8 @@ use Rattle.std.proofs.lemmas.List.Folds.{list_any_more}
 use Rattle.rz_core.proofs.Folds.{same_lower}
 use Rattle.rz_core.proofs.Tests.{by_test, or_false}
 use Rattle.rz_types_fields.specs.declared.field.Symbol.{Symbol}
-use Rattle.rz_types.specs.Value.{symbol_value}
-use Rattle.rz_show.specs.Number.{is_stored, symbol_for}
+use Rattle.rz_types_fields.specs.Symbols.{is_stored, symbol_for}
+use Rattle.rz_types_fields.specs.Value.{symbol_value}
 
 -- what a name gives is what the same name gives in another case
 same_value : (one other : List ℕ) → str_to_ascii_lowercase one ≡ str_to_ascii_lowercase other → (symbols : List Symbol) → symbol_value symbols one ≡ symbol_value symbols other
