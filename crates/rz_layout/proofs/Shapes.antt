@@ -95,7 +95,7 @@ mutual
   field_sound scope in_case (Array name count row) is wide kept value has =
       array_sound name count row (λ line are. body_sound (and_names (and_names scope (around_names name)) (names_of row)) false row (both (is_none_or is_own_name name) (are_shaped false row) is).1 kept.2 line are) value has
   field_sound scope in_case (Switch cases) is wide kept value has =
-      subst (IsCaseSound cases) (sym has.2) (cases_sound scope cases is kept.0 kept.1 has.0 has.1)
+      (kept.0, subst (IsCaseSound cases) (sym has.2) (cases_sound scope cases is kept.0 kept.1 has.0 has.1))
 
   cases_sound : (scope : Own) (cases : PlainCases) → are_cases_shaped cases ≡ true → Differ (case_names cases) → AreCasesKept scope cases
       → (v : Tree) → IsChoice cases v → IsCaseSound cases (Some v)

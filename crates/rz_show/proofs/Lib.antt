@@ -1,3 +1,4 @@
+pub mod Cased
 pub mod Examples
 pub mod Held
 pub mod Widths

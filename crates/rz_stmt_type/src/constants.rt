@@ -15,7 +15,7 @@ use rz_stmt_fields::{
     ArrayExpr, CaseExpr, CaseExprs, DeclareExpr, FieldExpr, FieldExprs, MadeExpr, NumberExpr,
     ScopeExpr, Width,
 };
-use rz_types_fields::{ArrayField, Body, Case, Cases, Field, NumField, constant_value};
+use rz_types_fields::{ArrayField, Body, Case, Cases, Field, NumField, constant_value, switch_of};
 use std::alloc::Global;
 
 /// The room of fewer fields isn't given back while others wait.
@@ -202,7 +202,7 @@ fn value_field(alloc: Global, mark: Mark, field: FieldExpr) -> Result<Field, Sto
             Err(stop) => Err(stop),
         },
         FieldExpr::Switch(cases) => match value_cases(alloc, mark, cases) {
-            Ok(cases) => Ok(Field::Switch(cases)),
+            Ok(cases) => Ok(switch_of(alloc, cases)?),
             Err(stop) => Err(stop),
         },
     }

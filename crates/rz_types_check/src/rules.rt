@@ -93,7 +93,7 @@ fn bad_place(
             Some(fault) => Ok(Some(fault)),
             None => Ok(no_values(position, array.row.as_slice())),
         },
-        Field::Switch(cases) => case_twice(alloc, position, cases.as_slice()),
+        Field::Switch(cases, _hints) => case_twice(alloc, position, cases.as_slice()),
         _ => Ok(None),
     }
 }
@@ -238,7 +238,7 @@ fn bad_width(field: &Field) -> Option<i32>
         Field::Text(text) => bad_size(text),
         Field::Fill(_, count) => unless(may_be_count(*count), *count),
         Field::Array(array) => bad_rows(array.count),
-        Field::Points(_) | Field::Align(_) | Field::Label(_) | Field::Switch(_) => None,
+        Field::Points(_) | Field::Align(_) | Field::Label(_) | Field::Switch(..) => None,
     }
 }
 

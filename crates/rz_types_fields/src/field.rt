@@ -3,7 +3,7 @@
 ghost use Rattle.std.specs.Prelude.{◌≡◌};
 ghost use Rattle.rz_types_fields.specs.Field.{plain_field, takes_value};
 
-use crate::{Symbols, Texts};
+use crate::{CaseHints, Symbols, Texts};
 use rz_core::{Listing, Word};
 use rz_expr::Expr;
 
@@ -150,8 +150,8 @@ pub enum Field {
     Label(Word),
     /// `array`
     Array(ArrayField),
-    /// `switch`
-    Switch(Cases),
+    /// `switch`, with hints where its cases stand.
+    Switch(Cases, Box<CaseHints>),
 }
 
 /// The fields of a type declaration, in order.
@@ -166,6 +166,6 @@ pub fn takes_value(field: &Field) -> bool
         Field::Text(text) => text.fixed.is_none(),
         Field::Points(points) => points.fixed.is_none(),
         Field::Fill(..) | Field::Align(_) | Field::Label(_) => false,
-        Field::Array(_) | Field::Switch(_) => true,
+        Field::Array(_) | Field::Switch(..) => true,
     }
 }

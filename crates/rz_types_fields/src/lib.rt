@@ -18,6 +18,7 @@
 
 mod expressions;
 mod field;
+mod hints;
 mod keys;
 mod lower;
 mod name_key;
@@ -35,6 +36,7 @@ pub use field::{
     ArrayField, Body, Case, Cases, Exprs, Field, NumField, NumForm, PointField, Radix, Symbol,
     TextField, TextForm, takes_value,
 };
+pub use hints::{CaseHints, switch_of};
 pub use keys::{CaseKey, case_keys, fixed_width, fixed_widths, key_bits, sized_bytes, text_width};
 pub use name_key::{
     Standing, counts_rows, declares, gives_key, has_label, is_label, is_predefined, is_same_key,

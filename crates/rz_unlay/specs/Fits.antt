@@ -1,6 +1,8 @@
--- What the code asks of the fields that it reads: numbers of at most 32 bits, and units to align to that aren't 0.
+-- What the code asks of the fields that it reads: numbers of at most 32 bits, units to align to that aren't 0, and cases whose
+-- keys stand apart.
 use Rattle.std.specs.Prelude.{◌<◌, ◌≤◌, nat_abs}
 use Rattle.rz_types_fields.specs.Field.{case_and, field_and, no_cases, no_fields, Align, Array, Fill, Label, Number, PlainBody, PlainCases, PlainField, Points, Switch, Text}
+use Rattle.rz_types.specs.Kept.{HasKey}
 
 abbrev mutual
   pub Fits : PlainField → Type 0
@@ -19,4 +21,4 @@ abbrev mutual
 
   pub CasesFit : PlainCases → Type 0
   CasesFit no_cases = Unit {0}
-  CasesFit (case_and name row others) = AreFit row × CasesFit others
+  CasesFit (case_and name row others) = HasKey row others × AreFit row × CasesFit others

@@ -52,7 +52,7 @@ pub fn read_pieces<'a>(
         }
         Field::Align(unit) => Ok(read_filler(spot.view, *unit, at)),
         Field::Label(name) => read_label(name, learnt, at),
-        Field::Array(_) | Field::Switch(_) => Ok(Some(Came {
+        Field::Array(_) | Field::Switch(..) => Ok(Some(Came {
             value: None,
             after: at,
             cost: 0,
