@@ -16,3 +16,4 @@ pub mod Sees
 pub mod Spells
 pub mod Laid
 pub mod Known
+pub mod Newest
