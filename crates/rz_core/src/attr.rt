@@ -18,8 +18,9 @@ impl Model for Attr {
     ghost inverse = { λ byte. record { 0 = byte } };
 }
 
-// The list of flags is empty, since no constant may lend values that contracts see by a model. So what reads the list
-// (`all`, `from_name`, `iter`) knows no flag.
+// The list of flags is empty, since no constant may lend values that contracts see by a model. To methods that read the
+// list every bit is unknown, so none of them may be used: `all`, `is_all`, `from_bits`, `from_bits_truncate`,
+// `truncate`, `complement`, `contains_unknown_bits`, `from_name`, `iter`, `iter_names`.
 impl Flags for Attr {
     type Bits = u8;
 

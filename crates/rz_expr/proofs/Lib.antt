@@ -12,3 +12,4 @@ pub mod Cases
 pub mod Nameless
 pub mod OneTerm
 pub mod EveryExpression
+pub mod Items

@@ -2,13 +2,14 @@
 use Rattle.std.proofs.Common.{◌≡◌, ℕ, ℤ, pos, negsuc, Bool, true, false, Result, Ok, Err, sym, subst}
 use Rattle.std.specs.Prelude.{◌*ℤ◌, ◌^◌, if◌then◌else◌, int_div, int_rem, nat_lt}
 use Rattle.std.specs.Int.{int_shr}
-use Rattle.std.proofs.lemmas.Bool.{or_parts}
 use Rattle.rz_core.specs.Stop.{◌>>=◌}
 use Rattle.rz_core.specs.declared.stop.Stop.{Stop}
 use Rattle.rz_core.specs.declared.stop.Stop.TheVariants.{NoMemory}
+use Rattle.rz_expr.proofs.Items.{none_two}
 use Rattle.rz_expr.specs.Unvalued.{IsCopyOf}
 use Rattle.rz_expr.specs.Environment.{Sight}
-use Rattle.rz_expr.specs.Term.{Term, Constant, Named, Indexed, RowsOf, RowNumber, BitsAt, FactOf, OfOne, OfTwo, has_names}
+use Rattle.rz_expr.specs.Mention.{has_names, is_name, mentions}
+use Rattle.rz_expr.specs.Term.{Term, Constant, Named, Indexed, RowsOf, RowNumber, BitsAt, FactOf, OfOne, OfTwo}
 use Rattle.rz_expr.specs.Value.{divided, is_zero, operate, operate_one, reduced, shifted, value_of, IsUnknown}
 use Rattle.rz_expr.specs.declared.expr.BinaryOp.{BinaryOp}
 use Rattle.rz_expr.specs.declared.expr.BinaryOp.TheVariants as two
@@ -64,7 +65,7 @@ nameless (BitsAt name start width) sight is known = cc
 nameless (FactOf which) sight is known = known
 nameless (OfOne op operand) sight is known = chained (value_of operand sight) (λ value. Ok (operate_one op value)) (nameless operand sight is) (λ x later. later) known
 nameless (OfTwo op left right) sight is known =
-    let each = or_parts (has_names left) (has_names right) is in
+    let each = none_two is_name (mentions left) (mentions right) is in
     chained (value_of left sight) (λ one. value_of right sight >>= λ other. operate op one other) (nameless left sight each.0)
     (λ one. chained (value_of right sight) (λ other. operate op one other) (nameless right sight each.1) (λ other. operate_known op one other)) known
 

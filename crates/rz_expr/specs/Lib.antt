@@ -1,6 +1,8 @@
 pub mod Keyword
 pub mod Term
 pub mod Environment
+pub mod Mention
+pub mod Mentioned
 pub mod NameKey
 pub mod Value
 pub mod Unvalued

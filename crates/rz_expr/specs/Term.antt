@@ -1,5 +1,5 @@
 -- Expressions as contracts see them, without where their parts lie in memory.
-use Rattle.std.specs.Prelude.{ℕ, ℤ, Bool, true, false, ◌||◌, List}
+use Rattle.std.specs.Prelude.{ℕ, ℤ, List}
 use Rattle.rz_expr.specs.declared.expr.UnaryOp.{UnaryOp}
 use Rattle.rz_expr.specs.declared.expr.BinaryOp.{BinaryOp}
 use Rattle.rz_expr.specs.declared.expr.Expr.{Expr}
@@ -28,15 +28,3 @@ term_of (Bits' word p start q width) = BitsAt word.bytes (term_of start) (term_o
 term_of (Fact which) = FactOf which
 term_of (Unary' op p operand) = OfOne op (term_of operand)
 term_of (Binary' op p left q right) = OfTwo op (term_of left) (term_of right)
-
--- a name stands in it
-abbrev pub has_names : Term → Bool
-has_names (Constant n) = false
-has_names (Named name) = true
-has_names (Indexed name index) = true
-has_names (RowsOf name) = true
-has_names (RowNumber name) = true
-has_names (BitsAt name start width) = true
-has_names (FactOf which) = false
-has_names (OfOne op operand) = has_names operand
-has_names (OfTwo op left right) = has_names left || has_names right

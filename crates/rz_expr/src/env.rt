@@ -12,20 +12,20 @@ use rz_core::Word;
 /// What can have a value. Names are the same in whatever case. (MPW Rez.)
 #[derive(Clone, Copy)]
 pub enum Key<'a> {
-    /// A name by itself: a label by its place, in bits from the start of the resource, or `true` or `false`.
+    /// A name by itself: of a label its place in bits from the start of the resource, of `true` 1, of `false` 0.
     Place(&'a Word),
-    /// An array by the number of its rows.
+    /// How many rows the array of this name has.
     Count(&'a Word),
-    /// A label in the rows of an array, by the number of these rows.
+    /// How many rows the array has in which the label of this name stands.
     Rows(&'a Word),
-    /// A label in the rows of an array, by its place in the row of this number, from 1.
+    /// The place of the label of this name in the row of this number, which is counted from 1.
     PlaceIn(&'a Word, i32),
-    /// An array by the number of the row around, from 1.
+    /// The number, counted from 1, of the row around that is one of the array of this name.
     Row(&'a Word),
 }
 
-/// The value of a word that is a name in every expression: 1 of `true`, 0 of `false`. Case doesn't matter.
-/// Where nothing else has the name, an environment gives this value. (MPW Rez.)
+/// The value of a word that is a name in every expression, in whatever case: 1 of `true`, 0 of `false`. An environment
+/// gives this value where nothing else has the name. (MPW Rez.)
 pub fn predefined(name: &Word) -> Option<i32>
     ensures { result ≡ predefined name.now.bytes }
 {
@@ -39,7 +39,7 @@ pub fn predefined(name: &Word) -> Option<i32>
     }
 }
 
-/// The value of a key where nothing else gives it one: that of `true` or `false`, and none of any other.
+/// The value of a key to which nothing else gives one: of `true` and `false` their values, of any other key none.
 pub fn value_outside(key: Key<'_>) -> Option<i128>
     ensures { result ≡ predefined_key (key_of key.entry) }
 {
@@ -52,21 +52,21 @@ pub fn value_outside(key: Key<'_>) -> Option<i128>
     }
 }
 
-/// What an expression sees at some moment: the values of names, the bits of the resource so far, and what
-/// is known of it. None of the calls takes memory.
+/// What an expression sees at some moment: the values of keys, the bits of the resource so far, and the facts of the
+/// resource and the moment. None of the calls takes memory.
 pub trait Env {
     /// What is seen.
     ghost view: { Self → Sight };
 
-    /// Of which finished sights it is a part.
+    /// The finished sights of which the view is a part.
     ghost belongs: { Self → Sight → Type 0 };
 
-    /// The value of a key, whole: it isn't wrapped. `None` where it has none.
+    /// The value of a key, not wrapped to 32 bits. `None` where the key has none.
     fn give(&self, key: Key<'_>) -> Option<i128>
         ensures { result ≡ (view self.now).names.give (key_of key.entry) };
 
-    /// The unsigned number in the bits, as many as `width` says, from 1 to 32, that begin with this one, counted from 0 at the
-    /// start of the resource; `None` where they aren't there.
+    /// The unsigned number in `width` bits, 1 to 32 of them, from the bit `first` on. Bits are counted from 0 at the
+    /// start of the resource. `None` where one of these bits isn't there.
     fn bits(&self, first: i64, width: i32) -> Option<u32>
         requires { (pos 1 ≤ℤ width) × (width ≤ℤ pos 32) }
         ensures { option_map (λ number. pos number) result ≡ (view self.now).bits first width };
@@ -75,6 +75,6 @@ pub trait Env {
     fn fact(&self, which: FactWord) -> i32
         ensures { result ≡ reduced ((view self.now).fact which) };
 
-    /// What is seen is seen so in each finished sight of which it is a part.
+    /// What the view shows, each finished sight shows too of which the view is a part.
     ghost law: { (env : Self) (finished : Sight) → belongs env finished → IsSeenIn (view env) finished };
 }

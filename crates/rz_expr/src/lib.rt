@@ -5,25 +5,25 @@
 #![tactic(auto)]
 
 mod constant;
-mod copies;
 mod env;
 mod expr;
 mod keyword;
 mod laws;
+mod mention;
 mod operators;
 mod read;
 mod value;
 
 pub use constant::{ConstantEnv, constant_of, is_constant, read_constant};
-pub use copies::copy;
 pub use env::{Env, Key, predefined, value_outside};
 pub use expr::{BinaryOp, Expr, UnaryOp};
 pub use keyword::{is_keyword, keyword_in};
 pub use laws::{expressions_are_decided, faults_stay, one_expression, values_stay};
+pub use mention::{Mention, MentionTest, first_mention};
 pub use read::{ReadExpr, read_expr, read_whole};
 pub use rz_words::{
     ATTRIBUTES, Attribute, AttributeWord, FactWord, Function, Keyword, Role, TextWord,
     attribute_word, attribute_words_are_spelled, bit_of, clearing_word, keyword_named, keyword_of,
     keywords_are_spelled, role_of, setting_word, spelling,
 };
-pub use value::{EvalFault, Unvalued, eval, reduced, signed, value_in};
+pub use value::{EvalFault, Unvalued, eval, signed, value_in};

@@ -5,8 +5,9 @@ ghost use Rattle.std.specs.Int.{int_shr};
 ghost use Rattle.rz_core.specs.Stop.{Gives};
 ghost use Rattle.rz_core.specs.declared.stop.Stop.TheVariants as stop;
 ghost use Rattle.rz_expr.specs.Environment.{Sight, rows_key};
+ghost use Rattle.rz_expr.specs.Mention.{has_names};
 ghost use Rattle.rz_expr.specs.NameKey.{key_of};
-ghost use Rattle.rz_expr.specs.Term.{has_names, term_of};
+ghost use Rattle.rz_expr.specs.Term.{term_of};
 ghost use Rattle.rz_expr.specs.Unvalued.{fault_of, held, IsCopyOf};
 ghost use Rattle.rz_expr.specs.declared.value.EvalFault.TheVariants as fault;
 ghost use Rattle.rz_expr.specs.Value.{divided, known_value, IsUnknown, number_at, operate, operate_one, place_in_row, reduced, shifted, truth, value_of};
@@ -185,7 +186,7 @@ pub fn signed(number: u32) -> i32
 
 /// A number, wrapped to 32 bits with a sign.
 #[tactic(auto, using(crate::proofs::Bits::reduced_again))]
-pub fn reduced(number: i128) -> i32
+fn reduced(number: i128) -> i32
     ensures { result ≡ reduced number }
 {
     signed((number.cast_unsigned() % 4_294_967_296) as u32)

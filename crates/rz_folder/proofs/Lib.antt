@@ -1,6 +1,7 @@
 pub mod Search
 pub mod Store
 pub mod Reading
+pub mod Allowed
 pub mod Finding
 pub mod FolderPart
 pub mod Streams

@@ -12,6 +12,7 @@ module _ {F : Type 0} (g : Ghosts F) where
     other_count = refl;
     unwritten = refl;
     cause = λ never. absurd never;
+    allowed = λ name may. may;
   }
 
   -- a call after others
@@ -22,6 +23,7 @@ module _ {F : Type 0} (g : Ghosts F) where
     other_count = second.other_count ∙ first.other_count;
     unwritten = second.unwritten ∙ first.unwritten;
     cause = λ failed. (let rose = second.cause (so failed) in omega (arith, rose, first.counted));
+    allowed = λ name may. second.allowed name (first.allowed name may);
   }
 
   -- a call that failed to read only where another did
@@ -32,4 +34,5 @@ module _ {F : Type 0} (g : Ghosts F) where
     other_count = reads.other_count;
     unwritten = reads.unwritten;
     cause = λ failed. reads.cause (so failed);
+    allowed = reads.allowed;
   }

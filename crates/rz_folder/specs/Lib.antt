@@ -11,6 +11,7 @@ pub mod TextSink
 pub mod HeldSink
 pub mod RealFaults
 pub mod RealSink
+pub mod MayRead
 pub mod OnlyReads
 pub mod Finds
 pub mod Temporary

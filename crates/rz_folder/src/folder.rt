@@ -1,6 +1,6 @@
 //! The trait of files by name, with counts of its writes and of its faults. What its calls do is in `specs/Folder`.
 
-ghost use Rattle.std.specs.Prelude.{◌≡◌, ◌<◌, ◌≤◌, ◌^◌, ℕ, length};
+ghost use Rattle.std.specs.Prelude.{◌≡◌, ◌<◌, ◌≤◌, ◌^◌, ℕ, ⊤, List, length};
 ghost use Rattle.std.specs.declared.option.Option.{Option};
 ghost use Rattle.rz_folder.specs.Counts.{next, Rose};
 ghost use Rattle.rz_folder.specs.Folder.{Files, Reads, Writes};
@@ -35,6 +35,9 @@ pub enum Written {
 ///
 /// Some folders tell what their files hold, as one in memory does, and some tell nothing, as the
 /// host's. A folder that tells it goes on telling it.
+///
+/// A folder also says which names may be read. A caller may read no other name, so generic code is
+/// proved to read no other file than its contract says.
 pub trait Folder {
     /// What each name holds, where the folder tells it.
     ghost files: { Self → Option Files };
@@ -48,19 +51,24 @@ pub trait Folder {
     /// The number of writes, those that failed among them.
     ghost writes: { Self → ℕ };
 
-    /// Reads the whole file of that name into memory of the allocator. No file changes.
+    /// The names that may be read, in UTF-8: all, unless the folder says otherwise. No call takes one away.
+    ghost may_read: { Self → List ℕ → Type 0 } = { λ _ _. ⊤ };
+
+    /// Reads the whole file of that name, which may be read, into memory of the allocator. No file changes.
     ///
     /// - `Bytes` has fewer than 2^32 bytes: what the name holds, where the folder tells it.
     /// - `Missing` comes only where the name holds nothing, where the folder tells it.
     /// - `Failed` comes only where `read_faults` rose in this call or stands at its last value.
     /// - `NoMemory` may come whenever memory is refused.
     fn read(&mut self, alloc: Global, name: &str) -> Read
+        requires { may_read self.old name.now }
         ensures told { Reads name.now (files self.old) result }
         ensures unchanged { files self.new ≡ files self.old }
         ensures counted { read_faults self.old ≤ read_faults self.new }
         ensures cause { result ≡ Read.Failed → Rose (read_faults self.old) (read_faults self.new) }
         ensures other_count { write_faults self.new ≡ write_faults self.old }
-        ensures unwritten { writes self.new ≡ writes self.old };
+        ensures unwritten { writes self.new ≡ writes self.old }
+        ensures allowed { (other : List ℕ) → may_read self.old other → may_read self.new other };
 
     /// Makes the file of that name hold these bytes, of which there are fewer than 2^32. It takes
     /// no memory.
@@ -74,7 +82,8 @@ pub trait Folder {
         ensures counted { write_faults self.old ≤ write_faults self.new }
         ensures cause { result ≡ Written.Failed → Rose (write_faults self.old) (write_faults self.new) }
         ensures other_count { read_faults self.new ≡ read_faults self.old }
-        ensures once { writes self.new ≡ next (writes self.old) };
+        ensures once { writes self.new ≡ next (writes self.old) }
+        ensures allowed { (other : List ℕ) → may_read self.old other → may_read self.new other };
 
     /// The number of reads that failed, which stops at 2^64 - 1.
     fn read_faults(&self) -> u64

@@ -68,6 +68,7 @@ impl Sink for HeldSink {
     fn put(&mut self, bytes: &[u8]) -> Put
         ensures told { Puts bytes.now (Some (stream_of self.old)) (Some (stream_of self.new)) result }
         ensures counted { self.old.sink.faults ≤ self.new.sink.faults }
+        ensures quiet { result ≡ Put.Done → self.new.sink.faults ≡ self.old.sink.faults }
         ensures cause { result ≡ Put.Failed → Rose self.old.sink.faults self.new.sink.faults }
 
         ensures failed { (result ≡ Put.Failed) ↔ (IsNextNamed self.old.sink ⊎ LacksRoom self.old.sink bytes.now) }
@@ -80,6 +81,7 @@ impl Sink for HeldSink {
     fn flush(&mut self) -> Put
         ensures told { Flushes (Some (stream_of self.old)) (Some (stream_of self.new)) result }
         ensures counted { self.old.sink.faults ≤ self.new.sink.faults }
+        ensures quiet { result ≡ Put.Done → self.new.sink.faults ≡ self.old.sink.faults }
         ensures cause { result ≡ Put.Failed → Rose self.old.sink.faults self.new.sink.faults }
 
         ensures failed { (result ≡ Put.Failed) ↔ IsNextNamed self.old.sink }

@@ -1,5 +1,6 @@
 //! Files by name, with a count of the writes, and places to write to, each with counts of its faults: the two traits,
-//! and a folder and a sink in memory whose contracts are exact. It rests on `rz_core`, `arrayvec` and `itoa`.
+//! and a folder and a sink in memory whose contracts are exact. A folder says which names may be read, and a call that
+//! reads says in its contract which of them it needs (`specs/MayRead`). It rests on `rz_core`, `arrayvec` and `itoa`.
 //! `Shelf` holds files in memory that are read and never written, for a command that has its files of its own, and
 //! `TextSink` has in memory what a call puts. `HeldSink` holds back in memory what is put until a flush, as standard
 //! output does.

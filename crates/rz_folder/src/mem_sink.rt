@@ -108,6 +108,7 @@ impl Sink for MemSink {
     fn put(&mut self, bytes: &[u8]) -> Put
         ensures told { Puts bytes.now (Some (all_out self.old.written)) (Some (all_out self.new.written)) result }
         ensures counted { self.old.faults ≤ self.new.faults }
+        ensures quiet { result ≡ Put.Done → self.new.faults ≡ self.old.faults }
         ensures cause { result ≡ Put.Failed → Rose self.old.faults self.new.faults }
 
         ensures failed { (result ≡ Put.Failed) ↔ (IsNextNamed self.old ⊎ LacksRoom self.old bytes.now) }

@@ -79,6 +79,7 @@ impl<W: Write + Drop> RealSink<W> {
         ensures result { result ≡ put_of is_done }
         ensures stream { self.new.stream ≡ self.old.stream }
         ensures counted { self.old.faults ≤ self.new.faults }
+        ensures quiet { result ≡ Put.Done → self.new.faults ≡ self.old.faults }
         ensures after { self.new.faults ≡ after_put self.old.faults result }
         ensures stays { self.old.has_failed ≡ true → self.new.has_failed ≡ true }
         ensures failed { result ≡ Put.Failed → self.new.has_failed ≡ true }
@@ -103,6 +104,7 @@ impl<W: Write + Drop> Sink for RealSink<W> {
     fn put(&mut self, bytes: &[u8]) -> Put
         ensures told { Puts bytes.now self.old.stream self.new.stream result }
         ensures counted { self.old.faults ≤ self.new.faults }
+        ensures quiet { result ≡ Put.Done → self.new.faults ≡ self.old.faults }
         ensures cause { result ≡ Put.Failed → Rose self.old.faults self.new.faults }
         ensures after { self.new.faults ≡ after_put self.old.faults result }
         ensures stays { self.old.has_failed ≡ true
@@ -121,6 +123,7 @@ impl<W: Write + Drop> Sink for RealSink<W> {
     fn flush(&mut self) -> Put
         ensures told { Flushes self.old.stream self.new.stream result }
         ensures counted { self.old.faults ≤ self.new.faults }
+        ensures quiet { result ≡ Put.Done → self.new.faults ≡ self.old.faults }
         ensures cause { result ≡ Put.Failed → Rose self.old.faults self.new.faults }
         ensures after { self.new.faults ≡ after_put self.old.faults result }
         ensures stays { self.old.has_failed ≡ true

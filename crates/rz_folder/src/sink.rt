@@ -29,19 +29,21 @@ pub trait Sink {
 
     /// Puts the piece after all that was put. A sink may hold some of it back until `flush`.
     ///
-    /// After `Done` the whole piece is put. `Failed` comes only where `faults` rose in this call
-    /// or stands at its last value; then a front of the piece is put.
+    /// After `Done` the whole piece is put, and `faults` is as before. `Failed` comes only where `faults`
+    /// rose in this call or stands at its last value; then a front of the piece is put.
     fn put(&mut self, bytes: &[u8]) -> Put
         ensures told { Puts bytes.now (stream self.old) (stream self.new) result }
         ensures counted { faults self.old ≤ faults self.new }
+        ensures quiet { result ≡ Put.Done → faults self.new ≡ faults self.old }
         ensures cause { result ≡ Put.Failed → Rose (faults self.old) (faults self.new) };
 
     /// Sees to it that all that was put is out. It takes no memory. After `Done` nothing is held
-    /// back. `Failed` comes only where `faults` rose in this call or stands at its last value; then
-    /// some of what was held back may be out, and the rest is held back still.
+    /// back, and `faults` is as before. `Failed` comes only where `faults` rose in this call or stands
+    /// at its last value; then some of what was held back may be out, and the rest is held back still.
     fn flush(&mut self) -> Put
         ensures told { Flushes (stream self.old) (stream self.new) result }
         ensures counted { faults self.old ≤ faults self.new }
+        ensures quiet { result ≡ Put.Done → faults self.new ≡ faults self.old }
         ensures cause { result ≡ Put.Failed → Rose (faults self.old) (faults self.new) };
 
     /// The number of calls that failed, which stops at 2^64 - 1.

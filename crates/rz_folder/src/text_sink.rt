@@ -56,6 +56,7 @@ impl Sink for TextSink {
     fn put(&mut self, bytes: &[u8]) -> Put
         ensures told { Puts bytes.now (Some (all_out self.old.bytes)) (Some (all_out self.new.bytes)) result }
         ensures counted { self.old.faults ≤ self.new.faults }
+        ensures quiet { result ≡ Put.Done → self.new.faults ≡ self.old.faults }
         ensures cause { result ≡ Put.Failed → Rose self.old.faults self.new.faults }
         ensures done { result ≡ Put.Done → self.new ≡ record self.old { bytes = self.old.bytes ++ bytes.now } }
         ensures failed { result ≡ Put.Failed → self.new ≡ record self.old { faults = next self.old.faults } }

@@ -1,10 +1,11 @@
 -- The first file under some names, from the reads of those before it.
-use Rattle.std.proofs.Common.{◌≡◌, ℕ, ◌+◌, List, ◌∷◌, drop, Option, Some, None, IfSome, refl, sym, ap, subst, ◌∙◌}
+use Rattle.std.proofs.Common.{◌≡◌, ℕ, suc, ◌+◌, List, [], ◌∷◌, drop, Option, Some, None, IfSome, refl, sym, ap, subst, ◌∙◌}
 use Rattle.std.specs.Prelude.{slice_get}
 use Rattle.std.specs.FinMap as finite
 use Rattle.std.proofs.lemmas.List.{at_drop_more}
 use Rattle.std.proofs.lemmas.Option.{slice_get_within, get_or_from_slice_get, same_Some}
 use Rattle.rz_folder.specs.Folder.{Files, Reads}
+use Rattle.rz_folder.specs.MayRead.{IsOneOf}
 use Rattle.rz_folder.specs.declared.folder.Read.TheVariants as read
 use Rattle.rz_folder_paths.specs.Names.{file_of, first_file}
 
@@ -37,3 +38,18 @@ module _ (files : Files) (names : List (List ℕ)) (k : ℕ) (name : List ℕ) (
   pub found_later : file_of files names ≡ file_of files (drop k names) → finite.get files name ≡ None → file_of files names ≡ file_of files (drop (k + 1) names)
   found_later so_far has =
       so_far ∙ here ∙ ap (λ (o : Option (List ℕ)). first_file name o (file_of files (drop (k + 1) names))) has
+
+-- The file that is found has one of the names, and these are its bytes.
+abbrev IsUnder : Files → List (List ℕ) → List ℕ → List ℕ → Type 0
+IsUnder files names name bytes = IsOneOf names name × (finite.get files name ≡ Some bytes)
+
+pub found_under : (files : Files) (names : List (List ℕ)) (name bytes : List ℕ) → file_of files names ≡ Some (name, bytes) → IsUnder files names name bytes
+found_under files [] name bytes is = absurd cc
+found_under files (first ∷ names) name bytes is = by (finite.get files first) refl (found_under files names name bytes) is
+  where
+    by : (entry : Option (List ℕ)) → finite.get files first ≡ entry → (file_of files names ≡ Some (name, bytes) → IsUnder files names name bytes)
+        → first_file first entry (file_of files names) ≡ Some (name, bytes) → IsUnder files (first ∷ names) name bytes
+    by None none later is = let under = later is in ((suc under.0.0, under.0.1), under.1)
+    by (Some held) has later is =
+        let same = same_Some (first, held) (name, bytes) is in
+        ((0, ap (λ (found : List ℕ × List ℕ). Some found.0) same), subst (λ (found : List ℕ × List ℕ). finite.get files found.0 ≡ Some found.1) same has)

@@ -9,6 +9,7 @@ use Rattle.rz_core.specs.declared.fault.Fault.{Fault}
 use Rattle.rz_core.specs.declared.fault.Kept.TheVariants.{Name}
 use Rattle.rz_core.specs.declared.fault.Mark.{Mark}
 use Rattle.rz_folder.specs.Folder.{Files}
+use Rattle.rz_folder.specs.MayRead.{IsOneOf}
 
 -- the first of these names under which a file stands, and its bytes
 abbrev pub first_file : List ℕ → Option (List ℕ) → Option (List ℕ × List ℕ) → Option (List ℕ × List ℕ)
@@ -33,3 +34,7 @@ utf8_name name = encode_utf8_all (map roman_char name)
 
 abbrev pub names_of : List (List ℕ) → List ℕ → List (List ℕ)
 names_of paths name = name ∷ map (λ path. path ++ 47 ∷ name) paths
+
+-- one of the names under which a file is looked for whose own name is of this set
+abbrev pub LooksFor : List (List ℕ) → (List ℕ → Type 0) → List ℕ → Type 0
+LooksFor paths Owns name = (own : List ℕ) × Owns own × IsOneOf (names_of paths (utf8_name own)) name

@@ -2,6 +2,7 @@
 
 ghost use Rattle.std.specs.Prelude.{◌≡◌, ℕ, ◌<◌, ◌^◌, length, IfOk, IfSome, option_map};
 ghost use Rattle.rz_core.specs.Message.{IsMarked, IsNameable};
+ghost use Rattle.rz_folder.specs.MayRead.{IsOneOf, MayRead};
 ghost use Rattle.rz_folder.specs.OnlyReads.{OnlyReads};
 ghost use Rattle.rz_core.specs.Stop.{IsReadFault, OnRefusal, Yields};
 ghost use Rattle.rz_folder_paths.specs.Names.{bytes_of, file_of, missing_file};
@@ -11,7 +12,7 @@ use rz_folder::{Folder, Read};
 use std::alloc::Global;
 
 /// The first of these names under which a file stands, and its bytes, fewer than 2^32. `None` comes where no file
-/// stands under any of them. No file changes.
+/// stands under any of them. No file changes, and no other name is read.
 ///
 /// A read fault comes only where the folder's count of read faults rose.
 pub fn find<'a, F: Folder>(
@@ -19,6 +20,7 @@ pub fn find<'a, F: Folder>(
     folder: &mut F,
     names: &'a FileNames,
 ) -> Result<Option<(&'a str, Bytes)>, Halt<Fault>>
+    requires { MayRead F.Folder folder.old (IsOneOf names.now) }
     ensures found { IfSome (F.files folder.old) (λ files. IfOk result (λ found.
         option_map (λ found. (found.0.now, found.1)) found ≡ file_of files names.now)) }
     ensures short { IfOk result (λ found. IfSome found (λ found. length found.1 < 2 ^ 32)) }
@@ -38,7 +40,8 @@ pub fn find<'a, F: Folder>(
     Ok(None)
 }
 
-/// The bytes of the first file that stands under one of these names, fewer than 2^32. No file changes.
+/// The bytes of the first file that stands under one of these names, fewer than 2^32. No file changes, and no other
+/// name is read.
 ///
 /// Refused with 101 where no file stands under any of them, at the mark, keeping the name that is given for it. A
 /// read fault comes only where the folder's count of read faults rose. (MPW Rez.)
@@ -49,6 +52,7 @@ pub fn read_file<F: Folder>(
     mark: Mark,
     kept: &[u8],
 ) -> Result<Bytes, Halt<Fault>>
+    requires { MayRead F.Folder folder.old (IsOneOf names.now) }
     ensures read { IfSome (F.files folder.old) (λ files.
         Yields result (λ answer. answer ≡ bytes_of files names.now (missing_file (Some mark) kept.now))) }
     ensures short { IfOk result (λ bytes. length bytes < 2 ^ 32) }

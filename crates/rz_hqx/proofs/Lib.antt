@@ -1,7 +1,10 @@
 pub mod Again
 pub mod Fielded
+pub mod Numbered
+pub mod Reading
 pub mod Short
 pub mod Sixes
 pub mod Spoken
 pub mod Steps
 pub mod Undone
+pub mod Writing

@@ -1,14 +1,15 @@
 -- How long a text is at most.
-use Rattle.std.proofs.Common.{◌≡◌, ℕ, zero, suc, ◌+◌, ◌*◌, ◌%◌, ◌^◌, ◌<◌, ◌≤◌, ◌==◌, ◌&&◌, nat_lt, not, if◌then◌else◌, Bool, true, false, List, [], ◌∷◌, ◌++◌, length, map, replicate, arith, length-append}
+use Rattle.std.proofs.Common.{◌≡◌, ℕ, zero, suc, ◌+◌, ◌*◌, ◌%◌, ◌^◌, ◌<◌, ◌≤◌, ◌==◌, ◌&&◌, nat_lt, not, if◌then◌else◌, Bool, true, false, List, [], ◌∷◌, ◌++◌, length, map, replicate, ap, arith, length-append}
 use Rattle.std.proofs.lemmas.Bool.Decides.{nat_tests}
 use Rattle.std.proofs.lemmas.List.{length-map}
 use Rattle.std.specs.List.{flat_map}
 use Rattle.rz_bridge.specs.declared.file.MacFile.{MacFile}
 use Rattle.rz_hqx.specs.BinHex.{hqx_bytes}
 use Rattle.rz_hqx.specs.Letters.{letter, sixes}
-use Rattle.rz_hqx.specs.Runs.{literal, run, packed_behind, packed}
+use Rattle.rz_hqx.specs.Runs.{equal_codes, literal, packed, stored, Code}
 use Rattle.rz_hqx.specs.Text.{gap_at, in_lines, head_line, lines_of, text_of}
 use Rattle.rz_hqx.proofs.Fielded.{IsWritable, size}
+use Rattle.rz_hqx.proofs.Writing.{begins, packed_behind, piece}
 
 few_literal : (byte : ℕ) → length (literal byte) ≤ 2
 few_literal byte = by_mark (byte == 144)
@@ -17,35 +18,46 @@ few_literal byte = by_mark (byte == 144)
     by_mark true = omega arith
     by_mark false = omega arith
 
-few_literals : (count byte : ℕ) → length (flat_map literal (replicate count byte)) ≤ 2 * count
-few_literals zero byte = omega arith
-few_literals (suc count) byte =
-    omega (arith, length-append (literal byte) (flat_map literal (replicate count byte)), few_literal byte, few_literals count byte)
+abbrev alone : ℕ → Code
+alone byte = record { byte = byte; counts = [] }
+
+few_alone : (count byte : ℕ) → length (flat_map stored (replicate count (alone byte))) ≤ 2 * count
+few_alone zero byte = omega arith
+few_alone (suc count) byte =
+    omega (arith, length-append (stored (alone byte)) (flat_map stored (replicate count (alone byte))), length-append (literal byte) [], few_literal byte, few_alone count byte)
 
 many_of : (count : ℕ) → nat_lt count 4 ≡ false → 4 ≤ count
 many_of count many = grind (arith, nat_tests)
 
-few_run : (byte count : ℕ) → 1 ≤ count → length (run byte count) ≤ 2 * count
-few_run byte count some = by_count (nat_lt count 4) (many_of count)
+few_piece : (byte count : ℕ) → length (piece byte count) ≤ 2 * count
+few_piece byte count = by_count (nat_lt count 4) (many_of count)
   where
-    by_count : (t : Bool) → (t ≡ false → 4 ≤ count) → length (if t then flat_map literal (replicate count byte) else literal byte ++ 144 ∷ count ∷ []) ≤ 2 * count
-    by_count true many = few_literals count byte
-    by_count false many = omega (arith, many (λ i. false), length-append (literal byte) (144 ∷ count ∷ []), few_literal byte)
+    long : Code
+    long = record { byte = byte; counts = count ∷ [] }
+
+    by_count : (t : Bool) → (t ≡ false → 4 ≤ count) → length (flat_map stored (if t then replicate count (alone byte) else long ∷ [])) ≤ 2 * count
+    unfolding long
+    by_count true many = few_alone count byte
+    by_count false many = omega (arith, many (λ i. false), length-append (stored long) [], length-append (literal byte) (144 ∷ count ∷ []), few_literal byte)
 
 few_next : (t : Bool) (count size : ℕ) (on own off : List ℕ) → length on ≤ 2 * (count + 1 + size) → length own ≤ 2 * count → length off ≤ 2 * (1 + size)
     → length (if t then on else own ++ off) ≤ 2 * (count + suc size)
 few_next true count size on own off joins ends starts = omega arith
 few_next false count size on own off joins ends starts = omega (arith, length-append own off)
 
-few_behind : (xs : List ℕ) (byte count : ℕ) → 1 ≤ count → length (packed_behind byte count xs) ≤ 2 * (count + length xs)
-few_behind [] byte count some = omega (arith, few_run byte count some)
-few_behind (x ∷ xs) byte count some =
-    few_next ((x == byte) && nat_lt count 255) count (length xs) (packed_behind byte (count + 1) xs) (run byte count) (packed_behind x 1 xs)
-    (few_behind xs byte (count + 1) (omega arith)) (few_run byte count some) (few_behind xs x 1 (omega arith))
+few_behind : (xs : List ℕ) (byte count : ℕ) → length (packed_behind byte count xs) ≤ 2 * (count + length xs)
+few_behind [] byte count = omega (arith, few_piece byte count)
+few_behind (x ∷ xs) byte count =
+    few_next ((x == byte) && nat_lt count 255) count (length xs) (packed_behind byte (count + 1) xs) (piece byte count) (packed_behind x 1 xs)
+    (few_behind xs byte (count + 1)) (few_piece byte count) (few_behind xs x 1)
 
 few_packed : (bytes : List ℕ) → length (packed bytes) ≤ 2 * length bytes
-few_packed [] = omega arith
-few_packed (x ∷ xs) = omega (arith, few_behind xs x 1 (omega arith))
+few_packed [] = none
+  where
+    none : length (packed []) ≤ 0
+    unfolding packed
+    none = omega arith
+few_packed (x ∷ xs) = omega (arith, few_behind xs x 1, ap length (begins x xs))
 
 few_sixes : (bytes : List ℕ) → length (sixes bytes) ≤ 2 * length bytes + 2
 few_sixes [] = omega arith

@@ -1,11 +1,13 @@
 -- A text that was written is read as its numbers.
-use Rattle.std.proofs.Common.{◌≡◌, ℕ, ◌+◌, ◌%◌, ◌≤◌, ◌==◌, ◌&&◌, not, nat_eq, if◌then◌else◌, Bool, true, false, List, [], ◌∷◌, ◌++◌, length, map, Option, Ok, Result, refl, sym, ap, ◌∙◌, arith, append_assoc}
+use Rattle.std.proofs.Common.{◌≡◌, ℕ, ◌+◌, ◌%◌, ◌==◌, ◌&&◌, not, nat_eq, if◌then◌else◌, Bool, true, false, cond, List, [], ◌∷◌, ◌++◌, map, Option, Some, Ok, Result, refl, sym, ap, ◌∙◌, append_assoc}
 use Rattle.std.proofs.lemmas.List.{append-nil}
-use Rattle.std.specs.List.{AllByRecursion, starts_with}
+use Rattle.std.specs.List.{AllByRecursion, find, starts_with}
+use Rattle.std.specs.Option.{option_map_or}
 use Rattle.rz_bridge.specs.Faults.{fault}
 use Rattle.rz_bridge.specs.declared.fault.BridgeFault.{BridgeFault}
 use Rattle.rz_hqx.specs.Letters.{letter, number_of}
-use Rattle.rz_hqx.specs.Text.{head, is_line_end, is_blank, behind_line, behind_head, body_of, with_number, numbers_behind, numbers_in, gap_at, in_lines, lines_of}
+use Rattle.rz_hqx.specs.Text.{head, is_line_end, is_blank, is_head, behind_line, behind_head, body_of, later_lines, numbers_in, gap_at, in_lines, lines_of}
+use Rattle.rz_hqx.proofs.Numbered.{numbers_are, numbers_behind, with_number}
 use Rattle.rz_hqx.proofs.Sixes.{IsSix, IsLetter, letter_read}
 
 -- a gap passes unread
@@ -42,16 +44,44 @@ abbrev pub body_with : List ℕ → List ℕ
 body_with ns = in_lines 1 (map letter ns ++ 58 ∷ []) ++ 10 ∷ []
 
 pub body_is : (ns : List ℕ) → body_of (lines_of ns) ≡ Ok (body_with ns)
+unfolding behind_head
 body_is ns = refl
 
 pub numbers_read : (ns : List ℕ) (place : ℕ) → AllByRecursion IsSix ns → numbers_in place (body_with ns) ≡ Ok ns
-numbers_read ns place small = letters_read ns 1 [] place small
+numbers_read ns place small = sym (numbers_are (body_with ns) place) ∙ letters_read ns 1 [] place small
+
+-- The first line.
+
+-- what stands after the first of these lines that begins so
+abbrev pub found : List (List ℕ) → List ℕ
+found lines = option_map_or behind_line (find is_head lines) []
+
+-- the lines from here on; `first` where one begins here
+abbrev pub lines_from : Bool → List ℕ → List (List ℕ)
+lines_from first text = if first then text ∷ later_lines text else later_lines text
+
+pub begins : (text : List ℕ) → found (lines_from true text) ≡ behind_head text
+unfolding behind_head
+begins text = refl
 
 -- where a line begins here, and begins so, what is sought stands after its end
-pub head_found : (rest all : List ℕ) (first : Bool) → behind_head first rest ≡ all → 1 ≤ length rest → first ≡ true → starts_with nat_eq rest head ≡ true → behind_line rest ≡ all
-head_found [] all first so_far some is starts = absurd (omega arith)
-head_found (b ∷ bs) all first so_far some is starts =
-    let line = behind_line (b ∷ bs) in
-    let later = behind_head (is_line_end b) bs in
-    let begins = starts_with nat_eq (b ∷ bs) head in
-    sym (ap (λ (t : Bool). if t && begins then line else later) is ∙ ap (λ (t : Bool). if t then line else later) starts) ∙ so_far
+pub head_found : (rest all : List ℕ) (first : Bool) → found (lines_from first rest) ≡ all → first ≡ true → starts_with nat_eq rest head ≡ true → behind_line rest ≡ all
+head_found rest all first so_far is starts =
+    let others = later_lines rest in
+    sym
+    (ap (λ (t : Bool). found (if t then rest ∷ others else others)) is
+    ∙ ap (λ (t : Bool). option_map_or behind_line (cond t (Some rest) (find is_head others)) []) starts)
+    ∙ so_far
+
+-- else it stands after a byte
+pub byte_passed : (b : ℕ) (bs all : List ℕ) (first : Bool) → found (lines_from first (b ∷ bs)) ≡ all → (first && starts_with nat_eq (b ∷ bs) head) ≡ false
+    → found (lines_from (is_line_end b) bs) ≡ all
+byte_passed b bs all false so_far other = so_far
+byte_passed b bs all true so_far other =
+    sym (ap (λ (t : Bool). option_map_or behind_line (cond t (Some (b ∷ bs)) (find is_head (later_lines (b ∷ bs)))) []) other) ∙ so_far
+
+-- after the last byte there is no such line
+pub none_found : (rest all : List ℕ) (first : Bool) → found (lines_from first rest) ≡ all → rest ≡ [] → rest ≡ all
+none_found [] all true so_far ended = so_far
+none_found [] all false so_far ended = so_far
+none_found (b ∷ bs) all first so_far ended = absurd cc

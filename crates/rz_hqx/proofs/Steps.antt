@@ -6,7 +6,8 @@ use Rattle.std.specs.List.{AllByRecursion}
 use Rattle.rz_bridge.specs.Faults.{fault}
 use Rattle.rz_bridge.specs.declared.fault.BridgeFault.{BridgeFault}
 use Rattle.rz_hqx.specs.Letters.{number_of}
-use Rattle.rz_hqx.specs.Text.{is_blank, with_number, numbers_behind}
+use Rattle.rz_hqx.specs.Text.{is_blank}
+use Rattle.rz_hqx.proofs.Numbered.{numbers_behind, with_number}
 
 module _ (body : List ℕ) (index at : ℕ) (out : List ℕ) (all : Result (List ℕ) BridgeFault) (below : index < length body) (so_far : numbers_behind out at (drop index body) ≡ all) (other : get_or body index 0 ≡ 58 → ⊥) where
   abbrev byte : ℕ

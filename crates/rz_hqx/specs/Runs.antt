@@ -1,59 +1,103 @@
 -- The run codes of BinHex: 90 and a count stand for a run of one byte, and 90 00 for the byte 90. (RFC 1741.)
-use Rattle.std.specs.Prelude.{ℕ, ◌+◌, ◌-◌, ◌==◌, ◌&&◌, nat_lt, if◌then◌else◌, List, [], ◌∷◌, ◌++◌, length, replicate, get_or, Ok, Err}
-use Rattle.std.specs.List.{flat_map}
+use Rattle.std.specs.Prelude.{◌≡◌, ◌≢◌, ℕ, ◌+◌, ◌-◌, ◌/◌, ◌%◌, ◌==◌, nat_lt, if◌then◌else◌, Bool, true, false, List, [], ◌∷◌, ◌++◌, length, replicate, Option, Some, None}
+use Rattle.std.specs.List.{flat_map, AllByRecursion}
 use Rattle.std.specs.declared.result.Result.{Result}
-use Rattle.rz_bridge.specs.Faults.{fault}
+use Rattle.rz_core.specs.Lists.{or_else, unless_fault}
+use Rattle.rz_bridge.specs.Faults.{broken, fault}
 use Rattle.rz_bridge.specs.declared.fault.BridgeFault.{BridgeFault}
 
--- Written.
+-- Codes.
+
+-- a byte, and the counts of the runs that go on with it, each of which counts the byte before it, too
+pub record Code : Type 0 where
+  pub byte : ℕ
+  pub counts : List ℕ
+
+-- no count is 0
+abbrev pub IsCode : Code → Type 0
+IsCode code = AllByRecursion (λ count. count ≢ 0) code.counts
 
 -- a byte by itself
 abbrev pub literal : ℕ → List ℕ
 literal byte = if byte == 144 then 144 ∷ 0 ∷ [] else byte ∷ []
 
--- so many equal bytes: four and more are the byte, 90 and the count
-abbrev pub run : ℕ → ℕ → List ℕ
-run byte count = if nat_lt count 4 then flat_map literal (replicate count byte) else literal byte ++ 144 ∷ count ∷ []
+-- the bytes of a code
+abbrev pub stored : Code → List ℕ
+stored code = literal code.byte ++ flat_map (λ count. 144 ∷ count ∷ []) code.counts
 
--- bytes after so many equal ones, which go into one run with them as far as they are equal and at most 255
-abbrev pub packed_behind : ℕ → ℕ → List ℕ → List ℕ
-packed_behind byte count [] = run byte count
-packed_behind byte count (x ∷ xs) =
-    if (x == byte) && nat_lt count 255 then packed_behind byte (count + 1) xs else run byte count ++ packed_behind x 1 xs
+-- the bytes that a code stands for
+abbrev pub meant : Code → List ℕ
+meant code = code.byte ∷ flat_map (λ count. replicate (count - 1) code.byte) code.counts
+
+-- Written.
+
+-- so many equal bytes
+pub record Run : Type 0 where
+  pub byte : ℕ
+  pub count : ℕ
+
+-- a run before others: one with the first of them, where that is of the same byte
+abbrev pub before_runs : Run → List Run → List Run
+before_runs run [] = run ∷ []
+before_runs run (next ∷ runs) =
+    if run.byte == next.byte then record { byte = run.byte; count = run.count + next.count } ∷ runs else run ∷ next ∷ runs
+
+-- the longest runs of equal bytes
+abbrev pub runs_of : List ℕ → List Run
+runs_of [] = []
+runs_of (byte ∷ bytes) = before_runs (record { byte = byte; count = 1 }) (runs_of bytes)
+
+-- up to 255 equal bytes: fewer than four are a code each, and more are one code
+abbrev pub equal_codes : ℕ → ℕ → List Code
+equal_codes byte count =
+    if nat_lt count 4 then replicate count (record { byte = byte; counts = [] }) else record { byte = byte; counts = count ∷ [] } ∷ []
+
+-- a run: 255 of its bytes as often as they go, and then the others
+abbrev pub run_codes : Run → List Code
+run_codes run = flat_map (equal_codes run.byte) (replicate (run.count / 255) 255 ++ run.count % 255 ∷ [])
 
 -- the one coding of bytes
-abbrev pub packed : List ℕ → List ℕ
-packed [] = []
-packed (x ∷ xs) = packed_behind x 1 xs
+unfoldable pub packed : List ℕ → List ℕ
+packed bytes = flat_map stored (flat_map run_codes (runs_of bytes))
 
 -- Read.
 
--- Truncated: a 90 is the last byte
-abbrev pub cut_run : ℕ → BridgeFault
-cut_run place = fault 445 place 1
+-- what bytes are cut into: counts that go on with a byte before them, then codes; and whether a 90 without a count is last
+pub record Cut : Type 0 where
+  pub counts : List ℕ
+  pub codes : List Code
+  pub torn : Bool
 
--- RunAtStart: there is no byte before a run
-abbrev pub run_at_start : ℕ → ℕ → BridgeFault
-run_at_start place count = fault 446 place count
+abbrev pub with_byte : ℕ → Cut → Cut
+with_byte byte cut = record { counts = []; codes = record { byte = byte; counts = cut.counts } ∷ cut.codes; torn = cut.torn }
 
--- the last of some bytes
-abbrev pub last_of : List ℕ → ℕ
-last_of bytes = get_or bytes (length bytes - 1) 0
+abbrev pub with_count : ℕ → Cut → Cut
+with_count count cut = record { counts = count ∷ cut.counts; codes = cut.codes; torn = cut.torn }
 
--- the bytes that codes from a place on stand for, after bytes that are known; and the same after a 90 at that place
+-- bytes, and those after a 90, as they are cut
 abbrev mutual
-  pub unpacked_behind : List ℕ → ℕ → List ℕ → Result (List ℕ) BridgeFault
-  unpacked_behind front place [] = Ok front
-  unpacked_behind front place (x ∷ xs) =
-      if x == 144 then run_behind front place xs else unpacked_behind (front ++ x ∷ []) (place + 1) xs
+  pub cut_of : List ℕ → Cut
+  cut_of [] = record { counts = []; codes = []; torn = false }
+  cut_of (byte ∷ bytes) = if byte == 144 then marked bytes else with_byte byte (cut_of bytes)
 
-  pub run_behind : List ℕ → ℕ → List ℕ → Result (List ℕ) BridgeFault
-  run_behind front place [] = Err (cut_run place)
-  run_behind front place (count ∷ xs) =
-      if count == 0 then unpacked_behind (front ++ 144 ∷ []) (place + 2) xs
-      else if length front == 0 then Err (run_at_start place count)
-      else unpacked_behind (front ++ replicate (count - 1) (last_of front)) (place + 2) xs
+  pub marked : List ℕ → Cut
+  marked [] = record { counts = []; codes = []; torn = true }
+  marked (count ∷ bytes) = if count == 0 then with_byte 144 (cut_of bytes) else with_count count (cut_of bytes)
 
--- the bytes that codes stand for, or the first fault
-abbrev pub unpacked : List ℕ → Result (List ℕ) BridgeFault
-unpacked codes = unpacked_behind [] 0 codes
+-- RunAtStart: a count has no byte before it
+abbrev pub run_at_start : List ℕ → Option BridgeFault
+run_at_start [] = None
+run_at_start (count ∷ counts) = Some (fault 446 0 count)
+
+-- the bytes that codes stand for, or the first fault, which may be Truncated: a 90 is the last byte
+unfoldable pub unpacked : List ℕ → Result (List ℕ) BridgeFault
+unpacked coded =
+    let cut = cut_of coded in
+    unless_fault (or_else (run_at_start cut.counts) (broken cut.torn (fault 445 (length coded - 1) 1))) (flat_map meant cut.codes)
+
+-- these bytes stand for those: the ones are codes, and the others what the codes mean
+pub record IsCoding (coded bytes : List ℕ) : Type 0 where
+  pub codes : List Code
+  pub are : AllByRecursion IsCode codes
+  pub coded : coded ≡ flat_map stored codes
+  pub bytes : bytes ≡ flat_map meant codes

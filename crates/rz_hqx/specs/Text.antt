@@ -1,9 +1,10 @@
 -- The text of BinHex: a line that says what it is, and letters between two colons. (RFC 1741.)
-use Rattle.std.specs.Prelude.{ℕ, ◌+◌, ◌%◌, ◌==◌, ◌&&◌, ◌||◌, not, Bool, true, if◌then◌else◌, List, [], ◌∷◌, ◌++◌, map, codes, nat_eq, Option, Some, None, Ok, Err}
-use Rattle.std.specs.List.{starts_with}
-use Rattle.std.specs.Option.{ok_or}
+use Rattle.std.specs.Prelude.{ℕ, ◌+◌, ◌%◌, ◌==◌, ◌&&◌, ◌||◌, not, Bool, if◌then◌else◌, List, [], ◌∷◌, ◌++◌, length, map, codes, nat_eq, Option, Some, None, option_map}
+use Rattle.std.specs.List.{before_first, enumerate_from, filter_map, find, list_any, starts_with}
+use Rattle.std.specs.Option.{is_some, ok_or, option_map_or}
 use Rattle.std.specs.declared.result.Result.{Result}
-use Rattle.rz_bridge.specs.Faults.{fault}
+use Rattle.rz_core.specs.Lists.{or_else, unless_fault}
+use Rattle.rz_bridge.specs.Faults.{broken, fault}
 use Rattle.rz_bridge.specs.declared.fault.BridgeFault.{BridgeFault}
 use Rattle.rz_hqx.specs.Letters.{letter, number_of, sixes}
 
@@ -26,11 +27,18 @@ abbrev pub behind_line : List ℕ → List ℕ
 behind_line [] = []
 behind_line (b ∷ bs) = if is_line_end b then bs else behind_line bs
 
--- the bytes after the first line that begins so; `first` where a line begins here
-abbrev pub behind_head : Bool → List ℕ → List ℕ
-behind_head first [] = []
-behind_head first (b ∷ bs) =
-    if first && starts_with nat_eq (b ∷ bs) head then behind_line (b ∷ bs) else behind_head (is_line_end b) bs
+-- the bytes after each line end, from there to the last
+abbrev pub later_lines : List ℕ → List (List ℕ)
+later_lines [] = []
+later_lines (b ∷ bs) = if is_line_end b then bs ∷ later_lines bs else later_lines bs
+
+-- a line begins so
+abbrev pub is_head : List ℕ → Bool
+is_head line = starts_with nat_eq line head
+
+-- the bytes after the first line that begins so; none where there is no such line
+unfoldable pub behind_head : List ℕ → List ℕ
+behind_head text = option_map_or behind_line (find is_head (text ∷ later_lines text)) []
 
 -- the bytes after a colon that stands after blanks alone
 abbrev pub behind_colon : List ℕ → Option (List ℕ)
@@ -43,25 +51,25 @@ no_start = fault 441 0 0
 
 -- the bytes after the first colon, or that there is none
 abbrev pub body_of : List ℕ → Result (List ℕ) BridgeFault
-body_of bytes = ok_or (behind_colon (behind_head true bytes)) no_start
+body_of bytes = ok_or (behind_colon (behind_head bytes)) no_start
 
--- what goes on with a letter's number, or the fault where there is none
-abbrev pub with_number : Option ℕ → BridgeFault → (ℕ → Result (List ℕ) BridgeFault) → Result (List ℕ) BridgeFault
-with_number None fault next = Err fault
-with_number (Some number) fault next = next number
+-- a byte that is neither a letter nor a blank
+abbrev pub is_stray : ℕ → Bool
+is_stray byte = not (is_blank byte || is_some (number_of byte))
 
--- the numbers of the letters from a place on up to the next colon, after numbers that are known; a byte that may not
--- stand there is BadLetter, and an end without a colon is NoEnd
-abbrev pub numbers_behind : List ℕ → ℕ → List ℕ → Result (List ℕ) BridgeFault
-numbers_behind front place [] = Err (fault 443 place place)
-numbers_behind front place (b ∷ bs) =
-    if b == 58 then Ok front
-    else if is_blank b then numbers_behind front (place + 1) bs
-    else with_number (number_of b) (fault 442 place b) (λ number. numbers_behind (front ++ number ∷ []) (place + 1) bs)
+-- BadLetter: such a byte is among these, the first of which stands at a place
+abbrev pub bad_letter : ℕ → List ℕ → Option BridgeFault
+bad_letter place bytes = option_map (λ one. fault 442 one.0 one.1) (find (λ one. is_stray one.1) (enumerate_from place bytes))
 
--- the numbers of the letters
-abbrev pub numbers_in : ℕ → List ℕ → Result (List ℕ) BridgeFault
-numbers_in place body = numbers_behind [] place body
+-- NoEnd: no colon is among them
+abbrev pub no_end : ℕ → List ℕ → Option BridgeFault
+no_end place bytes = broken (not (list_any (λ b. b == 58) bytes)) (fault 443 (place + length bytes) (place + length bytes))
+
+-- the numbers of the letters before the first colon, or the first fault, in bytes from a place on
+unfoldable pub numbers_in : ℕ → List ℕ → Result (List ℕ) BridgeFault
+numbers_in place body =
+    let letters = before_first (λ b. b == 58) body in
+    unless_fault (or_else (bad_letter place letters) (no_end place body)) (filter_map number_of letters)
 
 -- Written.
 

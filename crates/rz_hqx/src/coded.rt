@@ -2,7 +2,7 @@
 
 ghost use Rattle.std.specs.Prelude.{◌≡◌, ◌<◌, ◌≤◌, ◌++◌, replicate, IfOk, OnOk, Ok};
 ghost use Rattle.std.specs.List.{flat_map};
-ghost use Rattle.rz_hqx.specs.Runs.{literal, run, packed, unpacked};
+ghost use Rattle.rz_hqx.specs.Runs.{equal_codes, literal, packed, stored, unpacked};
 
 use rz_core::{Bytes, NoMemory};
 use std::alloc::Global;
@@ -67,9 +67,9 @@ fn append_literals(out: &mut Bytes, byte: u8, count: u8) -> Result<(), NoMemory>
     Ok(())
 }
 
-/// Appends so many equal bytes.
+/// Appends up to 255 equal bytes.
 fn append_run(out: &mut Bytes, byte: u8, count: u8) -> Result<(), NoMemory>
-    ensures { OnOk result (out.new ≡ out.old ++ run byte count) }
+    ensures { OnOk result (out.new ≡ out.old ++ flat_map stored (equal_codes byte count)) }
 {
     if count < 4 {
         append_literals(out, byte, count)?;

@@ -1,9 +1,9 @@
 //! The bytes that run codes stand for, or the first fault. What those are is in `specs/Runs`.
 
-ghost use Rattle.std.specs.Prelude.{◌≡◌, ◌<◌, ◌≤◌, ◌+◌, ◌-◌, ◌^◌, ◌++◌, length, replicate, IfOk, OnOk, Ok};
+ghost use Rattle.std.specs.Prelude.{◌≡◌, ◌<◌, ◌≤◌, ◌+◌, ◌-◌, ◌^◌, ◌++◌, length, replicate, slice_index, IfOk, OnOk, Ok};
 ghost use Rattle.rz_core.specs.Stop.{Gives, OnFault};
 ghost use Rattle.rz_bridge.specs.Faults.{IsSayable};
-ghost use Rattle.rz_hqx.specs.Runs.{unpacked, last_of};
+ghost use Rattle.rz_hqx.specs.Runs.{unpacked, IsCoding};
 
 use crate::coded::MARK;
 use rz_bridge::{BridgeFault, fault_at};
@@ -18,6 +18,7 @@ use std::alloc::Global;
 pub fn runs_read(alloc: Global, coded: &[u8]) -> Result<Bytes, Stop<BridgeFault>>
     requires { length coded.now < 2 ^ 32 }
     ensures bytes { Gives (unpacked coded.now) result }
+    ensures codes { IfOk result (IsCoding coded.now) }
     ensures sayable { OnFault result IsSayable }
 {
     let mut out = Bytes::with_capacity(alloc, coded.len())?;
@@ -50,7 +51,7 @@ pub fn runs_read(alloc: Global, coded: &[u8]) -> Result<Bytes, Stop<BridgeFault>
 /// Appends so many copies of the last byte.
 fn append_copies(out: &mut Bytes, count: u8) -> Result<(), NoMemory>
     requires { 0 < length out.old }
-    ensures { OnOk result (out.new ≡ out.old ++ replicate count (last_of out.old)) }
+    ensures { OnOk result (out.new ≡ out.old ++ replicate count (slice_index out.old (length out.old - 1))) }
 {
     let last = *out.at(out.len() - 1);
     for _ in 0..count {

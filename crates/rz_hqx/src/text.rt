@@ -1,6 +1,6 @@
 //! The text of BinHex: the first line, the colons, and lines of letters; changed only with `specs/Text`.
 
-ghost use Rattle.std.specs.Prelude.{◌≡◌, ◌<◌, ◌≤◌, ◌+◌, ◌^◌, ◌++◌, ◌∷◌, [], true, length, map, IfOk, IfSome, OnOk};
+ghost use Rattle.std.specs.Prelude.{◌≡◌, ◌<◌, ◌≤◌, ◌+◌, ◌^◌, ◌++◌, ◌∷◌, [], length, map, IfOk, IfSome, OnOk};
 ghost use Rattle.std.specs.List.{AllByRecursion};
 ghost use Rattle.std.specs.Option.{option_copied};
 ghost use Rattle.rz_core.specs.Stop.{Gives, OnFault};
@@ -50,7 +50,7 @@ fn behind_line(bytes: &[u8]) -> &[u8]
 
 /// The bytes after the first line that says what the text is.
 pub fn behind_head(bytes: &[u8]) -> &[u8]
-    ensures bytes { result.now ≡ behind_head true bytes.now }
+    ensures bytes { result.now ≡ behind_head bytes.now }
     ensures within { length result.now ≤ length bytes.now }
 {
     let mut rest = bytes;

@@ -13,11 +13,12 @@ use Rattle.rz_types_fields.specs.declared.field.NumForm.{NumForm}
 use Rattle.rz_types_fields.specs.Laid.{grown, late_at, later, now, too_long, with_form, with_room, Draft, LateNumber}
 use Rattle.rz_types_fields.specs.Passed.{Names}
 use Rattle.rz_types_fields.specs.Piece.{Piece}
-use Rattle.rz_types_fields.specs.Sees.{is_later, Late}
+use Rattle.rz_types_fields.specs.Sees.{Late}
 use Rattle.rz_types_fields.specs.Spells.{most_bits, put, RowSpells, Then}
 use Rattle.rz_types_fields.specs.declared.tree.Tree.{Tree}
 use Rattle.rz_layout.proofs.Filled.{each_both, same_ok, Each}
 use Rattle.rz_layout.proofs.Fitting.{fits_met, piece_is, placed_is, placed_none, Fits, SamePlaces}
+use Rattle.rz_layout.proofs.Later.{is_later}
 use Rattle.rz_layout.proofs.Masks.{length-marks, length-masked, masked, masked-append, masked_all, masked_none, take-plus}
 use Rattle.rz_layout.proofs.Labels.{label_key, met_more, MetKnown}
 use Rattle.rz_layout.proofs.Sees.{not_false, Alike}

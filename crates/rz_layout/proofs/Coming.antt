@@ -21,12 +21,13 @@ use Rattle.rz_types_fields.specs.declared.tree.Tree.{Tree}
 use Rattle.rz_types_fields.specs.Laid.{draft_sight, fixed_form, grown, late_at, later, lay, met_in, now, number_form, number_in, piece_form, ranged, reads_late, text_laid, value_refusal, with_form, Draft, Form, Refusal}
 use Rattle.rz_types_fields.specs.Passed.{stands_at, Names, Passed}
 use Rattle.rz_types_fields.specs.Piece.{terms_of_text, Filler, OneNumber, OneText, Piece, Place, Zeros}
-use Rattle.rz_types_fields.specs.Sees.{beside, is_late, is_later, names_later, sees}
+use Rattle.rz_types_fields.specs.Sees.{beside, is_late, names_later, sees}
 use Rattle.rz_types_fields.specs.Spells.{is_late_piece, is_late_size, is_late_value, is_one_late, most_bits, IsNumber, IsStored, IsText, PieceSpells, RowSpells}
 use Rattle.rz_layout.proofs.Adding.{adds_later, adds_now, back, front_of, later_is, now_is, Came, FitsAll, Still}
 use Rattle.rz_layout.proofs.Fed.{NumberValue, PieceValue}
 use Rattle.rz_layout.proofs.Filled.{chained, late_value, ranged_is, same_ok}
 use Rattle.rz_layout.proofs.Fitting.{first_seen, hidden_seen, later_piece, met_piece, piece_alone, piece_is}
+use Rattle.rz_layout.proofs.Later.{is_later}
 use Rattle.rz_layout.proofs.Masks.{length-marks, masked_none, masked}
 use Rattle.rz_layout.proofs.Labels.{label_given, names_known, MetKnown}
 use Rattle.rz_layout.proofs.Trees.{number_is}

@@ -18,19 +18,20 @@ use Rattle.rz_types_fields.specs.declared.field.TextForm.{TextForm}
 use Rattle.rz_types_fields.specs.declared.tree.Tree.{Tree}
 use Rattle.rz_types_fields.specs.declared.tree.Tree.TheVariants as trees
 use Rattle.rz_types_fields.specs.Field.{case_and, field_and, no_cases, no_fields, takes_value, Align, Array, Fill, Label, Number, PlainBody, PlainCases, PlainField, Points, Switch, Text}
-use Rattle.rz_types_fields.specs.Known.{names_inside}
+use Rattle.rz_types_fields.specs.Front.{names_inside}
 use Rattle.rz_types_fields.specs.Laid.{apart, array_laid, body_laid, case_laid, closing, counted, enter, entered, field_laid, fill, first_value, in_order, laid, lay, leave, line_in, nothing_laid, other_values, outside_of, pieces_laid, row_laid, rows_apart, rows_in, rows_laid, takes_one, then_laid, with_places, Draft, LateNumber, Refusal}
 use Rattle.rz_types_fields.specs.Passed.{at_field, at_front, behind, behind_piece, declares, gives_key, gives_rows, nothing_passed, outside, Names, Passed}
 use Rattle.rz_types_fields.specs.Piece.{fixed_integer, free_integer, integers, pieces_of, Filler, OneNumber, OneText, Piece, Place, Zeros}
 use Rattle.rz_types_fields.specs.Row.{By}
 use Rattle.rz_types_fields.specs.RowLabels.{is_row, label_places, row_of, RowOf}
 use Rattle.rz_types_fields.proofs.RowPlaces.{no_rows_have, places_more, row_has, rows_have, FieldStands, PlacesAre, RowsHave}
-use Rattle.rz_types_fields.specs.Sees.{is_later, sees, Late}
+use Rattle.rz_types_fields.specs.Sees.{sees, Late}
 use Rattle.rz_types_fields.specs.Shape.{numbers_of}
 use Rattle.rz_types_fields.specs.Spells.{is_case, put, values_for, AreBytes, BodySpells, CaseSpells, FieldSpells, InOrder, Inside, IsCounted, IsGrouped, IsNumber, PieceSpells, PiecesSpell, RowsSpell, Spells, Within}
 use Rattle.rz_types_fields.specs.Text.{PlainPart}
 use Rattle.rz_layout.proofs.Counts.{own_is, AreCounted, FieldCounted}
 use Rattle.rz_layout.proofs.Fitting.{fits_places, goes_apart, goes_behind, goes_both, goes_done, goes_met, met_piece, piece_goes, piece_places, Fits, Goes, HoldsIn, SamePlaces}
+use Rattle.rz_layout.proofs.Later.{is_later}
 use Rattle.rz_layout.proofs.Masks.{masked}
 use Rattle.rz_layout.proofs.Labels.{all_met, around_early, behind_met, entered_none, entered_row, inside_later, label_key, met_all, met_behind, met_entered, met_front, no_row, none_later, own_later, piece_met, place_label, row_is_around, MetKnown}
 use Rattle.rz_layout.proofs.Sees.{every, every_early, is_in_row, not_true, Alike, IsRowIn}

@@ -25,10 +25,11 @@ use Rattle.rz_types_fields.specs.Laid.{and_place, apart, behind_rows, draft_sigh
 use Rattle.rz_types_fields.specs.Passed.{gives_rows, stands_at, Names, Passed}
 use Rattle.rz_types_fields.specs.Piece.{terms_of_text, Filler, OneNumber, OneText, Piece, Place, Zeros}
 use Rattle.rz_types_fields.specs.Range.{fits_number}
-use Rattle.rz_types_fields.specs.Sees.{beside, bits_before, hit, is_late, is_later, names_later, sees, Late}
+use Rattle.rz_types_fields.specs.Sees.{beside, bits_before, hit, is_late, names_later, sees, Late}
 use Rattle.rz_types_fields.specs.Spells.{is_late_piece, is_late_size, is_late_value, is_one_late, most_bits, AreRows, IsNumber, IsStored, PieceSpells}
 use Rattle.rz_types_fields.specs.Stored.{stored_number}
 use Rattle.rz_layout.proofs.Filled.{length_number}
+use Rattle.rz_layout.proofs.Later.{is_later}
 use Rattle.rz_layout.proofs.Masks.{hidden_bits, length-marks, masked, masked-append, masked_all, masked_none, take-plus}
 use Rattle.rz_layout.proofs.Labels.{label_given, label_key, label_none, met_more, met_rows, names_known, MetKnown}
 use Rattle.rz_layout.proofs.Placing.{alike_rows}

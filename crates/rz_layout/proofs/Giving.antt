@@ -14,7 +14,7 @@ use Rattle.rz_core.specs.declared.facts.Facts.{Facts}
 use Rattle.rz_types_fields.proofs.RowKeys.{placed_as_counted, undeclared as around_undeclared}
 use Rattle.rz_types_fields.specs.declared.tree.Tree.{Tree}
 use Rattle.rz_types_fields.specs.Field.{field_and, no_fields, takes_value, Align, Array, Fill, Label, Number, PlainBody, PlainField, Points, Switch, Text}
-use Rattle.rz_types_fields.specs.Known.{names_inside}
+use Rattle.rz_types_fields.specs.Front.{names_inside}
 use Rattle.rz_types_fields.specs.Laid.{closing, counted, entered, first_value, other_values, outside_of, rows_in, with_count, with_field, LateNumber}
 use Rattle.rz_types_fields.specs.Passed.{declares, gives_count, gives_key, outside}
 use Rattle.rz_types.specs.Names.{FillsRows, GivesCounts, GivesNumbers, GivesOwn, NamesNothing}

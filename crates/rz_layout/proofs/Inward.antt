@@ -6,15 +6,15 @@ use Rattle.rz_expr.specs.Environment.{count_of, place_in, place_of, rows_of, Env
 use Rattle.rz_types_fields.proofs.RowKeys.{placed_as_counted}
 use Rattle.rz_types_fields.specs.declared.tree.Tree.{Tree}
 use Rattle.rz_types_fields.specs.Field.{PlainBody}
-use Rattle.rz_types_fields.specs.Known.{names_inside}
+use Rattle.rz_types_fields.specs.Front.{names_inside}
 use Rattle.rz_types_fields.specs.Laid.{enter, entered, leave, outside_of, Draft}
 use Rattle.rz_types_fields.specs.Passed.{declares, has_label, Names, Passed}
-use Rattle.rz_types_fields.specs.Sees.{is_later}
 use Rattle.rz_types_fields.specs.Spells.{HasPlace, Within}
 use Rattle.rz_types_fields.specs.RowLabels.{is_row, row_number, RowOf}
 use Rattle.rz_layout.proofs.Adding.{Adds, FitsAll}
 use Rattle.rz_layout.proofs.Counts.{counted_are, counted_moves, AreApart, AreCounted}
 use Rattle.rz_layout.proofs.Labels.{around_no_place, counts_no_place, entered_none, entered_row, gives_places, inside_later, label_declared, later_all, met_all, met_front, no_row, row_is_around, undeclared}
+use Rattle.rz_layout.proofs.Later.{is_later}
 use Rattle.rz_layout.proofs.Sees.{is_in_row, not_false, IsRowIn}
 
 -- the place that a row has outside, by the names in it

@@ -1,21 +1,26 @@
 -- The names of a body: which stand later, and what they have inside and outside.
 use Rattle.std.proofs.Common.{◌≡◌, ℕ, ℤ, pos, Bool, true, false, ◌&&◌, ◌||◌, not, List, [], ◌∷◌, length, Option, Some, None, refl, sym, ap, ◌∙◌}
 use Rattle.std.specs.Prelude.{if◌then◌else◌}
+use Rattle.std.specs.List.{list_any}
 use Rattle.std.specs.Option.{is_some}
 use Rattle.rz_core.proofs.Tests.{by_test, or_false, true_false}
 use Rattle.rz_core.specs.declared.resource.Word.{Word}
 use Rattle.rz_core.specs.Lists.{or_else}
 use Rattle.rz_expr.specs.Environment.{count_of, place_in, place_key, place_of, row_in, rows_key, rows_of, Environment, Key}
-use Rattle.rz_expr.specs.Term.{BitsAt, Constant, FactOf, Indexed, Named, OfOne, OfTwo, RowNumber, RowsOf, Term}
+use Rattle.rz_expr.specs.Mention.{mentions, Mention}
+use Rattle.rz_expr.specs.Mention as terms
+use Rattle.rz_expr.specs.Term.{Term}
 use Rattle.rz_types_fields.proofs.RowKeys.{placed_as_counted, undeclared as around_undeclared}
 use Rattle.rz_types_fields.specs.declared.tree.Tree.{Tree}
 use Rattle.rz_types_fields.specs.Field.{field_and, no_fields, takes_value, Align, Array, Fill, Label, Number, PlainBody, PlainField, Points, Switch, Text}
-use Rattle.rz_types_fields.specs.Known.{names_inside, stated_in, stated_value}
+use Rattle.rz_types_fields.specs.Front.{names_inside, stated_in, stated_value}
 use Rattle.rz_types_fields.specs.Laid.{counted, entered, first_value, met_in, other_values, placed, rows_in, with_field}
 use Rattle.rz_types_fields.specs.Passed.{behind, behind_piece, behind_pieces, declares, gives_count, gives_key, gives_rows, has_label, is_label, stands_at, told_by, Names, Passed}
 use Rattle.rz_types_fields.specs.Piece.{pieces_of, Filler, OneNumber, OneText, Piece, Place, Zeros}
 use Rattle.rz_types_fields.specs.RowLabels.{also_rows, is_row, numbers_row, row_number, RowOf}
-use Rattle.rz_types_fields.specs.Sees.{is_later, names_later}
+use Rattle.rz_types_fields.specs.Sees as later
+use Rattle.rz_types_fields.specs.Sees.{names_later}
+use Rattle.rz_layout.proofs.Later.{is_later}
 
 -- Labels.
 
@@ -222,16 +227,16 @@ later_known met known is (rows_of name) = ap not (sym (is true name))
 later_known met known is (place_in name number) = ap not (sym (is true name))
 later_known met known is (row_in name) = refl
 
+one_known : (met : Names) (known : Environment) → MetKnown met known → (one : Mention) → later.is_later (met_in known) one ≡ later.is_later met one
+one_known met known is (terms.alone name) = later_known met known is (place_key name)
+one_known met known is (terms.indexed name) = later_known met known is (rows_key name)
+one_known met known is (terms.counted name) = refl
+one_known met known is (terms.around name) = refl
+one_known met known is (terms.with_bits name) = later_known met known is (place_key name)
+one_known met known is (terms.fact which) = refl
+
 pub names_known : (met : Names) (known : Environment) → MetKnown met known → (term : Term) → names_later (met_in known) term ≡ names_later met term
-names_known met known is (Constant number) = refl
-names_known met known is (Named name) = later_known met known is (place_key name)
-names_known met known is (Indexed name index) = λ i. later_known met known is (rows_key name) i || names_known met known is index i
-names_known met known is (RowsOf name) = refl
-names_known met known is (RowNumber name) = refl
-names_known met known is (BitsAt name start width) = λ i. later_known met known is (place_key name) i || (names_known met known is start i || names_known met known is width i)
-names_known met known is (FactOf which) = refl
-names_known met known is (OfOne op operand) = names_known met known is operand
-names_known met known is (OfTwo op left right) = λ i. names_known met known is left i || names_known met known is right i
+names_known met known is term = λ i. list_any (λ one. one_known met known is one i) (mentions term)
 
 -- after what gives labels values
 pub met_more : (labels : Key → Bool) (met : Names) (known after : Environment) → MetKnown met known → ((key : Key) → labels key ≡ false → after.give key ≡ known.give key)

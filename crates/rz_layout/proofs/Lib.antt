@@ -11,6 +11,7 @@ pub mod Stores
 pub mod Expressions
 pub mod Put
 pub mod Shapes
+pub mod Later
 pub mod Sees
 pub mod Masks
 pub mod Tracks

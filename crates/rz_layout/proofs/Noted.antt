@@ -23,7 +23,8 @@ use Rattle.rz_layout.specs.declared.late.Late.{Late as HeldLate}
 use Rattle.rz_types_fields.proofs.Bodies.{body_next}
 use Rattle.rz_types_fields.proofs.RowKeys.{no_labels}
 use Rattle.rz_types_fields.specs.Field.{field_and, no_fields, plain_body, plain_field, takes_value, Align, Array, Fill, Label, Number, Points, Switch, Text, PlainBody, PlainField}
-use Rattle.rz_types_fields.specs.Known.{known, noted, noting, stated_in, which_of}
+use Rattle.rz_types_fields.specs.Front.{stated_in}
+use Rattle.rz_types_fields.specs.Known.{known, noted, noting, which_of}
 use Rattle.rz_types_fields.specs.RowLabels.{is_row, labels_count, numbers_row, row_number, RowOf}
 use Rattle.rz_types_fields.specs.declared.names.InRow.{InRow}
 use Rattle.rz_types_fields.specs.Laid.{body_laid, closing, counted, enter, entered, field_laid, first_value, leave, most_kept, other_values, outside_of, placed, row_laid, with_field, Draft, LateNumber, Refusal}

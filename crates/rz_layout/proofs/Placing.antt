@@ -7,9 +7,9 @@ use Rattle.rz_expr.specs.Environment.{count_of, place_in, place_of, row_in, rows
 use Rattle.rz_types_fields.specs.Field.{PlainBody}
 use Rattle.rz_types_fields.specs.Passed.{gives_rows, has_label, Names}
 use Rattle.rz_types_fields.specs.RowLabels.{also_rows, label_index, labels_count, row_value}
-use Rattle.rz_types_fields.specs.Sees.{is_later}
 use Rattle.rz_types_fields.specs.Spells.{AreRows}
 use Rattle.rz_types_fields.proofs.RowPlaces.{get_behind, get_front, index_short, place_there, places_length, row_value_is, PlacesAre, RowsHave}
+use Rattle.rz_layout.proofs.Later.{is_later}
 use Rattle.rz_layout.proofs.Sees.{is_in_row, Alike, IsRowIn}
 
 -- Numbers of rows.

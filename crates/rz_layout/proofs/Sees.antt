@@ -1,12 +1,14 @@
 -- What expressions see beside the bits of late numbers.
-use Rattle.std.proofs.Common.{◌≡◌, ℕ, ◌+◌, ℤ, pos, negsuc, ◌+ℤ◌, Bool, true, false, ◌||◌, not, List, length, take, drop, Option, Some, None, Result, Ok, Err, ◌⊎◌, inl, inr, refl, sym, ap, ◌∙◌, subst}
+use Rattle.std.proofs.Common.{◌≡◌, ℕ, ◌+◌, ℤ, pos, negsuc, ◌+ℤ◌, Bool, true, false, ◌||◌, not, List, ◌++◌, length, take, drop, Option, Some, None, Result, Ok, Err, ◌⊎◌, inl, inr, refl, sym, ap, ◌∙◌, subst}
 use Rattle.std.specs.Prelude.{if◌then◌else◌, nat_le, option_map, int_lt}
+use Rattle.std.specs.List.{list_any}
 use Rattle.rz_core.proofs.Tests.{or_false, true_false}
 use Rattle.rz_core.specs.Stop.{◌>>=◌}
 use Rattle.rz_core.specs.declared.facts.Facts.{Facts}
 use Rattle.rz_bits.specs.Bits.{number_of}
 use Rattle.std.specs.Str.{str_to_ascii_lowercase}
 use Rattle.rz_expr.specs.Environment.{count_key, count_of, place_in, place_in_key, place_key, place_of, row_in, row_key, rows_key, rows_of, Environment, Key, Sight}
+use Rattle.rz_expr.specs.Mention.{alone, around, counted, fact, indexed, mentions, with_bits, Mention}
 use Rattle.rz_expr.specs.Term.{BitsAt, Constant, FactOf, Indexed, Named, OfOne, OfTwo, RowNumber, RowsOf, Term}
 use Rattle.rz_expr.specs.Value.{known_bits, known_value, number_at, operate, operate_one, place_in_row, reduced, value_of}
 use Rattle.rz_expr.specs.declared.value.EvalFault.{EvalFault}
@@ -14,7 +16,10 @@ use Rattle.rz_expr.specs.declared.value.EvalFault.TheVariants.{BadIndex, DataWid
 use Rattle.rz_words.specs.declared.words.FactWord.{FactWord}
 use Rattle.rz_types_fields.specs.Laid.{reads_late}
 use Rattle.rz_types_fields.specs.Passed.{Names}
-use Rattle.rz_types_fields.specs.Sees.{beside, bits_before, hit, is_later, names_later, sees, Late}
+use Rattle.rz_expr.proofs.Items.{none_any, none_two}
+use Rattle.rz_types_fields.specs.Sees as later
+use Rattle.rz_types_fields.specs.Sees.{beside, bits_before, hit, names_later, sees, Late}
+use Rattle.rz_layout.proofs.Later.{is_later}
 
 -- Environments that are alike.
 
@@ -73,7 +78,7 @@ module _ (met : Names) (one other : Sight) (names : Alike met one.names other.na
 
   pub value_same : (term : Term) → names_later met term ≡ false → value_of term one ≡ value_of term other
   value_same (Constant number) none = refl
-  value_same (Named name) none = ap (known_value name) (names.names (place_key name) refl none)
+  value_same (Named name) none = ap (known_value name) (names.names (place_key name) refl (or_false (is_later met (place_key name)) false none).0)
   value_same (Indexed name index) none =
       let each = or_false (is_later met (rows_key name)) (names_later met index) none in
       ap (λ (r : Result ℤ EvalFault). r >>= λ number. place_in_row name one.names number (one.names.give (rows_key name))) (value_same index each.1)
@@ -82,8 +87,8 @@ module _ (met : Names) (one other : Sight) (names : Alike met one.names other.na
   value_same (RowsOf name) none = ap (known_value name) (names.names (count_key name) refl refl)
   value_same (RowNumber name) none = ap (known_value name) (names.names (row_key name) refl refl)
   value_same (BitsAt name start width) none =
-      let here = or_false (is_later met (place_key name)) (names_later met start || names_later met width) none in
-      let each = or_false (names_later met start) (names_later met width) here.1 in
+      let here = or_false (is_later met (place_key name)) (list_any (later.is_later met) (mentions start ++ mentions width)) none in
+      let each = none_two (later.is_later met) (mentions start) (mentions width) here.1 in
       ap (λ (o : Option ℤ). known_value name o >>= λ p. value_of start one >>= λ s. value_of width one >>= λ w. number_at one (p +ℤ s) w) (names.names (place_key name) refl here.0)
       ∙ ap (λ (o : Result ℤ EvalFault). known_value name (other.names.give (place_key name)) >>= λ p. o >>= λ s. value_of width one >>= λ w. number_at one (p +ℤ s) w) (value_same start each.0)
       ∙ ap (λ (o : Result ℤ EvalFault). known_value name (other.names.give (place_key name)) >>= λ p. value_of start other >>= λ s. o >>= λ w. number_at one (p +ℤ s) w) (value_same width each.1)
@@ -91,7 +96,7 @@ module _ (met : Names) (one other : Sight) (names : Alike met one.names other.na
   value_same (FactOf which) none = ap (λ (z : ℤ). Ok (reduced z)) (facts which)
   value_same (OfOne op operand) none = ap (λ (r : Result ℤ EvalFault). r >>= λ v. Ok (operate_one op v)) (value_same operand none)
   value_same (OfTwo op left right) none =
-      let each = or_false (names_later met left) (names_later met right) none in
+      let each = none_two (later.is_later met) (mentions left) (mentions right) none in
       ap (λ (r : Result ℤ EvalFault). r >>= λ a. value_of right one >>= λ b. operate op a b) (value_same left each.0)
       ∙ ap (λ (r : Result ℤ EvalFault). value_of left other >>= λ a. r >>= λ b. operate op a b) (value_same right each.1)
 
@@ -106,16 +111,16 @@ every_early (rows_of name) = refl
 every_early (place_in name number) = refl
 every_early (row_in name) = refl
 
+none_later : (one : Mention) → later.is_later every one ≡ false
+none_later (alone name) = refl
+none_later (indexed name) = refl
+none_later (counted name) = refl
+none_later (around name) = refl
+none_later (with_bits name) = refl
+none_later (fact which) = refl
+
 pub nothing_later : (term : Term) → names_later every term ≡ false
-nothing_later (Constant number) = refl
-nothing_later (Named name) = refl
-nothing_later (Indexed name index) = nothing_later index
-nothing_later (RowsOf name) = refl
-nothing_later (RowNumber name) = refl
-nothing_later (BitsAt name start width) = λ i. nothing_later start i || nothing_later width i
-nothing_later (FactOf which) = refl
-nothing_later (OfOne op operand) = nothing_later operand
-nothing_later (OfTwo op left right) = λ i. nothing_later left i || nothing_later right i
+nothing_later term = none_any (later.is_later every) none_later (mentions term)
 
 -- Beside late bits the value is the same, or a late bit is read.
 

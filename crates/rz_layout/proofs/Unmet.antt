@@ -8,11 +8,11 @@ use Rattle.rz_expr.specs.Environment.{count_of, place_in, place_of, row_in, rows
 use Rattle.rz_types_fields.specs.Field.{field_and, PlainBody, PlainField}
 use Rattle.rz_types_fields.specs.Laid.{apart}
 use Rattle.rz_types_fields.specs.Passed.{declares, gives_key, gives_rows, has_label, Names}
-use Rattle.rz_types_fields.specs.Sees.{is_later}
 use Rattle.rz_types_fields.specs.RowLabels.{also_rows}
 use Rattle.rz_layout.proofs.Adding.{Still}
 use Rattle.rz_layout.proofs.Coming.{Fresh}
 use Rattle.rz_layout.proofs.Labels.{gives_place, gives_places, label_key, later_all, met_all, met_behind, met_front, or_first, or_true, placed_declared, undeclared, unmet_later}
+use Rattle.rz_layout.proofs.Later.{is_later}
 
 pub fresh_front : (row : PlainBody) (met : Names) → Fresh (gives_places row) (met_front row met)
 fresh_front row met key is = ap (λ (test : Bool). not test && met key) (placed_declared row key is)

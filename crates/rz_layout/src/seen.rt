@@ -12,7 +12,7 @@ ghost use Rattle.rz_layout.specs.Laid.{draft_of, IsShort};
 ghost use Rattle.rz_layout.specs.Seen.{env_sight};
 ghost use Rattle.rz_types_fields.specs.Known.{known};
 ghost use Rattle.rz_types_fields.specs.Laid.{draft_sight, early_value, met_in, reads_late, refusal};
-ghost use Rattle.rz_types_fields.specs.Sees.{bits_before, hit, names_later};
+ghost use Rattle.rz_types_fields.specs.Sees.{bits_before, hit, is_later, names_later};
 ghost use Rattle.rz_types_fields.specs.Spells.{nowhere};
 ghost use Rattle.rz_types_fields.specs.Text.{bytes_seen, plain_parts};
 
@@ -21,7 +21,7 @@ use crate::fault::value_fault;
 use crate::laid::Laid;
 use rz_bits::BitBuf;
 use rz_core::{Bytes, Facts, Fault, Mark, Stop};
-use rz_expr::{Env, Expr, FactWord, Key, Unvalued, value_in};
+use rz_expr::{Env, Expr, FactWord, Key, Mention, MentionTest, Unvalued, first_mention, value_in};
 use rz_types_fields::{NamesEnv, Note, Texts, text_seen, value_noted};
 use std::alloc::Global;
 
@@ -83,24 +83,31 @@ fn is_hit(marks: &BitBuf, first: u32, width: u8) -> bool
     marks.any(first, width)
 }
 
+/// What has no place yet.
+#[derive(Clone, Copy)]
+struct Later<'a> {
+    notes: &'a [Note<'a>],
+}
+
+impl MentionTest for Later<'_> {
+    ghost test = { λ test mention. is_later (met_in (known test.notes.now)) mention };
+
+    fn passes(&self, mention: Mention<'_>) -> bool {
+        match mention {
+            Mention::Alone(name) | Mention::WithBits(name) => {
+                is_later(self.notes, Key::Place(name))
+            }
+            Mention::Indexed(name) => is_later(self.notes, Key::Rows(name)),
+            Mention::Counted(_) | Mention::Around(_) | Mention::Fact(_) => false,
+        }
+    }
+}
+
 /// Whether an expression names a label that has no place yet.
 pub fn names_later(expr: &Expr, notes: &[Note<'_>]) -> bool
     ensures { result ≡ names_later (met_in (known notes.now)) (term_of expr.now) }
 {
-    match expr {
-        Expr::Number(_) | Expr::Count(_) | Expr::ArrayIndex(_) | Expr::Fact(_) => false,
-        Expr::Name(name) => is_later(notes, Key::Place(name)),
-        Expr::Indexed(name, index) => {
-            is_later(notes, Key::Rows(name)) || names_later(index, notes)
-        }
-        Expr::Unary(_, operand) => names_later(operand, notes),
-        Expr::Binary(_, left, right) => names_later(left, notes) || names_later(right, notes),
-        Expr::Bits(name, start, width) => {
-            is_later(notes, Key::Place(name))
-                || names_later(start, notes)
-                || names_later(width, notes)
-        }
-    }
+    first_mention(expr, &Later { notes }).is_some()
 }
 
 /// Whether a key has no value yet.

@@ -17,3 +17,4 @@ pub mod OneProgram
 pub mod Placing
 pub mod Numbers
 pub mod Lexing
+pub mod Reaching

@@ -8,4 +8,5 @@ pub mod Line
 pub mod Program
 pub mod Reading
 pub mod Placed
+pub mod Reached
 pub mod Lexed

@@ -4,6 +4,7 @@ ghost use Rattle.std.specs.Prelude.{◌≡◌, ◌+◌, ◌<◌, ◌^◌, OnOk, 
 ghost use Rattle.rz_core.specs.Message.{IsMarked};
 ghost use Rattle.rz_core.specs.Stop.{IsReadFault, Meets, OnFault, OnRefusal, Yields};
 ghost use Rattle.rz_pre.specs.Placed.{IsSourceFault};
+ghost use Rattle.rz_folder.specs.MayRead.{IsOneOf, MayRead};
 ghost use Rattle.rz_folder.specs.OnlyReads.{OnlyReads};
 ghost use Rattle.rz_pre.specs.Lexed.{IsLexedReading};
 ghost use Rattle.rz_pre.specs.Program.{bad_text, HasText, Opens};
@@ -27,7 +28,8 @@ pub fn open_file<F: Folder>(
     kept: &[u8],
     reading: &mut Reading,
 ) -> Result<Bytes, Halt<Fault>>
-    requires { IsMarked (length reading.now.files) mark }
+    requires mark { IsMarked (length reading.now.files) mark }
+    requires may { MayRead F.Folder folder.old (IsOneOf names.now) }
     ensures opened { IfSome (F.files folder.old) (λ files.
         Yields (with_state together (state_of reading.new) result) (Opens files names.now (missing_file mark kept.now) (state_of reading.old))) }
     ensures more { OnOk result (length reading.new.files ≡ length reading.old.files + 1) }

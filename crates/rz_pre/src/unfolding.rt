@@ -1,15 +1,18 @@
 //! The named files as one program, with the files that they include. What they mean is in `specs/Program`.
 
-ghost use Rattle.std.specs.Prelude.{◌≡◌, ℕ, ◌+◌, ◌<◌, ◌≤◌, ◌^◌, [], length, reverse, Result, Err, IfOk, IfSome, OnOk};
+ghost use Rattle.std.specs.Prelude.{◌≡◌, ℕ, ◌+◌, ◌<◌, ◌≤◌, ◌^◌, List, [], ◌∷◌, length, reverse, Result, Err, IfOk, IfSome, OnOk};
 ghost use Rattle.rz_lex.specs.Lexeme.{AreLexed};
 ghost use Rattle.rz_pre.specs.Lexed.{HaveLexedTexts, IsLexedReading};
 ghost use Rattle.rz_pre.specs.Live.{live_in};
 ghost use Rattle.rz_pre.specs.Macros.{rows_of};
 ghost use Rattle.rz_folder.specs.Counts.{Rose};
+ghost use Rattle.rz_folder.specs.MayRead.{IsOneOf, MayRead, MayReadOf};
 ghost use Rattle.rz_folder.specs.OnlyReads.{OnlyReads};
+ghost use Rattle.rz_folder_paths.specs.Names.{names_of, utf8_name};
 ghost use Rattle.rz_pre.specs.Placed.{AreOpenIn, IsPlaced, IsSourceFault};
 ghost use Rattle.rz_pre.specs.Program.{ends, live_after, open_if, start, too_deep, AheadGoes, Enters, IncludedGoes, NamedGoes, NamesGo, ProgramGoes, State};
 ghost use Rattle.rz_pre.specs.declared.program.Failure.{Failure};
+ghost use Rattle.rz_pre.specs.Reached.{IsIncluded, IsReached};
 ghost use Rattle.rz_pre.specs.Reading.{alone, state_of, together, with_state, Finishes, IsAnswer, IsProgram, OfProgram};
 ghost use Rattle.rz_core.specs.Stop.{IsReadFault, OnRefusal, Yields};
 ghost use Rattle.rz_lex.specs.Within.{AreWithin};
@@ -50,6 +53,7 @@ fn read_file<F: Folder>(
 ) -> Result<(), Halt<Fault>>
     requires open { source.file < length reading.now.files }
     requires placed { IsPlaced reading.now }
+    requires may { MayReadOf F.Folder folder.old (λ files. IsReached setting.paths.now files (IsIncluded setting.paths.now source.file source.ahead)) }
     ensures read { IfSome (F.files folder.old) (λ files. Yields (with_state alone (state_of reading.new) result)
         (AheadGoes (IncludedGoes setting.entry.tool files setting.entry.paths.now levels) setting.entry.tool source.file source.ahead (state_of reading.old))) }
     ensures placed { OnOk result (IsPlaced reading.new) }
@@ -126,7 +130,8 @@ fn open_included<F: Folder>(
     mark: Mark,
     reading: &mut Reading,
 ) -> Result<Bytes, Halt<Fault>>
-    requires { mark.file < length reading.now.files }
+    requires mark { mark.file < length reading.now.files }
+    requires may { MayRead F.Folder folder.old (IsOneOf (names_of setting.paths.now (utf8_name name.now))) }
     ensures opened { IfSome (F.files folder.old) (λ files. Yields (with_state together (state_of reading.new) result)
         (Enters files setting.entry.paths.now levels name.now mark (state_of reading.old))) }
     ensures deep { IfOk result (λ _. 0 < levels) }
@@ -152,7 +157,8 @@ fn read_names<F: Folder>(
     names: &FileNames,
     reading: &mut Reading,
 ) -> Result<(), Halt<Fault>>
-    requires { IsPlaced reading.now }
+    requires placed { IsPlaced reading.now }
+    requires may { MayReadOf F.Folder folder.old (λ files. IsReached setting.paths.now files (IsOneOf names.now)) }
     ensures read { IfSome (F.files folder.old) (λ files. Yields (with_state alone (state_of reading.new) result)
         (NamesGo setting.entry.tool files setting.entry.paths.now names.now (state_of reading.old))) }
     ensures placed { OnOk result (IsPlaced reading.new) }
@@ -177,7 +183,8 @@ fn read_named<F: Folder>(
     name: &str,
     reading: &mut Reading,
 ) -> Result<(), Halt<Fault>>
-    requires { IsPlaced reading.now }
+    requires placed { IsPlaced reading.now }
+    requires may { MayReadOf F.Folder folder.old (λ files. IsReached setting.paths.now files (IsOneOf (name.now ∷ []))) }
     ensures read { IfSome (F.files folder.old) (λ files. Yields (with_state alone (state_of reading.new) result)
         (NamedGoes setting.entry.tool files setting.entry.paths.now name.now (state_of reading.old))) }
     ensures placed { OnOk result (IsPlaced reading.new) }
@@ -217,7 +224,8 @@ fn read_all<F: Folder>(
     defs: &Defs,
     reading: &mut Reading,
 ) -> Result<(), Halt<Fault>>
-    requires { state_of reading.now ≡ start [] }
+    requires fresh { state_of reading.now ≡ start [] }
+    requires may { MayReadOf F.Folder folder.old (λ files. IsReached setting.paths.now files (IsOneOf names.now)) }
     ensures read { IfSome (F.files folder.old) (λ files. Yields (with_state alone (state_of reading.new) result)
         (ProgramGoes files setting.entry.tool names.now setting.entry.paths.now defs.now)) }
     ensures placed { OnOk result (IsPlaced reading.new) }
@@ -288,7 +296,9 @@ fn into_program(alloc: Global, reading: Reading) -> Result<Program, NoMemory>
 /// cut into, whatever the folder tells: a word of at most 255 bytes, a number below 2^32, a literal of one to
 /// four bytes, a text or a sign.
 ///
-/// A read fault comes only where the folder's count of read faults rose. No file changes. (MPW Rez.)
+/// A read fault comes only where the folder's count of read faults rose. No file changes. Over a folder that tells its
+/// files no name is read but those that `specs/Reached` has: those of `names`, and for each of these the names under
+/// which a file is looked for that a line of its file includes, and so on. (MPW Rez.)
 pub fn preprocess<F: Folder>(
     alloc: Global,
     folder: &mut F,
@@ -297,6 +307,7 @@ pub fn preprocess<F: Folder>(
     paths: &FileNames,
     defs: &Defs,
 ) -> Result<Program, Halt<Failure>>
+    requires { MayReadOf F.Folder folder.old (λ files. IsReached paths.now files (IsOneOf names.now)) }
     ensures program { IfSome (F.files folder.old) (λ files. Yields result (OfProgram (ProgramGoes files tool names.now paths.now defs.now))) }
     ensures every { IfSome (F.files folder.old) (λ files. (answer : Result State Failure)
         → ProgramGoes files tool names.now paths.now defs.now answer → Yields result (IsAnswer answer)) }
@@ -307,6 +318,7 @@ pub fn preprocess<F: Folder>(
     ensures counted { F.read_faults folder.old ≤ F.read_faults folder.new }
     ensures other_count { F.write_faults folder.new ≡ F.write_faults folder.old }
     ensures unwritten { F.writes folder.new ≡ F.writes folder.old }
+    ensures allowed { (name : List ℕ) → F.may_read folder.old name → F.may_read folder.new name }
     ensures cause { IsReadFault result → Rose (F.read_faults folder.old) (F.read_faults folder.new) }
 {
     one_program();

@@ -7,8 +7,8 @@
 //! It rests on `rz_core`, `rz_lex`, `rz_words`, `rz_expr`, `rz_types_fields` and `rz_stmt_brackets`.
 //! A new part of a text changes `texts` here, and what `specs/Text.antt` and `specs/Place.antt` of `rz_types_fields` say of it.
 //! A new part of a frame changes `frame` here, and `rz_show` and `rz_show_laws`, which write it and read it again.
-//! A new part of a head changes `head` here, `head` of `rz_tools_work`, which computes it, and `rz_show`, which writes
-//! it.
+//! A new part of a head changes `head` here, `head` of `rz_tools_values`, which computes its value, and `rz_show` and
+//! `rz_show_lines`, which write it.
 #![tactic(auto)]
 
 mod files;

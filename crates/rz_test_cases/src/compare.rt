@@ -1,9 +1,8 @@
 //! What a run left, compared with what its case wants.
 
-use crate::case::{Case, Target};
-use crate::difference::{Difference, Found, What};
+use crate::difference::{Difference, Found};
 use crate::runner::Ran;
-use crate::trouble::Trouble;
+use rz_test_cases_text::{Case, Target, Trouble, What};
 use std::alloc::Global;
 
 /// All that a run left or did otherwise than its case wants. The files that are looked at are those of the

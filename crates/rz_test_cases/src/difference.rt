@@ -1,6 +1,6 @@
 //! A difference, as it is printed.
 
-use crate::case::{Place, Target};
+use rz_test_cases_text::What;
 use std::fmt;
 
 /// The most bytes that are shown of what was wanted and of what came.
@@ -15,29 +15,6 @@ pub struct Difference<'a> {
     pub what: What<'a>,
     pub wanted: Found<'a>,
     pub came: Found<'a>,
-}
-
-/// What differs.
-#[derive(Clone, Copy, PartialEq, Eq)]
-pub enum What<'a> {
-    Status,
-    Out,
-    Err,
-    File(&'a str),
-    Call(Target),
-}
-
-impl<'a> What<'a> {
-    /// What differs in a place.
-    pub fn of(place: &'a Place) -> What<'a> {
-        match place {
-            Place::Status => What::Status,
-            Place::Out => What::Out,
-            Place::Err => What::Err,
-            Place::File(name) => What::File(name.as_str()),
-            Place::Call(target) => What::Call(*target),
-        }
-    }
 }
 
 /// What is wanted or came there.
@@ -76,20 +53,6 @@ impl Difference<'_> {
         match pairs.position(|(wanted, came)| *wanted != *came) {
             Some(place) => place,
             None => wanted.len().min(came.len()),
-        }
-    }
-}
-
-impl fmt::Display for What<'_> {
-    fn fmt<W: fmt::Write>(&self, f: &mut fmt::Formatter<W>) -> fmt::Result {
-        match self {
-            What::Status => write!(f, "the status"),
-            What::Out => write!(f, "out"),
-            What::Err => write!(f, "err"),
-            What::File(name) => write!(f, "the file {name:?}"),
-            What::Call(Target::Folder) => write!(f, "the call of the folder that fails"),
-            What::Call(Target::Out) => write!(f, "the piece of out that fails"),
-            What::Call(Target::Err) => write!(f, "the piece of err that fails"),
         }
     }
 }

@@ -1,14 +1,12 @@
 //! The case files of a folder, and the cases of each.
 
-use crate::case::Case;
 use crate::compare::differences;
-use crate::difference::{Difference, What};
-use crate::reader::read_cases;
+use crate::difference::Difference;
 use crate::runner::{Command, Ran, run_with};
 use crate::swept::sweep_differs;
 use crate::tally::Tally;
-use crate::trouble::Trouble;
 use anyhow::Result;
+use rz_test_cases_text::{Case, Trouble, What, read_cases};
 use std::alloc::Global;
 use std::fs;
 use std::process::ExitCode;

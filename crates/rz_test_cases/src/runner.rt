@@ -1,8 +1,7 @@
 //! A command, and a run of it by a case.
 
-use crate::case::{Case, Failures};
-use crate::trouble::Trouble;
 use crate::world::World;
+use rz_test_cases_text::{Case, Failures, Trouble};
 use std::alloc::Global;
 
 /// A command whose cases are run.

@@ -1,12 +1,11 @@
 //! The runs of a sweep, and what each left otherwise than it must.
 
-use crate::case::Case;
 use crate::compare::{add_calls, add_difference, differences, found_in, names_of, status_of};
-use crate::difference::{Difference, Found, What};
+use crate::demand::{Demand, Files, Held};
+use crate::difference::{Difference, Found};
 use crate::runner::{Command, Ran, run_with};
-use crate::sweep::{Demand, Files, Held, Sweep};
-use crate::trouble::Trouble;
 use anyhow::Result;
+use rz_test_cases_text::{Case, Sweep, Trouble, What};
 use std::alloc::Global;
 
 /// Runs a case once for each call that fails in turn, and once more, where none does. Prints what the first run that
@@ -54,7 +53,7 @@ fn print_run<R: AllocGlobal + Print>(
         let found = differences(rt.alloc(), case, ran)?;
         return print_found(rt, name, case, run, &found);
     }
-    let demand = sweep.demand(rt.alloc(), case, run)?;
+    let demand = Demand::of(rt.alloc(), sweep, case, run)?;
     let differs = print_unmet(rt, name, case, run, ran, &demand);
     drop(demand);
     differs

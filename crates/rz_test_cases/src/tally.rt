@@ -1,6 +1,6 @@
 //! How many cases were run, and how many differ.
 
-use crate::sweep::Sweep;
+use rz_test_cases_text::Sweep;
 use std::fmt;
 use std::process::ExitCode;
 

@@ -1,10 +1,9 @@
 //! What a run of a case is given: a folder and two streams in memory, and the moment.
 
-use crate::case::{Case, Failures, FolderRoom, Piece, Target};
-use crate::trouble::Trouble;
 use crate::watched::{WatchedFolder, WatchedSink};
 use rz_core::Moment;
 use rz_folder::{HeldSink, MemFolder, MemSink};
+use rz_test_cases_text::{Case, Failures, FolderRoom, Piece, Target, Trouble};
 use std::alloc::Global;
 
 /// The most bytes of a file.

@@ -2,7 +2,7 @@
 
 use crate::fixed::Fixed;
 use rz_core::{Bytes, Stop, Word};
-use rz_expr::{EvalFault, constant_of, copy, eval, is_constant, read_expr, role_of};
+use rz_expr::{EvalFault, constant_of, eval, is_constant, read_expr, role_of};
 use rz_test_tables::{Text, expanded, tokens_of};
 use std::process::Abort;
 
@@ -14,7 +14,7 @@ pub enum Call {
     Value,
     /// The same of the longest expression that begins at a token, whose position and `: ` stand before the text.
     ValueAt,
-    /// Whether a copy of the expression of a text is a constant, and its value as one.
+    /// Whether the expression of a text is a constant, and its value as one.
     Constant,
     /// The role of a word.
     Role,
@@ -95,17 +95,15 @@ fn show_fault(fault: &EvalFault, came: &mut Text) {
     }
 }
 
-/// Shows whether a copy of the expression of a text is a constant, and its value.
+/// Shows whether the expression of a text is a constant, and its value.
 fn show_constant(rt: &(impl Abort + AllocGlobal), text: &str, came: &mut Text) {
     let tokens = tokens_of(rt.alloc(), text.as_bytes()).expect(rt, "tokens");
     let Some(found) = read_expr(rt.alloc(), &tokens, 0).expect(rt, "memory") else {
         came.put(b"none");
         return;
     };
-    let copied = copy(rt.alloc(), &found.expr).expect(rt, "memory");
+    let (is_constant, value) = (is_constant(&found.expr), constant_of(&found.expr));
     drop(found);
-    let (is_constant, value) = (is_constant(&copied), constant_of(&copied));
-    drop(copied);
     came.put(
         format!(in rt.alloc(); "{is_constant} {value:?}")
             .expect(rt, "memory")

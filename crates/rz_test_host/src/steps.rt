@@ -1,6 +1,6 @@
 //! Calls of folders and streams, and what they give, as text.
 
-ghost use Rattle.std.specs.Prelude.{◌<◌, ◌^◌, length};
+ghost use Rattle.std.specs.Prelude.{◌<◌, ◌^◌, ℕ, List, length};
 
 use crate::failing::{Calls, FailingFiles};
 use crate::files::{show_file_call, show_rewrite};
@@ -196,8 +196,10 @@ fn content_in<'a>(call: &'a str, came: &mut Text) -> (&'a str, &'a [u8])
     (name, content.as_bytes())
 }
 
-/// Shows what a call of any folder gives.
-pub fn show_folder<F: Folder>(alloc: Global, folder: &mut F, call: &str, came: &mut Text) {
+/// Shows what a call of any folder gives that allows each name to be read.
+pub fn show_folder<F: Folder>(alloc: Global, folder: &mut F, call: &str, came: &mut Text)
+    requires { (name : List ℕ) → F.may_read folder.old name }
+{
     match in_two(call) {
         ("write", rest) => show_write(folder, rest, came),
         ("read", name) => match folder.read(alloc, name) {

@@ -5,6 +5,7 @@ use Rattle.std.specs.declared.result.Result.{Result}
 use Rattle.rz_tmpl_entries.specs.Cut.{broken, entry_bytes, whole, IsCut, Labelled}
 use Rattle.rz_tmpl_entries.specs.Entry.{entry_of}
 use Rattle.rz_tmpl_entries.specs.Items.{count, entries_of, is_kept, list, none, one, waits, Items}
+use Rattle.rz_tmpl_entries.specs.declared.entry.ListForm.TheVariants.{Counted, Uncounted}
 use Rattle.rz_tmpl_entries.specs.declared.entry.Entry.{Entry}
 use Rattle.rz_tmpl_entries.specs.declared.entry.Entry.TheVariants.{End}
 use Rattle.rz_tmpl_entries.specs.declared.fault.TmplFault.{TmplFault}
@@ -25,8 +26,8 @@ lists_few : (items : Items) → lists_of items ≤ length (entries_of items)
 lists_few none = omega arith
 lists_few (one plain rest) = omega (arith, lists_few rest)
 lists_few (count less rest) = omega (arith, lists_few rest)
-lists_few (list true row rest) = omega (arith, lists_few row, lists_few rest, length-append (entries_of row) (End ∷ entries_of rest))
-lists_few (list false row rest) = omega (arith, lists_few row, lists_few rest, length-append (entries_of row) (End ∷ entries_of rest))
+lists_few (list Counted row rest) = omega (arith, lists_few row, lists_few rest, length-append (entries_of row) (End ∷ entries_of rest))
+lists_few (list Uncounted row rest) = omega (arith, lists_few row, lists_few rest, length-append (entries_of row) (End ∷ entries_of rest))
 
 -- each entry has bytes
 bytes_enough : (front : List Labelled) → length front ≤ length (flat_map entry_bytes front)

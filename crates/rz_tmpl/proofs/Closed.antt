@@ -5,6 +5,9 @@ use Rattle.std.specs.Option.{is_some}
 use Rattle.std.proofs.lemmas.Bool.Decides.{nat_tests}
 use Rattle.rz_expr.specs.Environment.{count_key, Key}
 use Rattle.rz_tmpl_entries.specs.Items.{count, has_value, is_kept, list, none, one, waits, Items}
+use Rattle.rz_tmpl_entries.specs.declared.entry.CountForm.{CountForm}
+use Rattle.rz_tmpl_entries.specs.declared.entry.CountForm.TheVariants.{LessOne, Rows}
+use Rattle.rz_tmpl_entries.specs.declared.entry.ListForm.TheVariants.{Counted, Uncounted}
 use Rattle.rz_tmpl_entries.specs.declared.entry.Plain.{Plain}
 use Rattle.rz_tmpl_entries.specs.declared.entry.Plain.TheVariants.{Aligned, Character, Number, Pascal, Rectangle, Rest, TypeName, ZeroEnded, Zeros}
 use Rattle.rz_tmpl_entries.specs.declared.entry.Size.TheVariants.{Byte, Long, Word}
@@ -64,8 +67,8 @@ unfixed left k (one plain rest) kept ends =
     ∙ and_false (is_some (fixed_width (field_of plain)))
 unfixed left k (count less rest) kept ends = no kept
 unfixed zero k (list counted row rest) kept ends = no kept
-unfixed (suc left) k (list true row rest) kept ends = refl
-unfixed (suc left) k (list false row rest) kept ends = refl
+unfixed (suc left) k (list Counted row rest) kept ends = refl
+unfixed (suc left) k (list Uncounted row rest) kept ends = refl
 
 pub fixed_is : (left k : ℕ) (w : Bool) (items : Items) → is_kept left w items ≡ true → waits w items ≡ false → is_some (fixed_widths (body_from k items)) ≡ is_fixed items
 fixed_is left k w none kept ends = refl
@@ -75,8 +78,8 @@ fixed_is left k w (one plain rest) kept ends =
 fixed_is left k true (count less rest) kept ends = no kept
 fixed_is left k false (count less rest) kept ends = plus_some (fixed_width (count_field less (next_named k rest))) (fixed_widths (body_from k rest)) ∙ unfixed left k rest kept ends
 fixed_is zero k w (list counted row rest) kept ends = no kept
-fixed_is (suc left) k w (list true row rest) kept ends = refl
-fixed_is (suc left) k w (list false row rest) kept ends = refl
+fixed_is (suc left) k w (list Counted row rest) kept ends = refl
+fixed_is (suc left) k w (list Uncounted row rest) kept ends = refl
 
 pub fixed_closed : (items : Items) → is_fixed items ≡ true → is_closed items ≡ true
 fixed_closed none is = refl
@@ -127,8 +130,8 @@ wide left k (one ZeroEnded rest) kept inner value = at_least 8 (least_widths (bo
 wide left k (one Rest rest) kept inner value = no inner
 wide left k (count less rest) kept inner value = at_least 16 (least_widths (body_from k rest)) sixteen
 wide zero k (list counted row rest) kept inner value = no kept
-wide (suc left) k (list true row rest) kept inner value = no kept
-wide (suc left) k (list false row rest) kept inner value = no inner
+wide (suc left) k (list Counted row rest) kept inner value = no kept
+wide (suc left) k (list Uncounted row rest) kept inner value = no inner
 
 has_bits : (n : ℕ) → 8 ≤ n → (nat_le 1 n ≡ true) × (nat_le 8 n ≡ true)
 has_bits n is = (grind (arith, nat_tests), grind (arith, nat_tests))
@@ -152,8 +155,8 @@ no_label k (one plain rest) told =
     ap (λ (t : Bool). t || (is_some (fixed_width (field_of plain)) && ends_at_label (body_from k rest) told)) (label_plain plain told)
     ∙ ap (λ (t : Bool). is_some (fixed_width (field_of plain)) && t) (no_label k rest told) ∙ and_false (is_some (fixed_width (field_of plain)))
 no_label k (count less rest) told = no_label k rest told
-no_label k (list true row rest) told = refl
-no_label k (list false row rest) told = refl
+no_label k (list Counted row rest) told = refl
+no_label k (list Uncounted row rest) told = refl
 
 pub near_plain : (plain : Plain) (key : Key) → is_label (field_of plain) key ≡ false
 near_plain (Number size hex) key = refl
@@ -172,8 +175,8 @@ no_near k (one plain rest) key =
     ap (λ (t : Bool). t || (is_measured (field_of plain) && is_near (body_from k rest) key)) (near_plain plain key)
     ∙ ap (λ (t : Bool). is_measured (field_of plain) && t) (no_near k rest key) ∙ and_false (is_measured (field_of plain))
 no_near k (count less rest) key = no_near k rest key
-no_near k (list true row rest) key = refl
-no_near k (list false row rest) key = refl
+no_near k (list Counted row rest) key = refl
+no_near k (list Uncounted row rest) key = refl
 
 -- Counts.
 
@@ -200,24 +203,25 @@ declared left k (one plain rest) kept ends =
     ap (λ (t : Bool). t || declares (body_from k rest) (list_key (next_named k rest))) (gives_plain plain (list_key (next_named k rest))) ∙ declared left k rest kept ends
 declared left k (count less rest) kept ends = no kept
 declared zero k (list counted row rest) kept ends = no kept
-declared (suc left) k (list true row rest) kept ends = or_left _ _ (or_left _ _ (same_list k))
-declared (suc left) k (list false row rest) kept ends = declared (suc left) (k + lists_of row) rest (listed left false true row rest kept).others ends
+declared (suc left) k (list Counted row rest) kept ends = or_left _ _ (or_left _ _ (same_list k))
+declared (suc left) k (list Uncounted row rest) kept ends = declared (suc left) (k + lists_of row) rest (listed left Uncounted true row rest kept).others ends
 
-pub has_rows : (less : Bool) (n : ℕ) → has_key (list_key n) (rows_term less n) ≡ true
-has_rows true n = or_left _ _ (same_list n)
-has_rows false n = same_list n
+pub has_rows : (less : CountForm) (n : ℕ) → has_key (list_key n) (rows_term less n) ≡ true
+has_rows LessOne n = or_left _ _ (same_list n)
+has_rows Rows n = or_left _ _ (same_list n)
 
-solves : (rest : PlainBody) (passed : Passed) (less : Bool) (n : ℕ) → declares rest (list_key n) ≡ true → is_number_read rest passed (Some (rows_term less n)) ≡ true
-solves rest passed false n is = or_right _ _ (and_three _ _ _ is (same_list n) (or_left (is_same_key (list_key n) (list_key n)) (is_known passed (list_key n)) (same_list n)))
-solves rest passed true n is =
-    or_right _ _ (or_left _ _ (and_three _ _ _ is (ap (λ (t : Bool). if t then t else false) (same_list n)) (ap (λ (t : Bool). t && true) (or_left (is_same_key (list_key n) (list_key n)) (is_known passed (list_key n)) (same_list n)))))
+solves : (rest : PlainBody) (passed : Passed) (less : CountForm) (n : ℕ) → declares rest (list_key n) ≡ true → is_number_read rest passed (Some (rows_term less n)) ≡ true
+solves rest passed Rows n is =
+    or_right _ _ (or_left _ _ (and_three _ _ _ is (same_list n) (ap (λ (t : Bool). t && true) (or_left (is_same_key (list_key n) (list_key n)) (is_known passed (list_key n)) (same_list n)))))
+solves rest passed LessOne n is =
+    or_right _ _ (or_left _ _ (and_three _ _ _ is (ap (λ (t : Bool). if t || false then t else false) (same_list n)) (ap (λ (t : Bool). t && true) (or_left (is_same_key (list_key n) (list_key n)) (is_known passed (list_key n)) (same_list n)))))
 
 told_either : (met told near has : Bool) → near ≡ false → has ≡ true → (met || ((has && not (near || (met || told))) || told)) ≡ true
 told_either true told near has no_near is = refl
 told_either false true near has no_near is = or_right _ true refl
 told_either false false near has no_near is = ap (λ (t : Bool). (t && not (near || false)) || false) is ∙ ap (λ (t : Bool). not (t || false) || false) no_near
 
-pub told : (k : ℕ) (rest : Items) (passed : Passed) (less : Bool) (n : ℕ)
+pub told : (k : ℕ) (rest : Items) (passed : Passed) (less : CountForm) (n : ℕ)
     → is_held (behind (count_field less n) (at_field (field_and (count_field less n) (body_from k rest)) passed)) (list_key n) ≡ true
 told k rest passed less n =
     told_either (passed.met (list_key n)) (passed.told (list_key n)) (is_near (body_from k rest) (list_key n)) (has_key (list_key n) (rows_term less n)) (no_near k rest (list_key n)) (has_rows less n)
@@ -263,7 +267,7 @@ plain_list true false false closed wider so = refl
 plain_list false wide true closed wider so = refl
 plain_list false wide false closed wider so = refl
 
-list_closed : (outermost : Bool) (row rest : Items) → (is_inner row && closed_in outermost rest) ≡ closed_in outermost (list true row rest)
+list_closed : (outermost : Bool) (row rest : Items) → (is_inner row && closed_in outermost rest) ≡ closed_in outermost (list Counted row rest)
 list_closed true row rest = refl
 list_closed false row rest = refl
 
@@ -301,9 +305,9 @@ reads left k false outermost (count less rest) passed kept ends held =
     ap (λ (t : Bool). (t && true) && are_read outermost next (body_from k rest)) (solves (body_from k rest) (at_field (body_from k (count less rest)) passed) less n (declared left k rest kept ends))
     ∙ reads left k true outermost rest next kept ends (λ is. told k rest passed less n)
 reads zero k w outermost (list counted row rest) passed kept ends held = no kept
-reads (suc left) k w outermost (list true row rest) passed kept ends held =
-    let is = listed left true w row rest kept in
-    let here = at_field (body_from k (list true row rest)) passed in
+reads (suc left) k w outermost (list Counted row rest) passed kept ends held =
+    let is = listed left Counted w row rest kept in
+    let here = at_field (body_from k (list Counted row rest)) passed in
     let others = body_from (k + 1 + lists_of row) rest in
     let body = body_from (k + 1) row in
     let array = Array (Some (list_name k)) None body in
@@ -314,9 +318,9 @@ reads (suc left) k w outermost (list true row rest) passed kept ends held =
     (λ inner. rows_some _ _ _ (both _ _ (or_right (here.near (list_key k)) (is_held passed (list_key k)) (held is.starts)) (has_bits (least_widths body) (wide left (k + 1) row is.inside inner is.value)).0)))
     ∙ ap (λ (t : Bool). is_inner row && t) (reads (suc left) (k + 1 + lists_of row) false outermost rest (behind array here) is.others ends (λ so. no so))
     ∙ list_closed outermost row rest
-reads (suc left) k w true (list false row rest) passed kept ends held =
-    let is = listed left false w row rest kept in
-    let here = at_field (body_from k (list false row rest)) passed in
+reads (suc left) k w true (list Uncounted row rest) passed kept ends held =
+    let is = listed left Uncounted w row rest kept in
+    let here = at_field (body_from k (list Uncounted row rest)) passed in
     let others = body_from (k + lists_of row) rest in
     let body = body_from k row in
     let array = Array None None body in
@@ -328,8 +332,8 @@ reads (suc left) k w true (list false row rest) passed kept ends held =
     ∙ ap (λ (t : Bool). ((is_fixed rest && nat_le 8 bits) && t) && are_read true (behind array here) others) (reads left k false false row (at_front body here) is.inside is.ends (λ so. no so))
     ∙ ap (λ (t : Bool). ((is_fixed rest && nat_le 8 bits) && is_inner row) && t) next
     ∙ plain_list (is_fixed rest) (nat_le 8 bits) (is_inner row) (is_closed rest) (λ inner. (has_bits bits (wide left k row is.inside inner is.value)).1) (fixed_closed rest)
-reads (suc left) k w false (list false row rest) passed kept ends held =
-    let here = at_field (body_from k (list false row rest)) passed in
+reads (suc left) k w false (list Uncounted row rest) passed kept ends held =
+    let here = at_field (body_from k (list Uncounted row rest)) passed in
     let others = body_from (k + lists_of row) rest in
     let body = body_from k row in
     let array = Array None None body in

@@ -4,6 +4,7 @@ use Rattle.std.specs.Prelude.{option_and_then}
 use Rattle.std.proofs.lemmas.List.{append-nil}
 use Rattle.rz_tmpl_entries.specs.Bodies.{append}
 use Rattle.rz_tmpl_entries.specs.Items.{count, entries_of, list, none, one, Items}
+use Rattle.rz_tmpl_entries.specs.declared.entry.ListForm.TheVariants.{Counted, Uncounted}
 use Rattle.rz_tmpl_entries.specs.declared.entry.Entry.{Entry}
 use Rattle.rz_tmpl_entries.specs.declared.entry.Entry.TheVariants.{Count, End, One, Start}
 use Rattle.rz_tmpl_entries.proofs.Places.{append_none}
@@ -61,8 +62,8 @@ pub lists_are : (items : Items) → starts_in (entries_of items) ≡ lists_of it
 lists_are none = refl
 lists_are (one plain rest) = omega (arith, lists_are rest)
 lists_are (count less rest) = omega (arith, lists_are rest)
-lists_are (list true row rest) = omega (arith, starts_both (entries_of row) (End ∷ entries_of rest), lists_are row, lists_are rest)
-lists_are (list false row rest) = omega (arith, starts_both (entries_of row) (End ∷ entries_of rest), lists_are row, lists_are rest)
+lists_are (list Counted row rest) = omega (arith, starts_both (entries_of row) (End ∷ entries_of rest), lists_are row, lists_are rest)
+lists_are (list Uncounted row rest) = omega (arith, starts_both (entries_of row) (End ∷ entries_of rest), lists_are row, lists_are rest)
 
 -- The loop.
 

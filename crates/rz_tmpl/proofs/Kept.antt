@@ -9,6 +9,10 @@ use Rattle.rz_types.specs.Rules.{broken_at, has_values, unknown_at, BreaksNone, 
 use Rattle.rz_types.specs.Walk.{all_fields, and_names, around_names, at_field, is_among, names_in, names_of, no_names, own_names, steps, steps_within, walk, within, Own, Step}
 use Rattle.rz_tmpl_entries.specs.Entry.{takes}
 use Rattle.rz_tmpl_entries.specs.Items.{count, has_value, is_kept, list, may_start, none, one, waits, waits_behind, Items}
+use Rattle.rz_tmpl_entries.specs.declared.entry.CountForm.{CountForm}
+use Rattle.rz_tmpl_entries.specs.declared.entry.CountForm.TheVariants.{LessOne, Rows}
+use Rattle.rz_tmpl_entries.specs.declared.entry.ListForm.{ListForm}
+use Rattle.rz_tmpl_entries.specs.declared.entry.ListForm.TheVariants.{Counted, Uncounted}
 use Rattle.rz_tmpl_entries.specs.declared.entry.Plain.{Plain}
 use Rattle.rz_tmpl_entries.specs.declared.entry.Plain.TheVariants.{Aligned, Character, Number, Pascal, Rectangle, Rest, TypeName, ZeroEnded, Zeros}
 use Rattle.rz_tmpl_entries.specs.declared.entry.Size.TheVariants.{Byte, Long, Word}
@@ -47,14 +51,14 @@ or_either : (a b c : Bool) → (a || b) ≡ true → (b ≡ true → c ≡ true)
 or_either true b c is so = refl
 or_either false b c is so = so is
 
-pub record Listed (left : ℕ) (counted w : Bool) (inner rest : Items) : Type 0 where
+pub record Listed (left : ℕ) (counted : ListForm) (w : Bool) (inner rest : Items) : Type 0 where
   pub starts : may_start counted w ≡ true
   pub inside : is_kept left false inner ≡ true
   pub ends : waits false inner ≡ false
   pub value : has_value inner ≡ true
   pub others : is_kept (suc left) (waits_behind counted w) rest ≡ true
 
-pub listed : (left : ℕ) (counted w : Bool) (inner rest : Items) → is_kept (suc left) w (list counted inner rest) ≡ true → Listed left counted w inner rest
+pub listed : (left : ℕ) (counted : ListForm) (w : Bool) (inner rest : Items) → is_kept (suc left) w (list counted inner rest) ≡ true → Listed left counted w inner rest
 listed left counted w inner rest is =
     let first = back (may_start counted w) _ is in
     let two = back (is_kept left false inner) _ first in
@@ -131,7 +135,7 @@ simple Pascal = record { own = refl; inner = refl; no_steps = λ position before
 simple ZeroEnded = record { own = refl; inner = refl; no_steps = λ position before scope. refl }
 simple Rest = record { own = refl; inner = refl; no_steps = λ position before scope. refl }
 
-simple_count : (less : Bool) (k : ℕ) → IsSimple (count_field less k)
+simple_count : (less : CountForm) (k : ℕ) → IsSimple (count_field less k)
 simple_count less k = record { own = refl; inner = refl; no_steps = λ position before scope. refl }
 
 -- such a field changes no names
@@ -167,9 +171,9 @@ kept_plain ZeroEnded position before scope = (refl, refl)
 kept_plain Rest position before scope = (refl, refl)
 
 -- a count whose list is in scope
-kept_count : (less : Bool) (k position : ℕ) (before scope : Own) → is_among (list_name k).bytes scope.arrays ≡ true → Kept (at_field position before scope (count_field less k))
-kept_count true k position before scope is = (refl, rw is refl)
-kept_count false k position before scope is = (refl, rw is refl)
+kept_count : (less : CountForm) (k position : ℕ) (before scope : Own) → is_among (list_name k).bytes scope.arrays ≡ true → Kept (at_field position before scope (count_field less k))
+kept_count LessOne k position before scope is = (refl, rw is refl)
+kept_count Rows k position before scope is = (refl, rw is refl)
 
 -- Bodies.
 
@@ -177,14 +181,14 @@ below_all : (k : ℕ) (items : Items) → Below (k + lists_of items) (names_in (
 below_all k none = tt
 below_all k (one plain rest) = subst (λ (l : List names.Word). Below (k + lists_of rest) l) (sym (all_front (field_of plain) (body_from k rest) (simple plain))) (below_all k rest)
 below_all k (count less rest) = below_all k rest
-below_all k (list true inner rest) = (
+below_all k (list Counted inner rest) = (
   (k, omega arith, refl),
   subst (λ (l : List names.Word). Below (k + (1 + (lists_of inner + lists_of rest))) l) (sym (names_append (all_fields (body_from (k + 1) inner)) (all_fields (body_from (k + 1 + lists_of inner) rest))))
       (both_below _ _ _
       (more_below (k + 1 + lists_of inner) (k + (1 + (lists_of inner + lists_of rest))) _ (omega arith) (below_all (k + 1) inner))
       (more_below (k + 1 + lists_of inner + lists_of rest) (k + (1 + (lists_of inner + lists_of rest))) _ (omega arith) (below_all (k + 1 + lists_of inner) rest))),
 )
-below_all k (list false inner rest) =
+below_all k (list Uncounted inner rest) =
     subst (λ (l : List names.Word). Below (k + (lists_of inner + lists_of rest)) l) (sym (names_append (all_fields (body_from k inner)) (all_fields (body_from (k + lists_of inner) rest))))
     (both_below _ _ _
     (more_below (k + lists_of inner) (k + (lists_of inner + lists_of rest)) _ (omega arith) (below_all k inner))
@@ -197,8 +201,8 @@ next_among left k (one plain rest) kept ends =
     ap (is_among (list_name (next_named k rest)).bytes) (names_front (field_of plain) (body_from k rest) (simple plain)) ∙ next_among left k rest kept ends
 next_among left k (count less rest) kept ends = no kept
 next_among zero k (list counted inner rest) kept ends = no kept
-next_among (suc left) k (list true inner rest) kept ends = or_left _ _ (itself k)
-next_among (suc left) k (list false inner rest) kept ends = next_among (suc left) (k + lists_of inner) rest (listed left false true inner rest kept).others ends
+next_among (suc left) k (list Counted inner rest) kept ends = or_left _ _ (itself k)
+next_among (suc left) k (list Uncounted inner rest) kept ends = next_among (suc left) (k + lists_of inner) rest (listed left Uncounted true inner rest kept).others ends
 
 pub takes_is : (plain : Plain) → takes_value (field_of plain) ≡ takes plain
 takes_is (Number size hex) = refl
@@ -216,8 +220,8 @@ values_are k none value = no value
 values_are k (one plain rest) value =
     ap (λ (t : Bool). t || has_values (body_from k rest)) (takes_is plain) ∙ or_either (takes plain) (has_value rest) (has_values (body_from k rest)) value (values_are k rest)
 values_are k (count less rest) value = values_are k rest value
-values_are k (list true inner rest) value = refl
-values_are k (list false inner rest) value = refl
+values_are k (list Counted inner rest) value = refl
+values_are k (list Uncounted inner rest) value = refl
 
 abbrev Covers : List names.Word → List names.Word → Type 0
 Covers scope words = (key : List ℕ) → is_among key words ≡ true → is_among key scope ≡ true
@@ -239,8 +243,8 @@ keep left k false (count less rest) position before scope kept ends few below co
     (kept_count less (next_named k rest) position before scope (covers (list_name (next_named k rest)).bytes (next_among left k rest kept ends)))
     (λ later words same. keep left k true rest later words scope kept ends few (subst (Below k) (sym same) below) covers)
 keep zero k w (list counted inner rest) position before scope kept ends few below covers = no kept
-keep (suc left) k w (list true inner rest) position before scope kept ends few below covers =
-    let is = listed left true w inner rest kept in
+keep (suc left) k w (list Counted inner rest) position before scope kept ends few below covers =
+    let is = listed left Counted w inner rest kept in
     let row = body_from (k + 1) inner in
     let array = Array (Some (list_name k)) None row in (
       kept_array (Some (list_name k)) row position before scope (values_are (k + 1) inner is.value) (rw (not_among k before.arrays (omega arith) below) refl),
@@ -252,8 +256,8 @@ keep (suc left) k w (list true inner rest) position before scope kept ends few b
           (both_below _ before.arrays _ (more_below k (k + 1 + lists_of inner) before.arrays (omega arith) below) ((k, omega arith, refl), below_all (k + 1) inner))
           (λ key so. covers key (or_right (str_eq_ignore_ascii_case (list_name k).bytes key) _ so))),
     )
-keep (suc left) k w (list false inner rest) position before scope kept ends few below covers =
-    let is = listed left false w inner rest kept in
+keep (suc left) k w (list Uncounted inner rest) position before scope kept ends few below covers =
+    let is = listed left Uncounted w inner rest kept in
     let row = body_from k inner in
     let array = Array None None row in (
       kept_array None row position before scope (values_are k inner is.value) refl,

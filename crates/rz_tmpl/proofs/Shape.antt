@@ -12,6 +12,8 @@ use Rattle.rz_words.specs.Keyword.{keyword_of}
 use Rattle.rz_words.specs.Words.{is_name, role_of}
 use Rattle.rz_types_fields.specs.Shape.{are_shaped, body_depth, is_own_name, is_shaped, is_well_shaped}
 use Rattle.rz_tmpl_entries.specs.Items.{count, is_kept, list, none, one, Items}
+use Rattle.rz_tmpl_entries.specs.declared.entry.CountForm.TheVariants.{LessOne, Rows}
+use Rattle.rz_tmpl_entries.specs.declared.entry.ListForm.TheVariants.{Counted, Uncounted}
 use Rattle.rz_tmpl_entries.specs.declared.entry.Plain.{Plain}
 use Rattle.rz_tmpl_entries.specs.declared.entry.Plain.TheVariants.{Aligned, Character, Number, Pascal, Rectangle, Rest, TypeName, ZeroEnded, Zeros}
 use Rattle.rz_tmpl_entries.specs.declared.entry.Size.TheVariants.{Byte, Long, Word}
@@ -86,11 +88,11 @@ both false b is other = absurd cc
 shaped : (k : ℕ) (items : Items) → k + lists_of items ≤ 2 ^ 64 → are_shaped false (body_from k items) ≡ true
 shaped k none few = refl
 shaped k (one plain rest) few = both _ _ (plain_shaped plain) (shaped k rest few)
-shaped k (count true rest) few = shaped k rest few
-shaped k (count false rest) few = shaped k rest few
-shaped k (list true inner rest) few =
+shaped k (count LessOne rest) few = shaped k rest few
+shaped k (count Rows rest) few = shaped k rest few
+shaped k (list Counted inner rest) few =
     both _ _ (both _ _ (own_name k (omega arith)) (shaped (k + 1) inner (omega arith))) (shaped (k + 1 + lists_of inner) rest (omega arith))
-shaped k (list false inner rest) few = both _ _ (shaped k inner (omega arith)) (shaped (k + lists_of inner) rest (omega arith))
+shaped k (list Uncounted inner rest) few = both _ _ (shaped k inner (omega arith)) (shaped (k + lists_of inner) rest (omega arith))
 
 -- Depth.
 
@@ -111,11 +113,11 @@ deep left k w (one plain rest) kept = omega (arith, plain_flat plain, deep left 
 deep left k true (count less rest) kept = absurd cc
 deep left k false (count less rest) kept = omega (arith, deep left k true rest kept)
 deep zero k w (list counted inner rest) kept = absurd cc
-deep (suc left) k w (list true inner rest) kept =
-    let is = listed left true w inner rest kept in
+deep (suc left) k w (list Counted inner rest) kept =
+    let is = listed left Counted w inner rest kept in
     omega (arith, deep left (k + 1) false inner is.inside, deep (suc left) (k + 1 + lists_of inner) false rest is.others)
-deep (suc left) k w (list false inner rest) kept =
-    let is = listed left false w inner rest kept in
+deep (suc left) k w (list Uncounted inner rest) kept =
+    let is = listed left Uncounted w inner rest kept in
     omega (arith, deep left k false inner is.inside, deep (suc left) (k + lists_of inner) w rest is.others)
 
 pub well_shaped : (items : Items) → is_kept 60 false items ≡ true → 1 + lists_of items ≤ 2 ^ 64 → is_well_shaped (body_from 1 items) ≡ true

@@ -5,6 +5,9 @@ use Rattle.rz_core.specs.declared.resource.Word as names
 use Rattle.rz_expr.specs.Term.{Constant, OfTwo, RowsOf, Term}
 use Rattle.rz_expr.specs.declared.expr.BinaryOp.TheVariants.{Minus}
 use Rattle.rz_tmpl_entries.specs.Items.{count, list, none, one, Items}
+use Rattle.rz_tmpl_entries.specs.declared.entry.CountForm.{CountForm}
+use Rattle.rz_tmpl_entries.specs.declared.entry.CountForm.TheVariants.{LessOne, Rows}
+use Rattle.rz_tmpl_entries.specs.declared.entry.ListForm.TheVariants.{Counted, Uncounted}
 use Rattle.rz_tmpl_entries.specs.declared.entry.Plain.{Plain}
 use Rattle.rz_tmpl_entries.specs.declared.entry.Plain.TheVariants as plain
 use Rattle.rz_tmpl_entries.specs.declared.entry.Size.{Size}
@@ -56,28 +59,29 @@ field_of plain.Rest = text_of texts.Open true
 abbrev pub lists_of : Items → ℕ
 lists_of none = 0
 lists_of (one plain rest) = lists_of rest
-lists_of (count less rest) = lists_of rest
-lists_of (list true row rest) = 1 + (lists_of row + lists_of rest)
-lists_of (list false row rest) = lists_of row + lists_of rest
+lists_of (count form rest) = lists_of rest
+lists_of (list Counted row rest) = 1 + (lists_of row + lists_of rest)
+lists_of (list Uncounted row rest) = lists_of row + lists_of rest
 
 -- the number of the next counted list of the body itself, where the next of all has this number
 abbrev pub next_named : ℕ → Items → ℕ
 next_named number none = number
 next_named number (one plain rest) = next_named number rest
-next_named number (count less rest) = next_named number rest
-next_named number (list true row rest) = number
-next_named number (list false row rest) = next_named (number + lists_of row) rest
+next_named number (count form rest) = next_named number rest
+next_named number (list Counted row rest) = number
+next_named number (list Uncounted row rest) = next_named (number + lists_of row) rest
 
 -- `L` and the number
 abbrev pub list_name : ℕ → names.Word
 list_name number = record { bytes = 76 ∷ decimal_of number }
 
 -- the number of its rows, or that number less one
-abbrev pub rows_term : (less : Bool) → ℕ → Term
-rows_term less number = if less then OfTwo Minus (RowsOf (list_name number).bytes) (Constant (pos 1)) else RowsOf (list_name number).bytes
+abbrev pub rows_term : CountForm → ℕ → Term
+rows_term Rows number = RowsOf (list_name number).bytes
+rows_term LessOne number = OfTwo Minus (RowsOf (list_name number).bytes) (Constant (pos 1))
 
-abbrev pub count_field : (less : Bool) → ℕ → PlainField
-count_field less number = Number (record { form = forms.Integer; width = pos 16; unsigned = false; radix = radixes.Plain; symbols = []; fixed = Some (rows_term less number); key = false })
+abbrev pub count_field : CountForm → ℕ → PlainField
+count_field stored number = Number (record { form = forms.Integer; width = pos 16; unsigned = false; radix = radixes.Plain; symbols = []; fixed = Some (rows_term stored number); key = false })
 
 -- Bodies.
 
@@ -86,10 +90,10 @@ count_field less number = Number (record { form = forms.Integer; width = pos 16;
 abbrev pub body_from : ℕ → Items → PlainBody
 body_from number none = no_fields
 body_from number (one plain rest) = field_and (field_of plain) (body_from number rest)
-body_from number (count less rest) = field_and (count_field less (next_named number rest)) (body_from number rest)
-body_from number (list true row rest) =
+body_from number (count form rest) = field_and (count_field form (next_named number rest)) (body_from number rest)
+body_from number (list Counted row rest) =
     field_and (Array (Some (list_name number)) None (body_from (number + 1) row)) (body_from (number + 1 + lists_of row) rest)
-body_from number (list false row rest) = field_and (Array None None (body_from number row)) (body_from (number + lists_of row) rest)
+body_from number (list Uncounted row rest) = field_and (Array None None (body_from number row)) (body_from (number + lists_of row) rest)
 
 -- lists are numbered from 1
 abbrev pub tmpl_body : Items → PlainBody

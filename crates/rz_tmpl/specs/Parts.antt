@@ -1,8 +1,10 @@
 -- What the code keeps of bodies whose entries are read from the last to the first.
-use Rattle.std.specs.Prelude.{◌≡◌, ℕ, ◌+◌, Bool, if◌then◌else◌, List, [], ◌∷◌, reverse, Option, Some, None}
+use Rattle.std.specs.Prelude.{◌≡◌, ℕ, ◌+◌, List, [], ◌∷◌, reverse, Option, Some, None}
 use Rattle.rz_tmpl_entries.specs.Items.{count, list, none, one, Items}
 use Rattle.rz_tmpl_entries.specs.declared.entry.Entry.{Entry}
 use Rattle.rz_tmpl_entries.specs.declared.entry.Entry.TheVariants.{Count, End, One, Start}
+use Rattle.rz_tmpl_entries.specs.declared.entry.ListForm.{ListForm}
+use Rattle.rz_tmpl_entries.specs.declared.entry.ListForm.TheVariants.{Counted, Uncounted}
 use Rattle.rz_tmpl.specs.Body.{body_from, lists_of, next_named}
 use Rattle.rz_tmpl.specs.Closed.{is_closed, is_fixed, is_inner}
 use Rattle.rz_tmpl.specs.declared.closing.Closing.{Closing}
@@ -19,22 +21,23 @@ abbrev pub nothing : Ends
 nothing = record { inner = none; outer = [] }
 
 -- with the start of a list before it, the body around goes on
-abbrev pub around_list : (counted : Bool) → Items → List Items → Option Ends
-around_list counted row [] = None
-around_list counted row (around ∷ outer) = Some (record { inner = list counted row around; outer = outer })
+abbrev pub around_list : ListForm → Items → List Items → Option Ends
+around_list form row [] = None
+around_list form row (around ∷ outer) = Some (record { inner = list form row around; outer = outer })
 
 -- with an entry before it
 abbrev pub with_entry : Entry → Ends → Option Ends
 with_entry (One plain) ends = Some (record { inner = one plain ends.inner; outer = ends.outer })
-with_entry (Count less) ends = Some (record { inner = count less ends.inner; outer = ends.outer })
-with_entry (Start counted) ends = around_list counted ends.inner ends.outer
+with_entry (Count form) ends = Some (record { inner = count form ends.inner; outer = ends.outer })
+with_entry (Start form) ends = around_list form ends.inner ends.outer
 with_entry End ends = Some (record { inner = none; outer = ends.inner ∷ ends.outer })
 
 -- how many counted lists begin at an entry
 abbrev pub starts : Entry → ℕ
 starts (One plain) = 0
-starts (Count less) = 0
-starts (Start counted) = if counted then 1 else 0
+starts (Count form) = 0
+starts (Start Counted) = 1
+starts (Start Uncounted) = 0
 starts End = 0
 
 abbrev pub starts_in : List Entry → ℕ

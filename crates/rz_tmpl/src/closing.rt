@@ -1,10 +1,11 @@
 //! Where the bytes of a body end, told with its entries from the last to the first; changed only with `specs/Closed`.
 
-ghost use Rattle.std.specs.Prelude.{◌≡◌, false};
+ghost use Rattle.std.specs.Prelude.{◌≡◌};
 ghost use Rattle.rz_tmpl.specs.Parts.{closing_of};
 ghost use Rattle.rz_tmpl_entries.specs.Items.{count, list, none, one, Items};
+ghost use Rattle.rz_tmpl_entries.specs.declared.entry.CountForm.{CountForm};
 
-use rz_tmpl_entries::Plain;
+use rz_tmpl_entries::{ListForm, Plain};
 
 /// Which lengths and ends the entries of a body have.
 #[derive(Clone, Copy, Drop)]
@@ -53,7 +54,7 @@ impl Closing {
 
     /// With a count before them, of either kind.
     pub fn with_count(self) -> Closing
-        ensures { (rest : Items) → self ≡ closing_of rest → result ≡ closing_of (count false rest) }
+        ensures { (form : CountForm) (rest : Items) → self ≡ closing_of rest → result ≡ closing_of (count form rest) }
     {
         Closing {
             fixed: false,
@@ -62,21 +63,20 @@ impl Closing {
     }
 
     /// With a list before them whose row has this one.
-    pub fn with_list(self, counted: bool, row: Closing) -> Closing
-        ensures { (items rest : Items) → row ≡ closing_of items → self ≡ closing_of rest → result ≡ closing_of (list counted items rest) }
+    pub fn with_list(self, form: ListForm, row: Closing) -> Closing
+        ensures { (items rest : Items) → row ≡ closing_of items → self ≡ closing_of rest → result ≡ closing_of (list form items rest) }
     {
-        if counted {
-            Closing {
+        match form {
+            ListForm::Counted => Closing {
                 fixed: false,
                 inner: row.inner && self.inner,
                 closed: row.inner && self.closed,
-            }
-        } else {
-            Closing {
+            },
+            ListForm::Uncounted => Closing {
                 fixed: false,
                 inner: false,
                 closed: row.inner && self.fixed,
-            }
+            },
         }
     }
 }

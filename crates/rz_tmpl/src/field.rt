@@ -7,7 +7,7 @@ ghost use Rattle.rz_types_fields.specs.Field.{plain_body, plain_field, Array};
 
 use rz_core::{Bytes, NoMemory, Word, write_decimal};
 use rz_expr::{BinaryOp, Expr};
-use rz_tmpl_entries::{Plain, Size};
+use rz_tmpl_entries::{CountForm, Plain, Size};
 use rz_types::{
     ArrayField, Body, Field, NumField, NumForm, PointField, Radix, Symbols, TextField, TextForm,
 };
@@ -85,8 +85,8 @@ fn bits_of(size: Size) -> u8
 }
 
 /// The field of a count, for the list of this number.
-pub fn count_field(alloc: Global, less: bool, number: u64) -> Result<Field, NoMemory>
-    ensures { IfOk result (λ field. plain_field field ≡ count_field less number) }
+pub fn count_field(alloc: Global, stored: CountForm, number: u64) -> Result<Field, NoMemory>
+    ensures { IfOk result (λ field. plain_field field ≡ count_field stored number) }
 {
     Ok(Field::Num(NumField {
         form: NumForm::Integer,
@@ -95,20 +95,22 @@ pub fn count_field(alloc: Global, less: bool, number: u64) -> Result<Field, NoMe
         radix: Radix::Plain,
         key: false,
         symbols: Symbols::new(alloc),
-        fixed: Some(rows_of(alloc, less, number)?),
+        fixed: Some(rows_of(alloc, stored, number)?),
     }))
 }
 
 /// The number of rows of a list, or that number less one.
-fn rows_of(alloc: Global, less: bool, number: u64) -> Result<Expr, NoMemory>
-    ensures { IfOk result (λ expr. term_of expr ≡ rows_term less number) }
+fn rows_of(alloc: Global, stored: CountForm, number: u64) -> Result<Expr, NoMemory>
+    ensures { IfOk result (λ expr. term_of expr ≡ rows_term stored number) }
 {
     let rows = Expr::Count(list_name(alloc, number)?);
-    if !less {
-        return Ok(rows);
+    match stored {
+        CountForm::Rows => Ok(rows),
+        CountForm::LessOne => {
+            let rows = Box::new(alloc, rows)?;
+            Ok(Expr::Binary(BinaryOp::Minus, rows, Box::new(alloc, Expr::Number(1))?))
+        }
     }
-    let rows = Box::new(alloc, rows)?;
-    Ok(Expr::Binary(BinaryOp::Minus, rows, Box::new(alloc, Expr::Number(1))?))
 }
 
 /// The field of a list with this row, and with this number where it is counted.

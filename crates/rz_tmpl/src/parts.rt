@@ -1,6 +1,6 @@
 //! The fields of bodies whose entries are read from the last to the first; changed only with `specs/Parts`.
 
-ghost use Rattle.std.specs.Prelude.{◌≡◌, ℕ, ◌+◌, ◌<◌, [], ◌∷◌, ◌++◌, IfOk, List, reverse, true, false};
+ghost use Rattle.std.specs.Prelude.{◌≡◌, ℕ, ◌+◌, ◌<◌, [], ◌∷◌, ◌++◌, IfOk, List, reverse};
 ghost use Rattle.rz_tmpl.specs.Body.{lists_of};
 ghost use Rattle.rz_tmpl.specs.Parts.{body_in, closing_of, nothing, Goes, Holds, IsPart};
 ghost use Rattle.rz_tmpl_entries.specs.Items.{list, none, Items};
@@ -9,7 +9,7 @@ ghost use Rattle.rz_types_fields.specs.Field.{field_and, plain_body, plain_field
 use crate::closing::Closing;
 use crate::field::{count_field, field_of, list_field};
 use rz_core::NoMemory;
-use rz_tmpl_entries::Entry;
+use rz_tmpl_entries::{Entry, ListForm};
 use rz_types::{Body, Field};
 use std::alloc::Global;
 
@@ -71,9 +71,9 @@ impl Part {
     /// With the counted list of this number before them, which has this row.
     fn with_counted(self, alloc: Global, number: u64, row: Part) -> Result<Part, NoMemory>
         ensures { (lists : ℕ) (items rest : Items) → number ≡ lists + 1 → IsPart (lists + 1 + 1) items row → IsPart (lists + 1 + 1 + lists_of items) rest self
-            → IfOk result (IsPart (lists + 1) (list true items rest)) }
+            → IfOk result (IsPart (lists + 1) (list ListForm.Counted items rest)) }
     {
-        let closing = self.closing.with_list(true, row.closing);
+        let closing = self.closing.with_list(ListForm::Counted, row.closing);
         let list = list_field(alloc, Some(number), row.into_body())?;
         let Part {
             fields,
@@ -90,9 +90,9 @@ impl Part {
     /// With a list without a count before them, which has this row.
     fn with_list(self, alloc: Global, row: Part) -> Result<Part, NoMemory>
         ensures { (number : ℕ) (items rest : Items) → IsPart number items row → IsPart (number + lists_of items) rest self
-            → IfOk result (IsPart number (list false items rest)) }
+            → IfOk result (IsPart number (list ListForm.Uncounted items rest)) }
     {
-        let closing = self.closing.with_list(false, row.closing);
+        let closing = self.closing.with_list(ListForm::Uncounted, row.closing);
         let list = list_field(alloc, None, row.into_body())?;
         self.with(list, closing)
     }
@@ -133,12 +133,12 @@ impl Parts {
                 let closing = self.inner.closing.with_plain(plain);
                 self.with_field(field_of(alloc, plain), closing)
             }
-            Entry::Count(less) => {
-                let field = count_field(alloc, less, self.inner.next)?;
+            Entry::Count(form) => {
+                let field = count_field(alloc, form, self.inner.next)?;
                 let closing = self.inner.closing.with_count();
                 self.with_field(field, closing)
             }
-            Entry::Start(counted) => self.around_list(alloc, counted),
+            Entry::Start(form) => self.around_list(alloc, form),
             Entry::End => self.in_list(alloc),
         }
     }
@@ -185,9 +185,9 @@ impl Parts {
     }
 
     /// The start of a list before them.
-    fn around_list(self, alloc: Global, counted: bool) -> Result<Parts, NoMemory>
+    fn around_list(self, alloc: Global, form: ListForm) -> Result<Parts, NoMemory>
         requires { 0 < self.number }
-        ensures { IfOk result (λ parts. Goes self (Entry.Start counted) parts) }
+        ensures { IfOk result (λ parts. Goes self (Entry.Start form) parts) }
     {
         let Parts {
             inner,
@@ -195,21 +195,25 @@ impl Parts {
             number,
         } = self;
         let around = last_of(alloc, &mut outer, number);
-        if counted {
-            let number = number - 1;
-            let inner = around.with_counted(alloc, number, inner)?;
-            return Ok(Parts {
-                inner,
-                outer,
-                number,
-            });
+        match form {
+            ListForm::Counted => {
+                let number = number - 1;
+                let inner = around.with_counted(alloc, number, inner)?;
+                Ok(Parts {
+                    inner,
+                    outer,
+                    number,
+                })
+            }
+            ListForm::Uncounted => {
+                let inner = around.with_list(alloc, inner)?;
+                Ok(Parts {
+                    inner,
+                    outer,
+                    number,
+                })
+            }
         }
-        let inner = around.with_list(alloc, inner)?;
-        Ok(Parts {
-            inner,
-            outer,
-            number,
-        })
     }
 }
 

@@ -10,7 +10,7 @@ ghost use Rattle.rz_types.specs.Template.{template_of};
 use crate::laws::{closed_templates_are_readable, tmpl_bodies_are_templates};
 use crate::parts::{Part, Parts};
 use rz_core::{NoMemory, Stop};
-use rz_tmpl_entries::{Entry, TmplFault, entries};
+use rz_tmpl_entries::{Entry, ListForm, TmplFault, entries};
 use rz_types::Template;
 use std::alloc::Global;
 
@@ -64,7 +64,7 @@ fn starts(entry: Entry) -> u64
     ensures few { result ≤ 1 }
 {
     match entry {
-        Entry::Start(counted) => u64::from(counted),
-        Entry::One(_) | Entry::Count(_) | Entry::End => 0,
+        Entry::Start(ListForm::Counted) => 1,
+        Entry::Start(ListForm::Uncounted) | Entry::One(_) | Entry::Count(_) | Entry::End => 0,
     }
 }

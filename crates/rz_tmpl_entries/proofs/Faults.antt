@@ -5,8 +5,11 @@ use Rattle.std.specs.Option.{is_none}
 use Rattle.rz_tmpl_entries.specs.Cut.{entry_fault, Standing}
 use Rattle.rz_tmpl_entries.specs.Items.{at, count, has_value, inside, is_kept, is_place_kept, list, may_start, none, one, waits, waits_behind, Items, Place}
 use Rattle.rz_tmpl_entries.specs.Bodies.{append, behind}
+use Rattle.rz_tmpl_entries.specs.declared.entry.CountForm.{CountForm}
 use Rattle.rz_tmpl_entries.specs.declared.entry.Entry.{Entry}
 use Rattle.rz_tmpl_entries.specs.declared.entry.Entry.TheVariants.{Count, End, One, Start}
+use Rattle.rz_tmpl_entries.specs.declared.entry.ListForm.{ListForm}
+use Rattle.rz_tmpl_entries.specs.declared.entry.ListForm.TheVariants.{Counted, Uncounted}
 use Rattle.rz_tmpl_entries.specs.declared.entry.Plain.{Plain}
 
 abbrev pub four : (full outermost waiting valued : Bool) → Standing
@@ -38,12 +41,12 @@ pub waits_append : (w : Bool) (a b : Items) → waits w (append a b) ≡ waits (
 waits_append w none b = refl
 waits_append w (one plain rest) b = waits_append w rest b
 waits_append w (count less rest) b = waits_append true rest b
-waits_append w (list true row rest) b = waits_append false rest b
-waits_append w (list false row rest) b = waits_append w rest b
+waits_append w (list Counted row rest) b = waits_append false rest b
+waits_append w (list Uncounted row rest) b = waits_append w rest b
 
-pub behind_waits : (counted w : Bool) (row rest : Items) → waits w (list counted row rest) ≡ waits (waits_behind counted w) rest
-behind_waits true w row rest = refl
-behind_waits false w row rest = refl
+pub behind_waits : (counted : ListForm) (w : Bool) (row rest : Items) → waits w (list counted row rest) ≡ waits (waits_behind counted w) rest
+behind_waits Counted w row rest = refl
+behind_waits Uncounted w row rest = refl
 
 pub kept_append : (left : ℕ) (w : Bool) (a b : Items) → is_kept left w (append a b) ≡ (is_kept left w a && is_kept left (waits w a) b)
 kept_append left w none b = refl
@@ -66,7 +69,7 @@ kept_append (suc left) w (list counted row rest) b =
 one_more : (left : ℕ) (items : Items) (plain : Plain) → is_kept left false (append items (one plain none)) ≡ (is_kept left false items && true)
 one_more left items plain = kept_append left false items (one plain none)
 
-count_more : (left : ℕ) (items : Items) (less : Bool)
+count_more : (left : ℕ) (items : Items) (less : CountForm)
     → is_kept left false (append items (count less none)) ≡ (is_kept left false items && is_none {T = ℕ} (if waits false items then Some 454 else None))
 count_more left items less = kept_append left false items (count less none) ∙ ap (λ t. is_kept left false items && t) (turn (waits false items))
   where
@@ -74,7 +77,7 @@ count_more left items less = kept_append left false items (count less none) ∙ 
     turn true = refl
     turn false = refl
 
-start_more : (left : ℕ) (outermost : Bool) (items : Items) (counted : Bool) → Kept left outermost (at items) (Start counted) (inside items counted (at none))
+start_more : (left : ℕ) (outermost : Bool) (items : Items) (counted : ListForm) → Kept left outermost (at items) (Start counted) (inside items counted (at none))
 start_more zero outermost items counted = turn (is_kept zero false items) (may_start counted (waits false items))
   where
     turn : (k m : Bool) → false ≡ (k && is_none {T = ℕ} (if not m then Some 454 else if true then Some 456 else None))
@@ -87,7 +90,7 @@ start_more (suc left) outermost items counted = ap (λ t. is_kept (suc left) fal
     turn true = refl
     turn false = refl
 
-end_more : (left : ℕ) (before : Items) (counted : Bool) (items : Items)
+end_more : (left : ℕ) (before : Items) (counted : ListForm) (items : Items)
     → is_kept (suc left) false (append before (list counted items none))
     ≡ ((is_kept (suc left) false before && (may_start counted (waits false before) && is_kept left false items))
     && is_none {T = ℕ} (if waits false items then Some 454 else if not (has_value items) then Some 455 else None))
@@ -107,7 +110,7 @@ some_same : {A : Type 0} (x y : A) → Some x ≡ Some y → x ≡ y
 some_same x y is = cc
 
 -- within an open list
-deeper : (left : ℕ) (outermost : Bool) (before : Items) (counted : Bool) (place next : Place) (e : Entry)
+deeper : (left : ℕ) (outermost : Bool) (before : Items) (counted : ListForm) (place next : Place) (e : Entry)
     → ((left : ℕ) → Kept left false place e next) → Kept left outermost (inside before counted place) e (inside before counted next)
 deeper zero outermost before counted place next e inner = refl
 deeper (suc left) outermost before counted place next e inner =
@@ -119,7 +122,7 @@ deeper (suc left) outermost before counted place next e inner =
     three true false c d = refl
     three false b c d = refl
 
-mapped : (before : Items) (counted : Bool) (o : Option Place) (q : Place) → option_map (inside before counted) o ≡ Some q → (next : Place) × (o ≡ Some next) × (inside before counted next ≡ q)
+mapped : (before : Items) (counted : ListForm) (o : Option Place) (q : Place) → option_map (inside before counted) o ≡ Some q → (next : Place) × (o ≡ Some next) × (inside before counted next ≡ q)
 mapped before counted None q is = absurd cc
 mapped before counted (Some next) q is = (next, refl, some_same (inside before counted next) q is)
 

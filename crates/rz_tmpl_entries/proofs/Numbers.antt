@@ -7,6 +7,7 @@ use Rattle.rz_tmpl_entries.specs.Entry.{entry_of}
 use Rattle.rz_tmpl_entries.specs.Faults.{IsSayable}
 use Rattle.rz_tmpl_entries.specs.declared.entry.Entry.{Entry}
 use Rattle.rz_tmpl_entries.specs.declared.entry.Entry.TheVariants.{Count, End, One, Start}
+use Rattle.rz_tmpl_entries.specs.declared.entry.ListForm.TheVariants.{Counted, Uncounted}
 use Rattle.rz_tmpl_entries.specs.declared.fault.TmplFault.{TmplFault}
 use Rattle.rz_tmpl_entries.proofs.Faults.{four}
 
@@ -18,11 +19,11 @@ of_entry : (full outermost waiting valued : Bool) (entry : Entry) → between (e
 of_entry full outermost waiting valued (One plain) = refl
 of_entry full outermost true valued (Count less) = refl
 of_entry full outermost false valued (Count less) = refl
-of_entry true outermost true valued (Start true) = refl
-of_entry false outermost true valued (Start true) = refl
-of_entry full outermost false valued (Start true) = refl
-of_entry true outermost waiting valued (Start false) = refl
-of_entry false outermost waiting valued (Start false) = refl
+of_entry true outermost true valued (Start Counted) = refl
+of_entry false outermost true valued (Start Counted) = refl
+of_entry full outermost false valued (Start Counted) = refl
+of_entry true outermost waiting valued (Start Uncounted) = refl
+of_entry false outermost waiting valued (Start Uncounted) = refl
 of_entry full true waiting valued End = refl
 of_entry full false true valued End = refl
 of_entry full false false true End = refl

@@ -3,8 +3,10 @@ use Rattle.std.proofs.Common.{◌≡◌, Bool, List, [], ◌∷◌, ◌++◌, Op
 use Rattle.std.specs.Prelude.{option_map, option_and_then}
 use Rattle.rz_tmpl_entries.specs.Items.{at, count, entries_before, entries_of, inside, list, none, one, Items, Place}
 use Rattle.rz_tmpl_entries.specs.Bodies.{append, behind}
+use Rattle.rz_tmpl_entries.specs.declared.entry.CountForm.{CountForm}
 use Rattle.rz_tmpl_entries.specs.declared.entry.Entry.{Entry}
 use Rattle.rz_tmpl_entries.specs.declared.entry.Entry.TheVariants.{Count, End, One, Start}
+use Rattle.rz_tmpl_entries.specs.declared.entry.ListForm.{ListForm}
 use Rattle.rz_tmpl_entries.specs.declared.entry.Plain.{Plain}
 
 -- the place after several entries
@@ -38,7 +40,7 @@ with_with (at items) a b = ap at (append_append items a b)
 with_with (inside before counted place) a b = ap (inside before counted) (with_with place a b)
 
 -- a place with a list open at its end
-abbrev pub opened : Place → Bool → Place
+abbrev pub opened : Place → ListForm → Place
 opened (at items) counted = inside items counted (at none)
 opened (inside before other place) counted = inside before other (opened place counted)
 
@@ -46,15 +48,15 @@ pub plain_step : (p : Place) (plain : Plain) → behind p (One plain) ≡ Some (
 plain_step (at items) plain = refl
 plain_step (inside before counted place) plain = ap (option_map (inside before counted)) (plain_step place plain)
 
-pub count_step : (p : Place) (less : Bool) → behind p (Count less) ≡ Some (with p (count less none))
+pub count_step : (p : Place) (less : CountForm) → behind p (Count less) ≡ Some (with p (count less none))
 count_step (at items) less = refl
 count_step (inside before counted place) less = ap (option_map (inside before counted)) (count_step place less)
 
-pub start_step : (p : Place) (counted : Bool) → behind p (Start counted) ≡ Some (opened p counted)
+pub start_step : (p : Place) (counted : ListForm) → behind p (Start counted) ≡ Some (opened p counted)
 start_step (at items) counted = refl
 start_step (inside before other place) counted = ap (option_map (inside before other)) (start_step place counted)
 
-pub end_step : (p : Place) (counted : Bool) (row : Items) → behind (with (opened p counted) row) End ≡ Some (with p (list counted row none))
+pub end_step : (p : Place) (counted : ListForm) (row : Items) → behind (with (opened p counted) row) End ≡ Some (with p (list counted row none))
 end_step (at items) counted row = refl
 end_step (inside before other (at items)) counted row = refl
 end_step (inside before other (inside more again place)) counted row = ap (option_map (inside before other)) (end_step (inside more again place) counted row)
@@ -84,7 +86,7 @@ within (at items) (at more) = at (append items more)
 within (at items) (inside before counted place) = inside (append items before) counted place
 within (inside before counted p) q = inside before counted (within p q)
 
-within_opened : (p : Place) (before : Items) (counted : Bool) (q : Place) → within (opened (with p before) counted) q ≡ within p (inside before counted q)
+within_opened : (p : Place) (before : Items) (counted : ListForm) (q : Place) → within (opened (with p before) counted) q ≡ within p (inside before counted q)
 within_opened (at items) before counted (at more) = refl
 within_opened (at items) before counted (inside more other place) = refl
 within_opened (inside more other place) before counted q = ap (inside more other) (within_opened place before counted q)

@@ -6,8 +6,11 @@ use Rattle.rz_tmpl_entries.specs.Cut.{entry_fault}
 use Rattle.rz_tmpl_entries.specs.Entry.{takes}
 use Rattle.rz_tmpl_entries.specs.Items.{at, count, entries_before, entries_of, has_value, innermost, inside, is_kept, is_place_kept, list, may_start, none, one, waiting_outside, waits, waits_behind, Items, Place}
 use Rattle.rz_tmpl_entries.specs.Bodies.{append, behind, fault_of, Shows}
+use Rattle.rz_tmpl_entries.specs.declared.entry.CountForm.{CountForm}
 use Rattle.rz_tmpl_entries.specs.declared.entry.Entry.{Entry}
 use Rattle.rz_tmpl_entries.specs.declared.entry.Entry.TheVariants.{Count, End, One, Start}
+use Rattle.rz_tmpl_entries.specs.declared.entry.ListForm.{ListForm}
+use Rattle.rz_tmpl_entries.specs.declared.entry.ListForm.TheVariants.{Counted, Uncounted}
 use Rattle.rz_tmpl_entries.specs.declared.entry.Plain.{Plain}
 use Rattle.rz_tmpl_entries.specs.declared.bodies.Bodies.{Bodies}
 use Rattle.rz_tmpl_entries.proofs.Faults.{behind_waits, four, place_fault, waits_append}
@@ -26,11 +29,11 @@ outside_with : (p : Place) (items : Items) → waiting_outside (with p items) �
 outside_with (at more) items = refl
 outside_with (inside before counted place) items = ap (λ (l : List Bool). waits_behind counted (waits false before) ∷ l) (outside_with place items)
 
-innermost_opened : (p : Place) (counted : Bool) → innermost (opened p counted) ≡ none
+innermost_opened : (p : Place) (counted : ListForm) → innermost (opened p counted) ≡ none
 innermost_opened (at more) counted = refl
 innermost_opened (inside before other place) counted = innermost_opened place counted
 
-outside_opened : (p : Place) (counted : Bool) → waiting_outside (opened p counted) ≡ waiting_outside p ++ waits_behind counted (waits false (innermost p)) ∷ []
+outside_opened : (p : Place) (counted : ListForm) → waiting_outside (opened p counted) ≡ waiting_outside p ++ waits_behind counted (waits false (innermost p)) ∷ []
 outside_opened (at more) counted = refl
 outside_opened (inside before other place) counted = ap (λ (l : List Bool). waits_behind other (waits false before) ∷ l) (outside_opened place counted)
 
@@ -55,17 +58,17 @@ or_true false = refl
 -- a place in a list, as what stands before that list and what stands in it
 record InList (place : Place) : Type 0 where
   pub outer : Place
-  pub counted : Bool
+  pub counted : ListForm
   pub row : Items
   pub is : place ≡ with (opened outer counted) row
 
-in_list : (before : Items) (counted : Bool) (place : Place) → InList (inside before counted place)
+in_list : (before : Items) (counted : ListForm) (place : Place) → InList (inside before counted place)
 in_list before counted (at items) = record { outer = at before; counted = counted; row = items; is = refl }
 in_list before counted (inside more other place) =
     let found = in_list more other place in
     record { outer = inside before counted found.outer; counted = found.counted; row = found.row; is = ap (inside before counted) found.is }
 
-ended : (before : Items) (counted : Bool) (place : Place) → (found : InList (inside before counted place))
+ended : (before : Items) (counted : ListForm) (place : Place) → (found : InList (inside before counted place))
     → behind (inside before counted place) End ≡ Some (with found.outer (list found.counted found.row none))
 ended before counted place found = ap (λ (p : Place). behind p End) found.is ∙ end_step found.outer found.counted found.row
 
@@ -85,7 +88,7 @@ entries_with (inside before counted place) items =
     ap (λ (l : List Entry). entries_of before ++ Start counted ∷ l) (entries_with place items)
     ∙ sym (append_assoc (entries_of before) (Start counted ∷ entries_before place) (entries_of items))
 
-entries_opened : (p : Place) (counted : Bool) → entries_before (opened p counted) ≡ entries_before p ++ Start counted ∷ []
+entries_opened : (p : Place) (counted : ListForm) → entries_before (opened p counted) ≡ entries_before p ++ Start counted ∷ []
 entries_opened (at more) counted = refl
 entries_opened (inside before other place) counted =
     ap (λ (l : List Entry). entries_of before ++ Start other ∷ l) (entries_opened place counted)
@@ -160,14 +163,14 @@ few_open zero (inside before counted place) kept = never kept
 few_open (suc left) (inside before counted place) kept =
     omega (arith, few_open left place (back (may_start counted (waits false before)) _ (back (is_kept (suc left) false before) _ kept)))
 
-not_full : (full outermost waiting valued counted : Bool) → entry_fault (four full outermost waiting valued) (Start counted) ≡ None → full ≡ false
-not_full true outermost true valued true is = absurd cc
-not_full true outermost false valued true is = absurd cc
-not_full true outermost waiting valued false is = absurd cc
+not_full : (full outermost waiting valued : Bool) (counted : ListForm) → entry_fault (four full outermost waiting valued) (Start counted) ≡ None → full ≡ false
+not_full true outermost true valued Counted is = absurd cc
+not_full true outermost false valued Counted is = absurd cc
+not_full true outermost waiting valued Uncounted is = absurd cc
 not_full false outermost waiting valued counted is = refl
 
 -- after a list that may begin there is room
-pub has_room : (bodies : Bodies) (counted : Bool) → fault_of bodies (Start counted) ≡ None → length bodies.outside.items ≤ 60 → length bodies.outside.items < 60
+pub has_room : (bodies : Bodies) (counted : ListForm) → fault_of bodies (Start counted) ≡ None → length bodies.outside.items ≤ 60 → length bodies.outside.items < 60
 has_room bodies counted sound few =
     let n = length bodies.outside.items in
     let other : (n == 60) ≡ false = not_full (n == 60) (n == 0) bodies.waiting bodies.valued counted sound in grind (arith, nat_tests)
@@ -184,7 +187,7 @@ shows_one place plain next old new shows is waiting valued outside =
       outside = outside ∙ shows.outside ∙ sym (outside_with place (one plain none));
     }
 
-pub shows_count : (place : Place) (less : Bool) (next : Place) (old new : Bodies) → Shows place old → behind place (Count less) ≡ Some next
+pub shows_count : (place : Place) (less : CountForm) (next : Place) (old new : Bodies) → Shows place old → behind place (Count less) ≡ Some next
     → new.waiting ≡ true → new.valued ≡ old.valued → new.outside.items ≡ old.outside.items → Shows next new
 shows_count place less next old new shows is waiting valued outside =
     subst (λ (p : Place). Shows p new) (some_same _ _ (sym (count_step place less) ∙ is)) record {
@@ -194,7 +197,7 @@ shows_count place less next old new shows is waiting valued outside =
       outside = outside ∙ shows.outside ∙ sym (outside_with place (count less none));
     }
 
-pub shows_start : (place : Place) (counted : Bool) (next : Place) (old new : Bodies) → Shows place old → behind place (Start counted) ≡ Some next
+pub shows_start : (place : Place) (counted : ListForm) (next : Place) (old new : Bodies) → Shows place old → behind place (Start counted) ≡ Some next
     → new.waiting ≡ false → new.valued ≡ false → new.outside.items ≡ old.outside.items ++ waits_behind counted old.waiting ∷ [] → Shows next new
 shows_start place counted next old new shows is waiting valued outside =
     subst (λ (p : Place). Shows p new) (some_same _ _ (sym (start_step place counted) ∙ is)) record {

@@ -5,6 +5,7 @@ use Rattle.rz_tmpl_entries.specs.Entry.{entry_of}
 use Rattle.rz_tmpl_entries.specs.Items.{at, count, has_value, innermost, inside, list, none, one, waiting_outside, waits, Items, Place}
 use Rattle.rz_tmpl_entries.specs.declared.entry.Entry.{Entry}
 use Rattle.rz_tmpl_entries.specs.declared.entry.Entry.TheVariants.{Count, End, One, Start}
+use Rattle.rz_tmpl_entries.specs.declared.entry.ListForm.{ListForm}
 use Rattle.rz_tmpl_entries.specs.declared.bodies.Next.{Next}
 use Rattle.rz_tmpl_entries.specs.declared.bodies.Bodies.{Bodies}
 
@@ -12,24 +13,24 @@ use Rattle.rz_tmpl_entries.specs.declared.bodies.Bodies.{Bodies}
 abbrev pub append : Items → Items → Items
 append none more = more
 append (one plain rest) more = one plain (append rest more)
-append (count less rest) more = count less (append rest more)
-append (list counted row rest) more = list counted row (append rest more)
+append (count form rest) more = count form (append rest more)
+append (list form row rest) more = list form row (append rest more)
 
 -- the place after the end of the innermost list, where the inner place that is open ends so
-abbrev pub close : Items → Bool → Place → Option Place → Option Place
-close before counted (at items) closed = Some (at (append before (list counted items none)))
-close before counted (inside more other place) closed = option_map (inside before counted) closed
+abbrev pub close : Items → ListForm → Place → Option Place → Option Place
+close before form (at items) closed = Some (at (append before (list form items none)))
+close before form (inside more other place) closed = option_map (inside before form) closed
 
 -- the place after an entry; the end of a list has one in a list alone
 abbrev pub behind : Place → Entry → Option Place
 behind (at items) (One plain) = Some (at (append items (one plain none)))
-behind (at items) (Count less) = Some (at (append items (count less none)))
-behind (at items) (Start counted) = Some (inside items counted (at none))
+behind (at items) (Count form) = Some (at (append items (count form none)))
+behind (at items) (Start form) = Some (inside items form (at none))
 behind (at items) End = None
-behind (inside before counted place) (One plain) = option_map (inside before counted) (behind place (One plain))
-behind (inside before counted place) (Count less) = option_map (inside before counted) (behind place (Count less))
-behind (inside before counted place) (Start other) = option_map (inside before counted) (behind place (Start other))
-behind (inside before counted place) End = close before counted place (behind place End)
+behind (inside before form place) (One plain) = option_map (inside before form) (behind place (One plain))
+behind (inside before form place) (Count form) = option_map (inside before form) (behind place (Count form))
+behind (inside before form place) (Start other) = option_map (inside before form) (behind place (Start other))
+behind (inside before form place) End = close before form place (behind place End)
 
 -- what is kept is so at this place
 pub record Shows (place : Place) (bodies : Bodies) : Type 0 where

@@ -48,8 +48,8 @@ first_where (row ∷ rows) = if row.0 then Some row.1 else first_where rows
 -- the fault of an entry
 abbrev pub entry_fault : Standing → Entry → Option ℕ
 entry_fault s (One plain) = None
-entry_fault s (Count less) = first_where ((s.waiting, 454) ∷ [])
-entry_fault s (Start counted) = first_where ((not (may_start counted s.waiting), 454) ∷ (s.full, 456) ∷ [])
+entry_fault s (Count form) = first_where ((s.waiting, 454) ∷ [])
+entry_fault s (Start form) = first_where ((not (may_start form s.waiting), 454) ∷ (s.full, 456) ∷ [])
 entry_fault s End = first_where ((s.outermost, 453) ∷ (s.waiting, 454) ∷ (not s.valued, 455) ∷ [])
 
 -- the fault at the end of the bytes

@@ -1,18 +1,20 @@
 -- What the codes of a template's entries mean, and which of the entries take a value.
 use Rattle.std.specs.Prelude.{ℕ, Bool, true, false, if◌then◌else◌, List, Option, Some, None, codes}
 use Rattle.std.specs.Str.{bytes_eq}
+use Rattle.rz_tmpl_entries.specs.declared.entry.CountForm.TheVariants.{LessOne, Rows}
 use Rattle.rz_tmpl_entries.specs.declared.entry.Entry.{Entry}
 use Rattle.rz_tmpl_entries.specs.declared.entry.Entry.TheVariants.{Count, End, One, Start}
+use Rattle.rz_tmpl_entries.specs.declared.entry.ListForm.TheVariants.{Counted, Uncounted}
 use Rattle.rz_tmpl_entries.specs.declared.entry.Plain.{Plain}
 use Rattle.rz_tmpl_entries.specs.declared.entry.Size.TheVariants.{Byte, Long, Word}
 use Rattle.rz_tmpl_entries.specs.declared.entry.Plain.TheVariants.{Aligned, Character, Number, Pascal, Rectangle, Rest, TypeName, ZeroEnded, Zeros}
 
 abbrev pub list_entry : List ℕ → Option Entry
 list_entry code =
-    if bytes_eq code (codes "OCNT") then Some (Count false)
-    else if bytes_eq code (codes "ZCNT") then Some (Count true)
-    else if bytes_eq code (codes "LSTC") then Some (Start true)
-    else if bytes_eq code (codes "LSTB") then Some (Start false)
+    if bytes_eq code (codes "OCNT") then Some (Count Rows)
+    else if bytes_eq code (codes "ZCNT") then Some (Count LessOne)
+    else if bytes_eq code (codes "LSTC") then Some (Start Counted)
+    else if bytes_eq code (codes "LSTB") then Some (Start Uncounted)
     else if bytes_eq code (codes "LSTE") then Some End
     else None
 

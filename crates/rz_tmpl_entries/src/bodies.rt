@@ -5,7 +5,7 @@ ghost use Rattle.rz_tmpl_entries.specs.Entry.{takes};
 ghost use Rattle.rz_tmpl_entries.specs.Items.{at, none, waits_behind, Place};
 ghost use Rattle.rz_tmpl_entries.specs.Bodies.{behind, fault_at, fault_of, GoesOn, Shows};
 
-use crate::entry::{Entry, Plain, entry_of};
+use crate::entry::{Entry, ListForm, Plain, entry_of};
 use arrayvec::ArrayVec;
 use rz_core::rest_at;
 
@@ -91,15 +91,15 @@ impl Bodies {
         match entry {
             Entry::One(_) => None,
             Entry::Count(_) => { if self.waiting { Some(454) } else { None } }
-            Entry::Start(counted) => self.start_fault(counted),
+            Entry::Start(form) => self.start_fault(form),
             Entry::End => self.stop_fault(),
         }
     }
 
-    fn start_fault(&self, counted: bool) -> Option<u16>
-        ensures { result ≡ fault_of self.now (Entry.Start counted) }
+    fn start_fault(&self, form: ListForm) -> Option<u16>
+        ensures { result ≡ fault_of self.now (Entry.Start form) }
     {
-        if counted && !self.waiting {
+        if !form.may_start(self.waiting) {
             Some(454)
         } else if self.outside.len() == MOST_OPEN {
             Some(456)
@@ -131,7 +131,7 @@ impl Bodies {
         match entry {
             Entry::One(plain) => self.add(plain),
             Entry::Count(_) => self.waiting = true,
-            Entry::Start(counted) => self.enter(counted),
+            Entry::Start(form) => self.enter(form),
             Entry::End => self.leave(),
         }
     }
@@ -148,14 +148,13 @@ impl Bodies {
     }
 
     /// Goes into a list.
-    fn enter(&mut self, counted: bool)
+    fn enter(&mut self, form: ListForm)
         requires { length self.old.outside.items < 60 }
-        ensures outside { self.new.outside.items ≡ self.old.outside.items ++ waits_behind counted self.old.waiting ∷ [] }
+        ensures outside { self.new.outside.items ≡ self.old.outside.items ++ waits_behind form self.old.waiting ∷ [] }
         ensures waiting { self.new.waiting ≡ false }
         ensures valued { self.new.valued ≡ false }
     {
-        let waiting = !counted && self.waiting;
-        self.outside.push(waiting);
+        self.outside.push(form.waits_behind(self.waiting));
         self.waiting = false;
         self.valued = false;
     }

@@ -3,6 +3,7 @@
 ghost use Rattle.std.specs.Prelude.{◌≡◌};
 ghost use Rattle.std.specs.Str.{bytes_eq};
 ghost use Rattle.rz_tmpl_entries.specs.Entry.{entry_of, list_entry, space_entry, takes, text_entry};
+ghost use Rattle.rz_tmpl_entries.specs.Items.{may_start, waits_behind};
 
 /// How many bytes a number or zeros have.
 #[derive(Clone, Copy, Debug, PartialEq, Eq)]
@@ -38,15 +39,33 @@ pub enum Plain {
     Rest,
 }
 
+/// What a count stores. (ResEdit Reference, 'TMPL' resources.)
+#[derive(Clone, Copy, Debug, PartialEq, Eq)]
+pub enum CountForm {
+    /// `OCNT`, the number of rows.
+    Rows,
+    /// `ZCNT`, the number of rows less one.
+    LessOne,
+}
+
+/// Whether a list has a count. (ResEdit Reference, 'TMPL' resources.)
+#[derive(Clone, Copy, Debug, PartialEq, Eq)]
+pub enum ListForm {
+    /// `LSTC`, a list with a count before it.
+    Counted,
+    /// `LSTB`, a list without one.
+    Uncounted,
+}
+
 /// An entry of a template. (ResEdit Reference, 'TMPL' resources.)
 #[derive(Clone, Copy, Debug, PartialEq, Eq)]
 pub enum Entry {
     /// A field by itself.
     One(Plain),
-    /// `OCNT`, the number of rows of the next `LSTC`; `ZCNT`, which is `true`, that number less one.
-    Count(bool),
-    /// `LSTC`, which is `true`, the start of a list with a count; `LSTB`, of one without.
-    Start(bool),
+    /// The count of the next counted list of the same body.
+    Count(CountForm),
+    /// The start of a list.
+    Start(ListForm),
     /// `LSTE`, the end of a list.
     End,
 }
@@ -120,13 +139,13 @@ fn list_entry(code: &[u8]) -> Option<Entry>
     ensures { result ≡ list_entry code.now }
 {
     if is(code, b"OCNT") {
-        Some(Entry::Count(false))
+        Some(Entry::Count(CountForm::Rows))
     } else if is(code, b"ZCNT") {
-        Some(Entry::Count(true))
+        Some(Entry::Count(CountForm::LessOne))
     } else if is(code, b"LSTC") {
-        Some(Entry::Start(true))
+        Some(Entry::Start(ListForm::Counted))
     } else if is(code, b"LSTB") {
-        Some(Entry::Start(false))
+        Some(Entry::Start(ListForm::Uncounted))
     } else if is(code, b"LSTE") {
         Some(Entry::End)
     } else {
@@ -140,5 +159,27 @@ impl Plain {
         ensures { result ≡ takes self }
     {
         !matches!(self, Plain::Zeros(_) | Plain::Aligned(_))
+    }
+}
+
+impl ListForm {
+    /// Whether a list of this form may begin where a count waits or none does.
+    pub(crate) fn may_start(self, waiting: bool) -> bool
+        ensures { result ≡ may_start self waiting }
+    {
+        match self {
+            ListForm::Counted => waiting,
+            ListForm::Uncounted => true,
+        }
+    }
+
+    /// Whether a count waits after a list of this form, where one waits before it or none does.
+    pub(crate) fn waits_behind(self, waiting: bool) -> bool
+        ensures { result ≡ waits_behind self waiting }
+    {
+        match self {
+            ListForm::Counted => false,
+            ListForm::Uncounted => waiting,
+        }
     }
 }

@@ -11,7 +11,7 @@ mod fault;
 mod laws;
 mod read;
 
-pub use entry::{Entry, Plain, Size};
+pub use entry::{CountForm, Entry, ListForm, Plain, Size};
 pub use fault::TmplFault;
 pub use laws::{every_tmpl_is_cut, one_cut, tmpl_faults_are_sayable};
 pub use read::{Entries, entries};

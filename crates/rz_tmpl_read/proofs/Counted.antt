@@ -66,7 +66,7 @@ module _ (known : Facts) (bytes : List ℕ) where
 
 -- Counts.
 
-module _ (known : Facts) (bytes : List ℕ) (small : AreSmall bytes) (less : Bool) (n rows : ℕ) (names : Environment) (given : names.give (list_key n) ≡ Some (pos rows)) where
+module _ (known : Facts) (bytes : List ℕ) (small : AreSmall bytes) (less : CountForm) (n rows : ℕ) (names : Environment) (given : names.give (list_key n) ≡ Some (pos rows)) where
   abbrev number : PlainNumber
   number = record { form = forms.Integer; width = pos 16; unsigned = false; radix = radixes.Plain; symbols = []; fixed = Some (rows_term less n); key = false }
 

@@ -11,13 +11,14 @@ use Rattle.rz_tmpl_entries.specs.Entry.{entry_of}
 use Rattle.rz_tmpl_entries.specs.Items.{at, entries_of, is_kept, waits, Items}
 use Rattle.rz_tmpl_entries.specs.declared.entry.Entry.{Entry}
 use Rattle.rz_tmpl_entries.specs.declared.entry.Entry.TheVariants.{Count, End, One, Start}
+use Rattle.rz_tmpl_entries.specs.declared.entry.ListForm.TheVariants.{Counted, Uncounted}
 use Rattle.rz_tmpl_entries.specs.declared.fault.TmplFault.{TmplFault}
 
 one_starts : (entry : Entry) → starts entry ≤ 1
 one_starts (One plain) = omega arith
 one_starts (Count less) = omega arith
-one_starts (Start true) = omega arith
-one_starts (Start false) = omega arith
+one_starts (Start Counted) = omega arith
+one_starts (Start Uncounted) = omega arith
 one_starts End = omega arith
 
 starts_few : (entries : List Entry) → starts_in entries ≤ length entries

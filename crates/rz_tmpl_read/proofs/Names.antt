@@ -9,6 +9,9 @@ use Rattle.rz_tmpl.proofs.Kept.{listed, no, no_more}
 use Rattle.rz_tmpl.proofs.Names.{apart, untrue}
 use Rattle.rz_tmpl.specs.Body.{body_from, count_field, field_of, list_name, lists_of, next_named, rows_term}
 use Rattle.rz_tmpl_entries.specs.Items.{count, is_kept, list, none, one, waits, Items}
+use Rattle.rz_tmpl_entries.specs.declared.entry.CountForm.{CountForm}
+use Rattle.rz_tmpl_entries.specs.declared.entry.CountForm.TheVariants.{LessOne, Rows}
+use Rattle.rz_tmpl_entries.specs.declared.entry.ListForm.TheVariants.{Counted, Uncounted}
 use Rattle.rz_tmpl_entries.specs.declared.entry.Plain.{Plain}
 use Rattle.rz_tmpl_entries.specs.declared.entry.Plain.TheVariants as plain
 use Rattle.rz_types_fields.proofs.SameNames.{key_is, same_name}
@@ -50,8 +53,8 @@ unlabelled k none label = refl
 unlabelled k (one entry rest) label =
     ap (λ (t : Bool). t || has_label (body_from k rest) label) (near_plain entry (place_of label)) ∙ unlabelled k rest label
 unlabelled k (count less rest) label = unlabelled k rest label
-unlabelled k (list true row rest) label = unlabelled (k + 1 + lists_of row) rest label
-unlabelled k (list false row rest) label = unlabelled (k + lists_of row) rest label
+unlabelled k (list Counted row rest) label = unlabelled (k + 1 + lists_of row) rest label
+unlabelled k (list Uncounted row rest) label = unlabelled (k + lists_of row) rest label
 
 states_plain : (entry : Plain) (key : Key) → states_key (field_of entry) key ≡ false
 states_plain (plain.Number size hex) key = refl
@@ -68,8 +71,8 @@ unstated : (k : ℕ) (items : Items) (key : Key) → states (body_from k items) 
 unstated k none key = refl
 unstated k (one entry rest) key = ap (λ (t : Bool). t || states (body_from k rest) key) (states_plain entry key) ∙ unstated k rest key
 unstated k (count less rest) key = unstated k rest key
-unstated k (list true row rest) key = unstated (k + 1 + lists_of row) rest key
-unstated k (list false row rest) key = unstated (k + lists_of row) rest key
+unstated k (list Counted row rest) key = unstated (k + 1 + lists_of row) rest key
+unstated k (list Uncounted row rest) key = unstated (k + lists_of row) rest key
 
 -- Numbers of lists.
 
@@ -82,9 +85,9 @@ next_in left k none kept ends = no_more ends
 next_in left k (one entry rest) kept ends = next_in left k rest kept ends
 next_in left k (count less rest) kept ends = no kept
 next_in zero k (list counted row rest) kept ends = no kept
-next_in (suc left) k (list true row rest) kept ends = record { low = omega arith; high = omega arith }
-next_in (suc left) k (list false row rest) kept ends =
-    let deep = next_in (suc left) (k + lists_of row) rest (listed left false true row rest kept).others ends in
+next_in (suc left) k (list Counted row rest) kept ends = record { low = omega arith; high = omega arith }
+next_in (suc left) k (list Uncounted row rest) kept ends =
+    let deep = next_in (suc left) (k + lists_of row) rest (listed left Uncounted true row rest kept).others ends in
     let low = deep.low in
     let high = deep.high in
     record { low = omega (arith, low); high = omega (arith, high) }
@@ -108,15 +111,15 @@ start_held k items j = front_held k items nothing_passed j refl
 pub known_at : (k : ℕ) (items : Items) (passed : Passed) (j : ℕ) → is_held passed (list_key j) ≡ false → is_known (at_field (body_from k items) passed) (list_key j) ≡ false
 known_at k items passed j is = ap (λ (t : Bool). t || is_held passed (list_key j)) (no_near k items (list_key j)) ∙ is
 
-other_term : (less : Bool) (n j : ℕ) → n < 2 ^ 64 → j < 2 ^ 64 → (j ≡ n → ⊥) → has_key (list_key j) (rows_term less n) ≡ false
-other_term true n j small also differ = ap (λ (t : Bool). t || false) (other_key j n also small differ)
-other_term false n j small also differ = other_key j n also small differ
+other_term : (less : CountForm) (n j : ℕ) → n < 2 ^ 64 → j < 2 ^ 64 → (j ≡ n → ⊥) → has_key (list_key j) (rows_term less n) ≡ false
+other_term LessOne n j small also differ = ap (λ (t : Bool). t || false) (other_key j n also small differ)
+other_term Rows n j small also differ = ap (λ (t : Bool). t || false) (other_key j n also small differ)
 
 still_free : (met told has other : Bool) → (met || told) ≡ false → has ≡ false → (met || ((has && other) || told)) ≡ false
 still_free met told true other is so = no_more so
 still_free met told false other is so = is
 
-pub count_held : (less : Bool) (n : ℕ) (body : PlainBody) (passed : Passed) (j : ℕ) → n < 2 ^ 64 → j < 2 ^ 64 → (j ≡ n → ⊥) → is_held passed (list_key j) ≡ false
+pub count_held : (less : CountForm) (n : ℕ) (body : PlainBody) (passed : Passed) (j : ℕ) → n < 2 ^ 64 → j < 2 ^ 64 → (j ≡ n → ⊥) → is_held passed (list_key j) ≡ false
     → is_held (behind (count_field less n) (at_field body passed)) (list_key j) ≡ false
 count_held less n body passed j small also differ is =
     still_free (passed.met (list_key j)) (passed.told (list_key j)) (has_key (list_key j) (rows_term less n)) _ is (other_term less n j small also differ)

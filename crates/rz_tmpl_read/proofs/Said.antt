@@ -9,6 +9,7 @@ use Rattle.rz_tmpl.proofs.Kept.{listed, no, no_more}
 use Rattle.rz_tmpl.specs.Body.{body_from, count_field, field_of, list_name, lists_of, next_named}
 use Rattle.rz_tmpl_entries.specs.Entry.{takes}
 use Rattle.rz_tmpl_entries.specs.Items.{count, is_kept, list, none, one, waits, Items}
+use Rattle.rz_tmpl_entries.specs.declared.entry.ListForm.TheVariants.{Counted, Uncounted}
 use Rattle.rz_tmpl_read.proofs.Bytes.{AreSmall}
 use Rattle.rz_tmpl_read.proofs.Counted.{count_of, others_are, shape_of}
 use Rattle.rz_tmpl_read.proofs.Names.{count_held, front_held, known_at, list_held, next_in, Fresh}
@@ -40,10 +41,10 @@ module _ (known : Facts) (bytes : List ℕ) (small : AreSmall bytes) where
       ∙ ap (λ (x : List Tree). Some (pos (rows_ahead rest x))) (sym (others_are (takes entry) value row r shape whole))
   ahead_given left k (count less rest) names passed row at late after late_after kept ends is = no kept
   ahead_given zero k (list counted inner rest) names passed row at late after late_after kept ends is = no kept
-  ahead_given (suc left) k (list true inner rest) names passed row at late after late_after kept ends (value, r, mid, late_mid, whole, (rows, some, stated, counted, are, lines), others) =
+  ahead_given (suc left) k (list Counted inner rest) names passed row at late after late_after kept ends (value, r, mid, late_mid, whole, (rows, some, stated, counted, are, lines), others) =
       counted ∙ ap (λ (n : ℕ). Some (pos n)) (sym (rows_are value rows row r some whole))
-  ahead_given (suc left) k (list false inner rest) names passed row at late after late_after kept ends (value, r, mid, late_mid, whole, (rows, some, stated, counted, are, lines), others) =
-      ahead_given (suc left) (k + lists_of inner) rest names _ r mid late_mid after late_after (listed left false true inner rest kept).others ends others
+  ahead_given (suc left) k (list Uncounted inner rest) names passed row at late after late_after kept ends (value, r, mid, late_mid, whole, (rows, some, stated, counted, are, lines), others) =
+      ahead_given (suc left) (k + lists_of inner) rest names _ r mid late_mid after late_after (listed left Uncounted true inner rest kept).others ends others
       ∙ ap (λ (x : List Tree). Some (pos (rows_ahead rest x))) (sym (others_are true value row r (trees.Rows rows, some) whole))
 
   abbrev Says : Items → List Tree → ℕ → ℕ → Type 0
@@ -94,9 +95,9 @@ module _ (known : Facts) (bytes : List ℕ) (small : AreSmall bytes) where
             (first.2.0, first.1, first.2.2, more.2),
       )
   said zero k w (list counted inner rest) names passed row place late after late_after kept ends few fresh is = no kept
-  said (suc left) k w (list true inner rest) names passed row place late after late_after kept ends few fresh (value, r, mid, late_mid, whole, (rows, some, stated, counted, are, lines), others) =
-      let is = listed left true w inner rest kept in
-      let body = body_from k (list true inner rest) in
+  said (suc left) k w (list Counted inner rest) names passed row place late after late_after kept ends few fresh (value, r, mid, late_mid, whole, (rows, some, stated, counted, are, lines), others) =
+      let is = listed left Counted w inner rest kept in
+      let body = body_from k (list Counted inner rest) in
       let here = at_field body passed in
       let own = body_from (k + 1) inner in
       let array = Array (Some (list_name k)) None own in
@@ -110,9 +111,9 @@ module _ (known : Facts) (bytes : List ℕ) (small : AreSmall bytes) where
       (fresh j (omega (arith, low)) (omega (arith, high)) (λ t equal. absurd (omega (arith, low, equal)))))
       (subst (λ (m : ℕ). Body (body_from (k + 1 + lists_of inner) rest) names next r m late_mid after late_after) first.1 others) in
       (more.0, more.1, (rows, r, first.0, whole ∙ ap (λ (v : Option Tree). put v r) some, first.2, more.2))
-  said (suc left) k w (list false inner rest) names passed row place late after late_after kept ends few fresh (value, r, mid, late_mid, whole, (rows, some, stated, counted, are, lines), others) =
-      let is = listed left false w inner rest kept in
-      let body = body_from k (list false inner rest) in
+  said (suc left) k w (list Uncounted inner rest) names passed row place late after late_after kept ends few fresh (value, r, mid, late_mid, whole, (rows, some, stated, counted, are, lines), others) =
+      let is = listed left Uncounted w inner rest kept in
+      let body = body_from k (list Uncounted inner rest) in
       let here = at_field body passed in
       let own = body_from k inner in
       let array = Array None None own in

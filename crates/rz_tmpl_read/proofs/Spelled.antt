@@ -11,6 +11,7 @@ use Rattle.rz_tmpl.proofs.Kept.{listed, no, no_more}
 use Rattle.rz_tmpl.specs.Body.{body_from, count_field, field_of, list_name, lists_of, next_named}
 use Rattle.rz_tmpl_entries.specs.Entry.{takes}
 use Rattle.rz_tmpl_entries.specs.Items.{count, is_kept, list, none, one, waits, Items}
+use Rattle.rz_tmpl_entries.specs.declared.entry.ListForm.TheVariants.{Counted, Uncounted}
 use Rattle.rz_tmpl_read.proofs.Bytes.{there_within, AreSmall}
 use Rattle.rz_tmpl_read.proofs.Counted.{of_count, others_are, shape_of}
 use Rattle.rz_tmpl_read.proofs.Names.{next_in, no_row, other_key, unlabelled}
@@ -33,14 +34,14 @@ abbrev own_rows : ℕ → Items → List Tree → Key → Option ℕ
 own_rows k none row key = None
 own_rows k (one entry rest) row key = own_rows k rest (if takes entry then drop 1 row else row) key
 own_rows k (count less rest) row key = own_rows k rest row key
-own_rows k (list true inner rest) row key = if is_same_key (list_key k) key then Some (rows_first row) else own_rows (k + 1 + lists_of inner) rest (drop 1 row) key
-own_rows k (list false inner rest) row key = own_rows (k + lists_of inner) rest (drop 1 row) key
+own_rows k (list Counted inner rest) row key = if is_same_key (list_key k) key then Some (rows_first row) else own_rows (k + 1 + lists_of inner) rest (drop 1 row) key
+own_rows k (list Uncounted inner rest) row key = own_rows (k + lists_of inner) rest (drop 1 row) key
 
 own_low : (k : ℕ) (items : Items) (row : List Tree) (j n : ℕ) → k + lists_of items ≤ 2 ^ 64 → j < 2 ^ 64 → own_rows k items row (list_key j) ≡ Some n → k ≤ j
 own_low k none row j n few small is = absurd cc
 own_low k (one entry rest) row j n few small is = own_low k rest (if takes entry then drop 1 row else row) j n few small is
 own_low k (count less rest) row j n few small is = own_low k rest row j n few small is
-own_low k (list true inner rest) row j n few small is =
+own_low k (list Counted inner rest) row j n few small is =
     by (is_same_key (list_key k) (list_key j)) refl (λ so. own_low (k + 1 + lists_of inner) rest (drop 1 row) j n (omega (arith, few)) small so)
   where
     equal : (low : Bool) → nat_lt j k ≡ low → is_same_key (list_key k) (list_key j) ≡ true → k ≤ j
@@ -54,7 +55,7 @@ own_low k (list true inner rest) row j n few small is =
     by false same deep =
         let low = deep (sym (ap (λ (t : Bool). if t then Some (rows_first row) else own_rows (k + 1 + lists_of inner) rest (drop 1 row) (list_key j)) same) ∙ is) in
         omega (arith, low)
-own_low k (list false inner rest) row j n few small is =
+own_low k (list Uncounted inner rest) row j n few small is =
     let low = own_low (k + lists_of inner) rest (drop 1 row) j n (omega (arith, few)) small is in omega (arith, low)
 
 own_ahead : (left k : ℕ) (items : Items) (row : List Tree) → is_kept left true items ≡ true → waits true items ≡ false
@@ -63,20 +64,20 @@ own_ahead left k none row kept ends = no_more ends
 own_ahead left k (one entry rest) row kept ends = own_ahead left k rest (if takes entry then drop 1 row else row) kept ends
 own_ahead left k (count less rest) row kept ends = no kept
 own_ahead zero k (list counted inner rest) row kept ends = no kept
-own_ahead (suc left) k (list true inner rest) row kept ends =
+own_ahead (suc left) k (list Counted inner rest) row kept ends =
     ap (λ (t : Bool). if t then Some (rows_first row) else own_rows (k + 1 + lists_of inner) rest (drop 1 row) (list_key k)) (same_list k)
-own_ahead (suc left) k (list false inner rest) row kept ends = own_ahead (suc left) (k + lists_of inner) rest (drop 1 row) (listed left false true inner rest kept).others ends
+own_ahead (suc left) k (list Uncounted inner rest) row kept ends = own_ahead (suc left) (k + lists_of inner) rest (drop 1 row) (listed left Uncounted true inner rest kept).others ends
 
 undeclared : (k : ℕ) (items : Items) (row : List Tree) (key : Key) → declares (body_from k items) key ≡ false → own_rows k items row key ≡ None
 undeclared k none row key is = refl
 undeclared k (one entry rest) row key is = undeclared k rest (if takes entry then drop 1 row else row) key (or_false (gives_key (field_of entry) key) (declares (body_from k rest) key) is).1
 undeclared k (count less rest) row key is = undeclared k rest row key is
-undeclared k (list true inner rest) row key is =
+undeclared k (list Counted inner rest) row key is =
     let parts = or_false (is_same_key (list_key k) key || gives_rows (body_from (k + 1) inner) key) (declares (body_from (k + 1 + lists_of inner) rest) key) is in
     let own = or_false (is_same_key (list_key k) key) (gives_rows (body_from (k + 1) inner) key) parts.0 in
     ap (λ (t : Bool). if t then Some (rows_first row) else own_rows (k + 1 + lists_of inner) rest (drop 1 row) key) own.0
     ∙ undeclared (k + 1 + lists_of inner) rest (drop 1 row) key parts.1
-undeclared k (list false inner rest) row key is =
+undeclared k (list Uncounted inner rest) row key is =
     undeclared (k + lists_of inner) rest (drop 1 row) key (or_false (gives_rows (body_from k inner) key) (declares (body_from (k + lists_of inner) rest) key) is).1
 
 abbrev or_outer : Option ℕ → Option ℤ → Option ℤ
@@ -151,9 +152,9 @@ module _ (known : Facts) (bytes : List ℕ) (small : AreSmall bytes) (short : le
       let more = spelled left k true rest names (behind (count_field less n) here) row next first.0 after kept ends few inside has others in
       (more.0, more.1, (None, row, 8 * next, first.0, refl, first.1, more.2))
   spelled zero k w (list counted inner rest) names passed row place late after kept ends few within has is = no kept
-  spelled (suc left) k w (list true inner rest) names passed row place late after kept ends few within has (rows, r, next, whole, lines, others) =
-      let is = listed left true w inner rest kept in
-      let here = at_field (body_from k (list true inner rest)) passed in
+  spelled (suc left) k w (list Counted inner rest) names passed row place late after kept ends few within has (rows, r, next, whole, lines, others) =
+      let is = listed left Counted w inner rest kept in
+      let here = at_field (body_from k (list Counted inner rest)) passed in
       let own = body_from (k + 1) inner in
       let which : ℕ → Option RowOf = row_of (Some (list_name k)) in
       let first = rows_spelled inner (λ number line. Inside own (which number) names (λ env. Body own env (at_front own here) line))
@@ -172,9 +173,9 @@ module _ (known : Facts) (bytes : List ℕ) (small : AreSmall bytes) (short : le
       (other_key k j (omega (arith, few)) low (λ equal. absurd (omega (arith, late, equal))))
       ∙ ap (λ (x : List Tree). own_rows (k + 1 + lists_of inner) rest (drop 1 x) (list_key j)) whole ∙ so)) others in
       (more.0, more.1, (Some (trees.Rows rows), r, 8 * next, first.0, whole, (rows, refl, tt, counted, record { give = λ label has. no (sym (unlabelled (k + 1) inner label) ∙ has) }, first.2), more.2))
-  spelled (suc left) k w (list false inner rest) names passed row place late after kept ends few within has (rows, r, next, whole, lines, others) =
-      let is = listed left false w inner rest kept in
-      let here = at_field (body_from k (list false inner rest)) passed in
+  spelled (suc left) k w (list Uncounted inner rest) names passed row place late after kept ends few within has (rows, r, next, whole, lines, others) =
+      let is = listed left Uncounted w inner rest kept in
+      let here = at_field (body_from k (list Uncounted inner rest)) passed in
       let own = body_from k inner in
       let which : ℕ → Option RowOf = row_of None in
       let first = rows_spelled inner (λ number line. Inside own (which number) names (λ env. Body own env (at_front own here) line))

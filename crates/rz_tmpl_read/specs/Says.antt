@@ -5,6 +5,9 @@ use Rattle.rz_bits.specs.BitBuf.{missing}
 use Rattle.rz_core.specs.Numbers.{be}
 use Rattle.rz_tmpl_entries.specs.Entry.{takes}
 use Rattle.rz_tmpl_entries.specs.Items.{count, list, none, one, Items}
+use Rattle.rz_tmpl_entries.specs.declared.entry.CountForm.{CountForm}
+use Rattle.rz_tmpl_entries.specs.declared.entry.CountForm.TheVariants.{LessOne, Rows}
+use Rattle.rz_tmpl_entries.specs.declared.entry.ListForm.TheVariants.{Counted, Uncounted}
 use Rattle.rz_tmpl_entries.specs.declared.entry.Plain.{Plain}
 use Rattle.rz_tmpl_entries.specs.declared.entry.Plain.TheVariants.{Aligned, Character, Number, Pascal, Rectangle, Rest, TypeName, ZeroEnded, Zeros}
 use Rattle.rz_tmpl_entries.specs.declared.entry.Size.{Size}
@@ -58,13 +61,14 @@ rows_first (value ∷ values) = rows_of (out-Tree value)
 abbrev pub rows_ahead : Items → List Tree → ℕ
 rows_ahead none values = 0
 rows_ahead (one plain rest) values = rows_ahead rest (if takes plain then drop 1 values else values)
-rows_ahead (count less rest) values = rows_ahead rest values
-rows_ahead (list true row rest) values = rows_first values
-rows_ahead (list false row rest) values = rows_ahead rest (drop 1 values)
+rows_ahead (count form rest) values = rows_ahead rest values
+rows_ahead (list Counted row rest) values = rows_first values
+rows_ahead (list Uncounted row rest) values = rows_ahead rest (drop 1 values)
 
 -- the number that says so many rows: itself, or one less modulo 65,536
-abbrev pub stored_count : (less : Bool) → ℕ → ℕ
-stored_count less rows = if less then (rows + 65535) % 65536 else rows
+abbrev pub stored_count : CountForm → ℕ → ℕ
+stored_count Rows rows = rows
+stored_count LessOne rows = (rows + 65535) % 65536
 
 -- Bodies.
 
@@ -79,9 +83,9 @@ BodySays bytes none values place after = (values ≡ []) × (after ≡ place)
 BodySays bytes (one plain rest) values place after =
     (value : Option Tree) × (others : List Tree) × (piece : List ℕ) × (next : ℕ)
     × (values ≡ put value others) × IsPiece plain place value piece × IsThere bytes place piece next × BodySays bytes rest others next after
-BodySays bytes (count less rest) values place after =
-    (next : ℕ) × (rows_ahead rest values ≤ 65535) × IsThere bytes place (be 2 (stored_count less (rows_ahead rest values))) next × BodySays bytes rest values next after
-BodySays bytes (list counted row rest) values place after =
+BodySays bytes (count form rest) values place after =
+    (next : ℕ) × (rows_ahead rest values ≤ 65535) × IsThere bytes place (be 2 (stored_count form (rows_ahead rest values))) next × BodySays bytes rest values next after
+BodySays bytes (list form row rest) values place after =
     (rows : List (List Tree)) × (others : List Tree) × (next : ℕ)
     × (values ≡ trees.Rows rows ∷ others) × RowsSay (BodySays bytes row) rows place next × BodySays bytes rest others next after
 

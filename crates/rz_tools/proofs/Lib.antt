@@ -30,3 +30,4 @@ pub mod Complete
 pub mod Replied
 pub mod PutBack
 pub mod OthersStay
+pub mod Asking

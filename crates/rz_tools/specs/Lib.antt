@@ -12,3 +12,4 @@ pub mod SampleSource
 pub mod Sample
 pub mod Again
 pub mod Program
+pub mod Asked

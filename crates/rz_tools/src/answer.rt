@@ -4,6 +4,8 @@ ghost use Rattle.std.specs.Prelude.{◌≡◌, ◌⊎◌, ℕ, map, IfOk, IfSome
 ghost use Rattle.std.specs.String.{string_bytes};
 ghost use Rattle.std.specs.FinMap as finite;
 ghost use Rattle.rz_core.specs.declared.stop.Halt.TheVariants.{NoMemory as no_memory, ReadFault};
+ghost use Rattle.rz_folder.specs.MayRead.{MayReadOf};
+ghost use Rattle.rz_tools.specs.Asked.{CommandAsks, WordsAsk};
 ghost use Rattle.rz_folder.specs.OnlyReads.{OnlyReads};
 ghost use Rattle.rz_pre.specs.Lexed.{HaveLexedTexts};
 ghost use Rattle.rz_tools.specs.Again.{HoldsFile};
@@ -40,6 +42,7 @@ pub fn answer<F: Folder>(
     folder: &mut F,
     moment: Moment,
 ) -> Result<Reply, Halt<Infallible>>
+    requires { MayReadOf F.Folder folder.old (WordsAsk (map string_bytes words.now)) }
     ensures answered { IfSome (F.files folder.old) (λ files. IfOk result (λ reply. EachAnswer reply (Answers (map string_bytes words.now) files moment))) }
     ensures sound { IfOk result IsSound }
     ensures usage { IfOk result (λ reply. (position : ℕ) → outcome_of reply ≡ Outcome.Usage (record { position = position }) → IsMisplaced (map string_bytes words.now) position) }
@@ -69,6 +72,7 @@ fn answer_command<F: Folder>(
 ) -> Result<Reply, Halt<Infallible>>
     requires lexed { HaveLexedTexts (defs_of (items_of command)) }
     requires places { ArePlaces (syntax_of command.name).places (places_of (items_of command)) }
+    requires may { MayReadOf F.Folder folder.old (CommandAsks command.name (items_of command)) }
     ensures answered { IfSome (F.files folder.old) (λ files. IfOk result (λ reply. EachAnswer reply (AnswersTo (asked command.entry) files moment))) }
     ensures sound { IfOk result IsSound }
     ensures no_usage { IfOk result (λ reply. IsNoUsage (outcome_of reply)) }

@@ -6,6 +6,8 @@ ghost use Rattle.std.specs.String.{string_bytes};
 ghost use Rattle.rz_core.specs.Stop.{seen, Meets, OnFault, OnRefusal, Yields};
 ghost use Rattle.rz_core.specs.declared.stop.Halt.TheVariants.{ReadFault};
 ghost use Rattle.rz_core.specs.Message.{IsNameable};
+ghost use Rattle.rz_folder.specs.MayRead.{MayReadOf};
+ghost use Rattle.rz_tools.specs.Asked.{DeRezAsks};
 ghost use Rattle.rz_folder.specs.OnlyReads.{OnlyReads};
 ghost use Rattle.rz_bridge_files.specs.Contents.{admit_fork, fork_in};
 ghost use Rattle.rz_fork.specs.Contents.{Fork};
@@ -82,7 +84,8 @@ pub fn answer_derez<F: Folder>(
     words: DeRezWords<'_>,
     moment: Moment,
 ) -> Result<Reply, Halt<Infallible>>
-    requires { HaveLexedTexts words.types.defs }
+    requires lexed { HaveLexedTexts words.types.defs }
+    requires may { MayReadOf F.Folder folder.old (DeRezAsks (derez words)) }
     ensures answered { IfSome (F.files folder.old) (λ files. IfOk result (λ reply. EachAnswer reply (AnswersDeRez (derez words.entry) files moment))) }
     ensures sound { IfOk result IsSound }
     ensures no_usage { IfOk result (λ reply. IsNoUsage (outcome_of reply)) }
@@ -103,7 +106,8 @@ pub fn read_and_show<F: Folder>(
     words: DeRezWords<'_>,
     moment: Moment,
 ) -> Result<ForkShown, Halt<Failing>>
-    requires { HaveLexedTexts words.types.defs }
+    requires lexed { HaveLexedTexts words.types.defs }
+    requires may { MayReadOf F.Folder folder.old (DeRezAsks (derez words)) }
     ensures text { (text : List ℕ) → IfOk result (λ shown. IsTextOf shown.text text)
         → IfSome (F.files folder.old) (λ files. Yields (seen (making_with text) result) (Shows moment (derez words.entry) files)) }
     ensures held { IfSome (F.files folder.old) (λ files. IfSome (map.get files (string_bytes words.entry.file)) (λ bytes. IfOk result (λ _. HoldsFile words.entry.from bytes))) }
@@ -126,7 +130,8 @@ fn show_under<F: Folder>(
     compiled: Compiled,
     moment: Moment,
 ) -> Result<ForkShown, Halt<Failing>>
-    requires { AreWarnings (length compiled.files) compiled.work.warnings }
+    requires warnings { AreWarnings (length compiled.files) compiled.work.warnings }
+    requires may { F.may_read folder.old (derez words).file }
     ensures text { (text : List ℕ) → IfOk result (λ shown. IsTextOf shown.text text)
         → IfSome (F.files folder.old) (λ files. Yields (seen (making_with text) result) (HasText moment (derez words.entry) files (compiled_of compiled))) }
     ensures held { IfSome (F.files folder.old) (λ files. IfSome (map.get files (string_bytes words.entry.file)) (λ bytes. IfOk result (λ _. HoldsFile words.entry.from bytes))) }
@@ -172,7 +177,8 @@ fn show_file<F: Folder>(
     warnings: &Faults,
     files: FileNames,
 ) -> Result<ForkShown, Halt<Failing>>
-    requires { AreWarnings (length files) warnings.now }
+    requires warnings { AreWarnings (length files) warnings.now }
+    requires may { F.may_read folder.old (derez words).file }
     ensures text { (moment : MomentOf) (compiled : CompiledOf) → compiled.files ≡ files → compiled.work.warnings ≡ warnings.now → known_of known ≡ known_by moment compiled
         → (text : List ℕ) → IfOk result (λ shown. IsTextOf shown.text text)
         → IfSome (F.files folder.old) (λ held. Yields (seen (making_with text) result) (HasText moment (derez words.entry) held compiled)) }
@@ -221,7 +227,8 @@ fn read_fork<F: Folder>(
     warnings: &Faults,
     files: FileNames,
 ) -> Result<Made, Halt<Failing>>
-    requires { AreWarnings (length files) warnings.now }
+    requires warnings { AreWarnings (length files) warnings.now }
+    requires may { F.may_read folder.old name.now }
     ensures fork { (compiled : CompiledOf) → compiled.files ≡ files → compiled.work.warnings ≡ warnings.now
         → IfSome (F.files folder.old) (λ held. Yields (seen making_of result) (SaidBeside compiled (HasFork from name.now (map.get held name.now)))) }
     ensures held { IfSome (F.files folder.old) (λ files. IfSome (map.get files name.now) (λ bytes. IfOk result (λ _. HoldsFile from bytes))) }

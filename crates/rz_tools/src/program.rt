@@ -12,6 +12,8 @@ ghost use Rattle.rz_tools_answer.specs.Carried.{CarriesOut, EndsWith, IsAnswered
 ghost use Rattle.rz_tools_answer.specs.World.{ReadFailed, Runs, WriteFailed};
 ghost use Rattle.rz_tools_answer.specs.WellFormed.{IsWellFormed};
 ghost use Rattle.rz_tools.specs.DeRez.{DeRezAsked, IsDeRez};
+ghost use Rattle.rz_folder.specs.MayRead.{MayReadOf};
+ghost use Rattle.rz_tools.specs.Asked.{WordsAsk};
 ghost use Rattle.rz_tools_args.specs.Command.{IsMisplaced};
 
 use crate::answer::answer;
@@ -42,6 +44,9 @@ use std::alloc::Global;
 /// one has a text and may not be changed. After `restring` the row of each resource has the catalogue's texts in
 /// place of its own, counts and labels are solved again, and all else of the resources stays. What `err` does changes
 /// no outcome. NoMemory may come in place of any other answer.
+///
+/// No name is read but those that the words ask for, as `specs/Asked` says; the folder has to allow these. A folder
+/// that doesn't tell its files has to allow all names.
 pub fn run<F: Folder, O: Sink, E: Sink>(
     alloc: Global,
     words: &[String],
@@ -50,6 +55,7 @@ pub fn run<F: Folder, O: Sink, E: Sink>(
     err: &mut E,
     moment: Moment,
 ) -> Outcome
+    requires { MayReadOf F.Folder folder.old (WordsAsk (map string_bytes words.now)) }
     // Whatever the folder tells, an answer is carried out; where it tells its files, this is the answer to the words.
     ensures carried { Runs F.Folder O.Sink E.Sink folder.old folder.new out.old out.new err.old err.new
         (λ before after. (done : Answer) × IsWellFormed done × CarriesOut done before after result

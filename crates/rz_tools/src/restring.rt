@@ -9,6 +9,8 @@ ghost use Rattle.rz_core.specs.Message.{IsNameable};
 ghost use Rattle.rz_core.specs.Resources.{KeysDiffer};
 ghost use Rattle.rz_core.specs.Stop.{seen, IsReadFault, Meets, OnFault, OnRefusal, Yields};
 ghost use Rattle.rz_core.specs.declared.stop.Halt.TheVariants.{ReadFault};
+ghost use Rattle.rz_folder.specs.MayRead.{MayRead, MayReadOf};
+ghost use Rattle.rz_tools.specs.Asked.{RestringAsks, RestringAsksAfter};
 ghost use Rattle.rz_folder.specs.OnlyReads.{OnlyReads};
 ghost use Rattle.rz_pre.specs.Lexed.{HaveLexedTexts};
 ghost use Rattle.rz_set.specs.ResSet.{AreNamed};
@@ -87,7 +89,8 @@ pub fn plan_restring<F: Folder>(
     words: &RestringWords<'_>,
     moment: Moment,
 ) -> Result<Plan, Halt<Infallible>>
-    requires { HaveLexedTexts words.now.types.defs }
+    requires lexed { HaveLexedTexts words.now.types.defs }
+    requires may { MayReadOf F.Folder folder.old (RestringAsks (restring words.now)) }
     ensures answered { IfSome (F.files folder.old) (λ files. IfOk result (λ plan. AnswersRestring (restring words.now) files moment (answer_of plan))) }
     ensures well_formed { IfOk result (λ plan. IsWellFormed (answer_of plan)) }
     ensures writable { IfOk result (λ plan. AreWritable (answer_of plan).writes) }
@@ -107,7 +110,8 @@ fn restring_fork<F: Folder>(
     words: &RestringWords<'_>,
     moment: Moment,
 ) -> Result<Made, Halt<Failing>>
-    requires { HaveLexedTexts words.now.types.defs }
+    requires lexed { HaveLexedTexts words.now.types.defs }
+    requires may { MayReadOf F.Folder folder.old (RestringAsks (restring words.now)) }
     ensures made { IfSome (F.files folder.old) (λ files. Yields (seen making_of result) (Restrings moment (restring words.now) files)) }
     ensures sayable { OnRefusal result IsSayable }
     ensures warned { IfOk result (λ made. IsWarningText made.said) }
@@ -128,7 +132,8 @@ fn restring_under<F: Folder>(
     compiled: Compiled,
     moment: Moment,
 ) -> Result<Made, Halt<Failing>>
-    requires { AreWarnings (length compiled.files) compiled.work.warnings }
+    requires warnings { AreWarnings (length compiled.files) compiled.work.warnings }
+    requires may { MayRead F.Folder folder.old (RestringAsksAfter (restring words.now)) }
     ensures made { IfSome (F.files folder.old) (λ files. Yields (seen making_of result) (HasRestrung moment (restring words.now) files (compiled_of compiled))) }
     ensures sayable { OnRefusal result IsSayable }
     ensures warned { IfOk result (λ made. IsWarningText made.said) }
@@ -173,6 +178,7 @@ fn restrung<F: Folder>(
     file: u64,
     moment: Moment,
 ) -> Result<Bytes, Halt<Fault>>
+    requires { MayRead F.Folder folder.old (RestringAsksAfter (restring words.now)) }
     ensures output { IfSome (F.files folder.old) (λ files. Yields result (IsRestrungUnder moment (table_of types.now) file (restring words.now) files)) }
     ensures nameable { OnRefusal result (IsNameable (file + 1)) }
     ensures short { IfOk result (λ bytes. length bytes < 2 ^ 32) }
@@ -197,6 +203,7 @@ fn restrung_by<F: Folder>(
     requires keys { KeysDiffer [] begun.list }
     requires named { AreNamed begun.list }
     requires room { length begun.base.reserved ≤ 240 }
+    requires may { F.may_read folder.old (restring words.now).catalogue }
     ensures output { IfSome (F.files folder.old) (λ files. Yields result (Then (HasCatalogueFile file (restring words.now).catalogue (map.get files (restring words.now).catalogue))
         (IsChangedBy moment (table_of types.now) (restring words.now) (begun_of begun)))) }
     ensures nameable { OnRefusal result (IsNameable (file + 1)) }
@@ -216,6 +223,7 @@ fn read_catalogue<F: Folder>(
     name: &str,
     file: u64,
 ) -> Result<Entries, Halt<Fault>>
+    requires { F.may_read folder.old name.now }
     ensures entries { IfSome (F.files folder.old) (λ files. Yields result (HasCatalogueFile file name.now (map.get files name.now))) }
     ensures placed { IfOk result (AreEntriesIn (file + 1)) }
     ensures nameable { OnRefusal result (IsNameable (file + 1)) }

@@ -8,6 +8,8 @@ ghost use Rattle.rz_tools_answer.specs.Plan.{answer_of, IsNoUsage};
 ghost use Rattle.rz_tools_answer.specs.Warning.{AreWarnings, IsWarningText};
 ghost use Rattle.rz_tools_answer.specs.WellFormed.{AreWritable, IsWellFormed};
 ghost use Rattle.rz_core.specs.Resources.{KeysDiffer};
+ghost use Rattle.rz_folder.specs.MayRead.{MayRead, MayReadOf};
+ghost use Rattle.rz_tools.specs.Asked.{RezAsks, RezAsksAfter};
 ghost use Rattle.rz_folder.specs.OnlyReads.{OnlyReads};
 ghost use Rattle.rz_lex.specs.Lexeme.{AreLexed};
 ghost use Rattle.rz_lex.specs.Within.{AreWithin};
@@ -101,7 +103,8 @@ pub fn plan_rez<F: Folder>(
     words: &RezWords<'_>,
     moment: Moment,
 ) -> Result<Plan, Halt<Infallible>>
-    requires { HaveLexedTexts words.now.defs }
+    requires lexed { HaveLexedTexts words.now.defs }
+    requires may { MayReadOf F.Folder folder.old (RezAsks (rez words.now)) }
     ensures answered { IfSome (F.files folder.old) (λ files. IfOk result (λ plan. AnswersRez (rez words.now) files moment (answer_of plan))) }
     ensures well_formed { IfOk result (λ plan. IsWellFormed (answer_of plan)) }
     ensures writable { IfOk result (λ plan. AreWritable (answer_of plan).writes) }
@@ -121,7 +124,8 @@ pub fn compile<F: Folder>(
     words: &RezWords<'_>,
     moment: Moment,
 ) -> Result<Made, Halt<Failing>>
-    requires { HaveLexedTexts words.now.defs }
+    requires lexed { HaveLexedTexts words.now.defs }
+    requires may { MayReadOf F.Folder folder.old (RezAsks (rez words.now)) }
     ensures made { IfSome (F.files folder.old) (λ files. Yields (seen making_of result) (Compiles moment (rez words.now) files)) }
     ensures sayable { OnRefusal result IsSayable }
     ensures warned { IfOk result (λ made. IsWarningText made.said) }
@@ -151,6 +155,7 @@ fn compile_under<F: Folder>(
 ) -> Result<Made, Halt<Failing>>
     requires within { AreWithin (length program.files) program.tokens }
     requires lexed { AreLexed program.tokens }
+    requires may { MayRead F.Folder folder.old (RezAsksAfter (rez words.now) program.tokens) }
     ensures made { IfSome (F.files folder.old) (λ files. (s : State) → IsProgram program s → Yields (seen making_of result) (IsMadeOf moment (rez words.now) files s)) }
     ensures sayable { OnRefusal result IsSayable }
     ensures warned { IfOk result (λ made. IsWarningText made.said) }
@@ -174,6 +179,7 @@ fn compile_from_base<F: Folder>(
 ) -> Result<Made, Halt<Failing>>
     requires within { AreWithin (length program.files) program.tokens }
     requires lexed { AreLexed program.tokens }
+    requires may { MayRead F.Folder folder.old (RezAsksAfter (rez words.now) program.tokens) }
     ensures made { IfSome (F.files folder.old) (λ files. (s : State) → IsProgram program s → Yields (seen making_of result) (IsMadeUnder moment (rez words.now) files s (table_of types))) }
     ensures sayable { OnRefusal result IsSayable }
     ensures warned { IfOk result (λ made. IsWarningText made.said) }
@@ -201,6 +207,7 @@ fn compile_behind<F: Folder>(
     requires keys { KeysDiffer [] begun.list }
     requires named { AreNamed begun.list }
     requires room { length begun.base.reserved ≤ 240 }
+    requires may { MayRead F.Folder folder.old (RezAsksAfter (rez words.now) program.tokens) }
     ensures made { IfSome (F.files folder.old) (λ files. (s : State) → IsProgram program s → Yields (seen making_of result) (IsMadeBehind moment (rez words.now) files s (table_of types) (begun_of begun))) }
     ensures sayable { OnRefusal result IsSayable }
     ensures warned { IfOk result (λ made. IsWarningText made.said) }

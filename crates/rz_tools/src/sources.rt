@@ -5,6 +5,10 @@ ghost use Rattle.rz_core.specs.Stop.{seen, OnRefusal, Yields};
 ghost use Rattle.rz_core.specs.declared.stop.Halt.TheVariants.{ReadFault};
 ghost use Rattle.rz_tools_answer.specs.Made.{IsSayable};
 ghost use Rattle.rz_tools_answer.specs.Warning.{AreWarnings};
+ghost use Rattle.rz_folder.specs.MayRead.{IsOneOf, MayRead, MayReadOf};
+ghost use Rattle.rz_folder_paths.specs.Names.{LooksFor};
+ghost use Rattle.rz_pre.specs.Reached.{IsReached};
+ghost use Rattle.rz_tools.specs.Asked.{AnyAsks};
 ghost use Rattle.rz_folder.specs.OnlyReads.{OnlyReads};
 ghost use Rattle.rz_lex.specs.Lexeme.{AreLexed};
 ghost use Rattle.rz_lex.specs.Within.{AreWithin};
@@ -52,7 +56,8 @@ pub fn unsaid(alloc: Global, halt: Halt<Fault>, files: FileNames) -> Halt<Failin
     }
 }
 
-/// The program of the sources of these names, as the tool reads it, or what stopped the command. No file changes.
+/// The program of the sources of these names, as the tool reads it, or what stopped the command. No file changes. Over a
+/// folder that tells its files only the sources are read, and what they include.
 pub fn read_program<F: Folder>(
     alloc: Global,
     folder: &mut F,
@@ -61,7 +66,8 @@ pub fn read_program<F: Folder>(
     paths: &FileNames,
     defs: &Defs,
 ) -> Result<Program, Halt<Failing>>
-    requires { HaveLexedTexts defs.now }
+    requires lexed { HaveLexedTexts defs.now }
+    requires may { MayReadOf F.Folder folder.old (λ files. IsReached paths.now files (IsOneOf names.now)) }
     ensures read { IfSome (F.files folder.old) (λ files. Yields result (OfProgram (Unsaid (ProgramGoes files tool names.now paths.now defs.now)))) }
     ensures sayable { OnRefusal result IsSayable }
     ensures within { IfOk result (λ program. AreWithin (length program.files) program.tokens) }
@@ -84,7 +90,8 @@ pub fn read_program<F: Folder>(
 }
 
 /// What the statements of a program make of the work to begin with; or what stopped the command, with the lines of what was
-/// warned of before. The files of statements are looked for after the paths. No file changes.
+/// warned of before. The files of statements are looked for after the paths. No file changes, and no file is read that no
+/// statement names.
 pub fn compile_program<F: Folder>(
     alloc: Global,
     folder: &mut F,
@@ -96,6 +103,7 @@ pub fn compile_program<F: Folder>(
     requires within { AreWithin (length program.files) program.tokens }
     requires lexed { AreLexed program.tokens }
     requires warnings { AreWarnings (length program.files) start.warnings }
+    requires may { MayRead F.Folder folder.old (LooksFor paths.now (AnyAsks setting.tool program.tokens)) }
     ensures compiled { IfSome (F.files folder.old) (λ files. (s : State) → IsProgram program s → Yields (seen compiled_of result) (HasWork (around setting paths.now files) (work_of start) s)) }
     ensures warned { IfOk result (λ compiled. AreWarnings (length compiled.files) compiled.work.warnings) }
     ensures sayable { OnRefusal result IsSayable }

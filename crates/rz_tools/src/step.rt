@@ -4,6 +4,9 @@ ghost use Rattle.std.specs.Prelude.{◌≡◌, ◌<◌, if◌then◌else◌, ℕ
 ghost use Rattle.rz_tools_answer.specs.Warning.{AreWarnings};
 ghost use Rattle.rz_core.specs.Message.{IsNameable};
 ghost use Rattle.rz_core.specs.Stop.{OnFault, IsReadFault, Meets, OnRefusal, halted, left, seen, Yields};
+ghost use Rattle.rz_folder.specs.MayRead.{MayRead};
+ghost use Rattle.rz_folder_paths.specs.Names.{LooksFor};
+ghost use Rattle.rz_tools.specs.Asked.{AnyAsks, ParsedAsk};
 ghost use Rattle.rz_folder.specs.OnlyReads.{OnlyReads};
 ghost use Rattle.rz_lex.specs.Lexeme.{AreLexed};
 ghost use Rattle.rz_lex.specs.Within.{AreWithin};
@@ -22,7 +25,7 @@ use rz_lex::Tokens;
 use rz_pre::Tool;
 use rz_pre_tokens::TokenStore;
 use rz_set::ResSet;
-use rz_stmt::{Span, Stmt, next_statement, parse};
+use rz_stmt::{Span, Stmt, all_tokens_are_statements, next_statement, one_cutting, parse};
 use rz_tools_resource::{resource_of, resource_of_items};
 use rz_tools_values::Setting;
 use rz_tools_work::{Work, declare_type, list_step, number_tool_words, put};
@@ -47,12 +50,15 @@ pub fn compile_statements<F: Folder>(
     work: &mut Work,
 ) -> Result<(), Halt<Fault>>
     requires lexed { AreLexed tokens }
+    requires may { MayRead F.Folder folder.old (LooksFor paths.now (AnyAsks setting.tool tokens)) }
     ensures work { IfSome (F.files folder.old) (λ files. (statements : List (List Token)) → AreStatements tokens statements
         → Yields (with_work (work_of work.new) result) (Means (around setting paths.now files) (work_of work.old) statements)) }
     ensures nameable { (files : ℕ) → AreWithin files tokens → OnRefusal result (IsNameable files) }
     ensures warned { (files : ℕ) → AreWithin files tokens → AreWarnings files work.old.warnings → AreWarnings files work.new.warnings }
     ensures reads { OnlyReads F.Folder folder.old folder.new (IsReadFault result) }
 {
+    all_tokens_are_statements();
+    one_cutting();
     let mut reader = tokens.into_reader();
     while let Some(statement) = next_statement(alloc, &mut reader)? {
         match step(alloc, folder, paths, statement, setting, work) {
@@ -74,6 +80,7 @@ fn step<F: Folder>(
 ) -> Result<(), Halt<Fault>>
     requires some { 0 < length statement }
     requires lexed { AreLexed statement }
+    requires may { MayRead F.Folder folder.old (LooksFor paths.now (ParsedAsk setting.tool (map (numbered setting.tool) statement))) }
     ensures stepped { IfSome (F.files folder.old) (λ files. Yields (with_work (work_of work.new) result) (Steps (around setting paths.now files) (work_of work.old) (map (numbered setting.tool) statement))) }
     ensures nameable { (files : ℕ) → AreWithin files statement → OnRefusal result (IsNameable files) }
     ensures warned { (files : ℕ) → AreWithin files statement → AreWarnings files work.old.warnings → AreWarnings files work.new.warnings }
@@ -99,6 +106,7 @@ fn step_at<F: Folder>(
 ) -> Result<(), Halt<Fault>>
     requires span { IsSpan tokens span }
     requires lexed { AreLexed tokens }
+    requires may { MayRead F.Folder folder.old (LooksFor paths.now (ParsedAsk setting.tool (tokens_at tokens span))) }
     ensures stepped { IfSome (F.files folder.old) (λ files. Yields (with_work (work_of work.new) result) (Steps (around setting paths.now files) (work_of work.old) (tokens_at tokens span))) }
     ensures nameable { (files : ℕ) → AreWithin files tokens → OnRefusal result (IsNameable files) }
     ensures warned { (files : ℕ) → AreWithin files tokens → AreWarnings files work.old.warnings → AreWarnings files work.new.warnings }

@@ -7,6 +7,8 @@ ghost use Rattle.std.specs.String.{string_bytes};
 ghost use Rattle.rz_core.specs.Message.{IsNameable};
 ghost use Rattle.rz_core.specs.Stop.{seen, IsReadFault, Meets, OnFault, OnRefusal, Yields};
 ghost use Rattle.rz_core.specs.declared.stop.Halt.TheVariants.{ReadFault};
+ghost use Rattle.rz_folder.specs.MayRead.{MayReadOf};
+ghost use Rattle.rz_tools.specs.Asked.{StringsAsk};
 ghost use Rattle.rz_folder.specs.OnlyReads.{OnlyReads};
 ghost use Rattle.rz_pre.specs.Lexed.{HaveLexedTexts};
 ghost use Rattle.rz_tools_answer.specs.Made.{making_of, IsSayable};
@@ -72,7 +74,8 @@ pub fn plan_strings<F: Folder>(
     words: &StringsWords<'_>,
     moment: Moment,
 ) -> Result<Plan, Halt<Infallible>>
-    requires { HaveLexedTexts words.now.types.defs }
+    requires lexed { HaveLexedTexts words.now.types.defs }
+    requires may { MayReadOf F.Folder folder.old (StringsAsk (strings words.now)) }
     ensures answered { IfSome (F.files folder.old) (λ files. IfOk result (λ plan. AnswersStrings (strings words.now) files moment (answer_of plan))) }
     ensures well_formed { IfOk result (λ plan. IsWellFormed (answer_of plan)) }
     ensures writable { IfOk result (λ plan. AreWritable (answer_of plan).writes) }
@@ -93,7 +96,8 @@ fn list_fork<F: Folder>(
     words: &StringsWords<'_>,
     moment: Moment,
 ) -> Result<Made, Halt<Failing>>
-    requires { HaveLexedTexts words.now.types.defs }
+    requires lexed { HaveLexedTexts words.now.types.defs }
+    requires may { MayReadOf F.Folder folder.old (StringsAsk (strings words.now)) }
     ensures made { IfSome (F.files folder.old) (λ files. Yields (seen making_of result) (Lists moment (strings words.now) files)) }
     ensures held { IfSome (F.files folder.old) (λ files. IfSome (map.get files (string_bytes words.now.file)) (λ bytes. IfOk result (λ _. HoldsFile words.now.from bytes))) }
     ensures sayable { OnRefusal result IsSayable }
@@ -114,7 +118,8 @@ fn list_under<F: Folder>(
     compiled: Compiled,
     moment: Moment,
 ) -> Result<Made, Halt<Failing>>
-    requires { AreWarnings (length compiled.files) compiled.work.warnings }
+    requires warnings { AreWarnings (length compiled.files) compiled.work.warnings }
+    requires may { F.may_read folder.old (strings words.now).file }
     ensures made { IfSome (F.files folder.old) (λ files. Yields (seen making_of result) (HasStrings moment (strings words.now) files (compiled_of compiled))) }
     ensures held { IfSome (F.files folder.old) (λ files. IfSome (map.get files (string_bytes words.now.file)) (λ bytes. IfOk result (λ _. HoldsFile words.now.from bytes))) }
     ensures sayable { OnRefusal result IsSayable }
@@ -139,6 +144,7 @@ fn catalogue_of<F: Folder>(
     types: &TypeTable,
     moment: Moment,
 ) -> Result<Bytes, Halt<Fault>>
+    requires { F.may_read folder.old (strings words.now).file }
     ensures text { IfSome (F.files folder.old) (λ files. Yields result
         (HasFileCatalogue moment (table_of types.now) (strings words.now) (map.get files (strings words.now).file))) }
     ensures held { IfSome (F.files folder.old) (λ files. IfSome (map.get files (string_bytes words.now.file)) (λ bytes. IfOk result (λ _. HoldsFile words.now.from bytes))) }

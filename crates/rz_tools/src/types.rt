@@ -3,6 +3,8 @@
 ghost use Rattle.std.specs.Prelude.{◌≡◌, ◌≤◌, drop, length, Err, IfOk, IfSome};
 ghost use Rattle.rz_core.specs.Stop.{seen, OnRefusal, Yields};
 ghost use Rattle.rz_core.specs.declared.stop.Halt.TheVariants.{ReadFault};
+ghost use Rattle.rz_folder.specs.MayRead.{IsIt, MayRead, MayReadOf};
+ghost use Rattle.rz_tools.specs.Asked.{TypesAsk};
 ghost use Rattle.rz_folder.specs.OnlyReads.{OnlyReads};
 ghost use Rattle.rz_lex.specs.Lexeme.{AreLexed};
 ghost use Rattle.rz_lex.specs.Within.{AreWithin};
@@ -83,7 +85,8 @@ pub fn compile_types<F: Folder>(
     words: &TypesWords<'_>,
     moment: Moment,
 ) -> Result<Compiled, Halt<Failing>>
-    requires { HaveLexedTexts words.now.defs }
+    requires lexed { HaveLexedTexts words.now.defs }
+    requires may { MayReadOf F.Folder folder.old (TypesAsk (types_asked words.now)) }
     ensures compiled { IfSome (F.files folder.old) (λ files. Yields (seen compiled_of result) (TypesAre moment (types_asked words.now) files)) }
     ensures warned { IfOk result (λ compiled. AreWarnings (length compiled.files) compiled.work.warnings) }
     ensures sayable { OnRefusal result IsSayable }
@@ -112,6 +115,7 @@ fn compile_under<F: Folder>(
 ) -> Result<Compiled, Halt<Failing>>
     requires within { AreWithin (length program.files) program.tokens }
     requires lexed { AreLexed program.tokens }
+    requires may { MayRead F.Folder folder.old (IsIt (types_asked words.now).tmpl) }
     ensures compiled { IfSome (F.files folder.old) (λ files. (s : State) → IsProgram program s → Yields (seen compiled_of result) (AreTyped moment (types_asked words.now) files s)) }
     ensures warned { IfOk result (λ compiled. AreWarnings (length compiled.files) compiled.work.warnings) }
     ensures sayable { OnRefusal result IsSayable }

@@ -16,7 +16,7 @@ use rz_core::NoMemory;
 use rz_folder::{Folder, Put, Sink, Written};
 
 /// Carries out an answer: writes the files, then puts the text of the output and sees to it that it is out, and says its
-/// text.
+/// text. What failed isn't tried again: after `Done` the output counts as many faults as before.
 pub fn carry_out<F: Folder, O: Sink, E: Sink>(
     plan: Plan,
     folder: &mut F,
@@ -28,6 +28,7 @@ pub fn carry_out<F: Folder, O: Sink, E: Sink>(
     ensures carried { Runs F.Folder O.Sink E.Sink folder.old folder.new out.old out.new err.old err.new
         (λ before after. CarriesOut (answer_of plan) before after result) }
     ensures ended { (result ≡ plan.outcome) ⊎ (result ≡ Outcome.WriteFault) }
+    ensures quiet { result ≡ Outcome.Done → O.faults out.new ≡ O.faults out.old }
 {
     let Plan {
         outcome,
@@ -98,6 +99,7 @@ fn put_text<O: Sink>(text: &[u8], out: &mut O) -> Put
     ensures done { result ≡ Put.Done → Told (IsOut text.now) (O.stream out.old) (O.stream out.new) }
     ensures failed { result ≡ Put.Failed → Told (GotFront text.now) (O.stream out.old) (O.stream out.new) }
     ensures nothing { text.now ≡ [] → (result ≡ Put.Done) × (O.stream out.new ≡ O.stream out.old) }
+    ensures quiet { result ≡ Put.Done → O.faults out.new ≡ O.faults out.old }
     ensures cause { result ≡ Put.Failed → Rose (O.faults out.old) (O.faults out.new) }
 {
     if text.is_empty() {
@@ -110,6 +112,7 @@ fn put_text<O: Sink>(text: &[u8], out: &mut O) -> Put
 /// Puts a text, and sees to it that it is out.
 fn put_out<S: Sink>(text: &[u8], sink: &mut S) -> Put
     ensures told { PutsOut text.now (S.stream sink.old) (S.stream sink.new) (Ok result) }
+    ensures quiet { result ≡ Put.Done → S.faults sink.new ≡ S.faults sink.old }
     ensures cause { result ≡ Put.Failed → Rose (S.faults sink.old) (S.faults sink.new) }
 {
     match sink.put(text) {

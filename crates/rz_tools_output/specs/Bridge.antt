@@ -67,6 +67,10 @@ abbrev pub IsRead : BridgeAsked → Files → Option (List ℕ) → Result MacFi
 IsRead asked files None answer = answer ≡ Err (missing_file None asked.file)
 IsRead asked files (Some bytes) answer = IsHeld asked files bytes answer
 
+-- which files it may read: the file, and the data file beside it
+abbrev pub BridgeAsks : BridgeAsked → List ℕ → Type 0
+BridgeAsks asked name = (name ≡ asked.file) ⊎ IsDataFile asked.file name
+
 -- What it writes.
 
 -- The files that are written of a file and of the bytes of its form: of AppleDouble first the data file, where the data

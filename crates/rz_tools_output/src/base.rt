@@ -62,6 +62,7 @@ pub fn read_base<F: Folder>(
     append: bool,
     name: &str,
 ) -> Result<Beginning, Halt<Fault>>
+    requires { append ≡ true → F.may_read folder.old name.now }
     ensures base { IfSome (F.files folder.old) (λ files. Yields (seen begun_of result) (λ answer. base_of append name.now files ≡ answer)) }
     ensures keys { IfOk result (λ begun. KeysDiffer [] begun.list) }
     ensures named { IfOk result (λ begun. AreNamed begun.list) }
@@ -121,6 +122,7 @@ pub fn read_held<F: Folder>(
     form: Option<Form>,
     name: &str,
 ) -> Result<Beginning, Halt<Fault>>
+    requires { F.may_read folder.old name.now }
     ensures base { IfSome (F.files folder.old) (λ files. Yields (seen begun_of result) (λ answer. base_held form name.now (finite.get files name.now) ≡ answer)) }
     ensures keys { IfOk result (λ begun. KeysDiffer [] begun.list) }
     ensures named { IfOk result (λ begun. AreNamed begun.list) }

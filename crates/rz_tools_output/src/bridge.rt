@@ -10,9 +10,11 @@ ghost use Rattle.rz_core.specs.Answers.{Then};
 ghost use Rattle.rz_core.specs.Stop.{Meets, OnFault, IsReadFault, OnRefusal, Yields};
 ghost use Rattle.rz_core.specs.Message.{IsNameable};
 ghost use Rattle.rz_bridge_files.specs.Names.{Named};
+ghost use Rattle.rz_folder.specs.MayRead.{MayRead};
+ghost use Rattle.rz_bridge_form.specs.DataFile.{IsDataFile};
 ghost use Rattle.rz_folder.specs.OnlyReads.{OnlyReads};
 ghost use Rattle.rz_tools_args.specs.Held.{items_of};
-ghost use Rattle.rz_tools_output.specs.Bridge.{bridge, bridge_asked, writes_of, AnswersBridge, AreWrites, Bridges, HasBeside, IsHeld, IsRead, IsWrittenAs};
+ghost use Rattle.rz_tools_output.specs.Bridge.{bridge, bridge_asked, writes_of, AnswersBridge, AreWrites, Bridges, HasBeside, IsHeld, IsRead, IsWrittenAs, BridgeAsks};
 
 use crate::base::form_or;
 use crate::halted::halted;
@@ -79,6 +81,7 @@ pub fn plan_bridge<F: Folder>(
     folder: &mut F,
     words: &BridgeWords<'_>,
 ) -> Result<Plan, Halt<Infallible>>
+    requires { MayRead F.Folder folder.old (BridgeAsks (bridge words.now)) }
     ensures answered { IfSome (F.files folder.old) (λ files. IfOk result (λ plan. AnswersBridge (bridge words.now) files (answer_of plan))) }
     ensures well_formed { IfOk result (λ plan. IsWellFormed (answer_of plan)) }
     ensures writable { IfOk result (λ plan. AreWritable (answer_of plan).writes) }
@@ -97,6 +100,7 @@ fn bridge_file<F: Folder>(
     folder: &mut F,
     words: &BridgeWords<'_>,
 ) -> Result<Writes, Halt<Fault>>
+    requires { MayRead F.Folder folder.old (BridgeAsks (bridge words.now)) }
     ensures writes { IfSome (F.files folder.old) (λ files. Yields (writes_of result) (Bridges (bridge words.now) files)) }
     ensures writable { IfOk result (λ writes. AreWritable (map write_of writes)) }
     ensures nameable { (files : ℕ) → OnRefusal result (IsNameable files) }
@@ -114,6 +118,7 @@ fn read_whole<F: Folder>(
     folder: &mut F,
     words: &BridgeWords<'_>,
 ) -> Result<MacFile, Halt<Fault>>
+    requires { MayRead F.Folder folder.old (BridgeAsks (bridge words.now)) }
     ensures file { IfSome (F.files folder.old) (λ files. Yields result (IsRead (bridge words.now) files (finite.get files (string_bytes words.now.file)))) }
     ensures short { IfOk result (λ file. length file.res_fork < 2 ^ 32) }
     ensures nameable { (files : ℕ) → OnRefusal result (IsNameable files) }
@@ -135,7 +140,8 @@ fn read_held<F: Folder>(
     words: &BridgeWords<'_>,
     bytes: Bytes,
 ) -> Result<MacFile, Halt<Fault>>
-    requires { length bytes < 2 ^ 32 }
+    requires short { length bytes < 2 ^ 32 }
+    requires may { MayRead F.Folder folder.old (IsDataFile (bridge words.now).file) }
     ensures file { IfSome (F.files folder.old) (λ files. Yields result (IsHeld (bridge words.now) files bytes)) }
     ensures short { IfOk result (λ file. length file.res_fork < 2 ^ 32) }
     ensures nameable { (files : ℕ) → OnRefusal result (IsNameable files) }
@@ -155,6 +161,7 @@ fn read_beside<F: Folder>(
     form: Form,
     header: &str,
 ) -> Result<Bytes, Halt<Fault>>
+    requires { MayRead F.Folder folder.old (IsDataFile header.now) }
     ensures data_file { IfSome (F.files folder.old) (λ files. IfOk result (HasBeside form header.now files)) }
     ensures unrefused { OnRefusal result (λ _. ⊥) }
     ensures reads { OnlyReads F.Folder folder.old folder.new (IsReadFault result) }

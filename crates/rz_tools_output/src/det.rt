@@ -58,6 +58,7 @@ pub fn plan_det<F: Folder>(
     folder: &mut F,
     words: &DetWords,
 ) -> Result<Plan, Halt<Infallible>>
+    requires { F.may_read folder.old (det words.now).file }
     ensures answered { IfSome (F.files folder.old) (λ files. IfOk result (λ plan. AnswersDet (det words.now) files (answer_of plan))) }
     ensures well_formed { IfOk result (λ plan. IsWellFormed (answer_of plan)) }
     ensures writable { IfOk result (λ plan. AreWritable (answer_of plan).writes) }
@@ -79,6 +80,7 @@ fn read_breaks<F: Folder>(
     folder: &mut F,
     words: &DetWords,
 ) -> Result<Bytes, Halt<Fault>>
+    requires { F.may_read folder.old (det words.now).file }
     ensures text { IfSome (F.files folder.old) (λ files. Yields result (λ answer. breaks_of (det words.now) (finite.get files (string_bytes words.now.file)) ≡ answer)) }
     ensures nameable { (files : ℕ) → OnRefusal result (IsNameable files) }
     ensures reads { OnlyReads F.Folder folder.old folder.new (IsReadFault result) }

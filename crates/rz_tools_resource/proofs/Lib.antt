@@ -1,3 +1,4 @@
+pub mod Asking
 pub mod Fileless
 pub mod OneResource
 pub mod Reading

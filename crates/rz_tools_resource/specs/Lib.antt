@@ -2,3 +2,4 @@ pub mod Items
 pub mod Named
 pub mod Raw
 pub mod Resource
+pub mod Asked

@@ -2,6 +2,9 @@
 
 ghost use Rattle.std.specs.Prelude.{◌≡◌, ◌<◌, ℕ, IfSome, IfOk};
 ghost use Rattle.rz_core.specs.Message.{IsNameable};
+ghost use Rattle.rz_folder.specs.MayRead.{MayRead};
+ghost use Rattle.rz_folder_paths.specs.Names.{LooksFor};
+ghost use Rattle.rz_tools_resource.specs.Asked.{ItemAsks, ItemsAsk};
 ghost use Rattle.rz_folder.specs.OnlyReads.{OnlyReads};
 ghost use Rattle.rz_stmt_items.specs.Item.{plain_item, plain_items};
 ghost use Rattle.rz_stmt_items.specs.Places.{AreItemsWithin, IsItemWithin};
@@ -25,6 +28,7 @@ pub fn with_files<F: Folder>(
     mark: Mark,
     known: &Facts,
 ) -> Result<Items, Halt<Fault>>
+    requires { MayRead F.Folder folder.old (LooksFor paths.now (ItemsAsk (plain_items items))) }
     ensures read { IfSome (F.files folder.old) (λ files.
         Yields result (λ answer. items_given answer ≡ items_read paths.now files mark known.now (plain_items items))) }
     ensures within { (files : ℕ) → AreItemsWithin files (plain_items items) → IfOk result (λ made. AreItemsWithin files (plain_items made)) }
@@ -49,6 +53,7 @@ fn read_items<F: Folder>(
     mark: Mark,
     known: &Facts,
 ) -> Result<Items, Halt<Fault>>
+    requires { MayRead F.Folder folder.old (LooksFor paths.now (ItemsAsk (plain_items items))) }
     ensures read { IfSome (F.files folder.old) (λ files.
         Yields result (λ answer. items_given answer ≡ items_read paths.now files mark known.now (plain_items items))) }
     ensures within { (files : ℕ) → AreItemsWithin files (plain_items items) → IfOk result (λ made. AreItemsWithin files (plain_items made)) }
@@ -75,6 +80,7 @@ fn read_item<F: Folder>(
     mark: Mark,
     known: &Facts,
 ) -> Result<Item, Halt<Fault>>
+    requires { MayRead F.Folder folder.old (LooksFor paths.now (ItemAsks (plain_item item))) }
     ensures read { IfSome (F.files folder.old) (λ files. Yields result (λ answer. item_given answer ≡ item_read paths.now files mark known.now (plain_item item))) }
     ensures within { (files : ℕ) → IsItemWithin files (plain_item item) → IfOk result (λ made. IsItemWithin files (plain_item made)) }
     ensures nameable { (files : ℕ) → mark.file < files → OnRefusal result (IsNameable files) }

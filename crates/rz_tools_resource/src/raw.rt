@@ -4,6 +4,9 @@ ghost use Rattle.std.specs.Prelude.{◌≡◌, ◌<◌, ℕ, length, IfOk, IfSom
 ghost use Rattle.rz_core.specs.Message.{IsNameable};
 ghost use Rattle.rz_stmt_data.specs.Raw.{raw_of};
 ghost use Rattle.rz_types_fields.specs.Text.{plain_parts};
+ghost use Rattle.rz_folder.specs.MayRead.{MayRead};
+ghost use Rattle.rz_folder_paths.specs.Names.{LooksFor};
+ghost use Rattle.rz_tools_values.specs.Asked.{TextsAsk};
 ghost use Rattle.rz_folder.specs.OnlyReads.{OnlyReads};
 ghost use Rattle.rz_core.specs.Stop.{IsReadFault, OnRefusal, Yields};
 ghost use Rattle.rz_tools_values.specs.Around.{around};
@@ -31,6 +34,7 @@ pub fn resource_of<F: Folder>(
     mark: Mark,
     setting: Setting,
 ) -> Result<Resource, Halt<Fault>>
+    requires { MayRead F.Folder folder.old (LooksFor paths.now (TextsAsk (raw_of raw).texts)) }
     ensures resource { IfSome (F.files folder.old) (λ files. Yields result (λ answer. answer ≡ resource_of (around setting paths.now files) mark (raw_of raw))) }
     ensures named { IfOk result (λ resource. length resource.name < 256) }
     ensures nameable { (files : ℕ) → mark.file < files → OnRefusal result (IsNameable files) }
@@ -58,6 +62,7 @@ fn with_text<F: Folder>(
     mark: Mark,
 ) -> Result<Resource, Halt<Fault>>
     requires named { length known.name < 256 }
+    requires may { MayRead F.Folder folder.old (LooksFor paths.now (TextsAsk (plain_parts texts))) }
     ensures resource { IfSome (F.files folder.old) (λ files. Yields result (λ answer. answer ≡ with_text paths.now files mark (plain_parts texts) known)) }
     ensures named { IfOk result (λ resource. length resource.name < 256) }
     ensures nameable { (files : ℕ) → mark.file < files → OnRefusal result (IsNameable files) }
@@ -78,6 +83,7 @@ fn contents_read<F: Folder>(
     mark: Mark,
     known: &Facts,
 ) -> Result<Bytes, Halt<Fault>>
+    requires { MayRead F.Folder folder.old (LooksFor paths.now (TextsAsk (plain_parts texts))) }
     ensures contents { IfSome (F.files folder.old) (λ files.
         Yields result (λ answer. answer ≡ contents_read paths.now files mark known.now (plain_parts texts))) }
     ensures nameable { (files : ℕ) → mark.file < files → OnRefusal result (IsNameable files) }
@@ -98,6 +104,7 @@ fn with_files<F: Folder>(
     mark: Mark,
     known: &Facts,
 ) -> Result<Texts, Halt<Fault>>
+    requires { MayRead F.Folder folder.old (LooksFor paths.now (TextsAsk (plain_parts texts))) }
     ensures read { IfSome (F.files folder.old) (λ files.
         Yields result (λ answer. texts_given answer ≡ texts_read paths.now files mark known.now (plain_parts texts))) }
     ensures nameable { (files : ℕ) → mark.file < files → OnRefusal result (IsNameable files) }

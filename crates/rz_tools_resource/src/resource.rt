@@ -3,6 +3,9 @@
 ghost use Rattle.std.specs.Prelude.{◌≡◌, ◌<◌, ℕ, true, length, option_map, IfOk, IfSome};
 ghost use Rattle.rz_core.specs.Stop.{Meets, OnFault, IsReadFault, OnRefusal, Yields};
 ghost use Rattle.rz_core.specs.Message.{IsNameable};
+ghost use Rattle.rz_folder.specs.MayRead.{MayRead};
+ghost use Rattle.rz_folder_paths.specs.Names.{LooksFor};
+ghost use Rattle.rz_tools_resource.specs.Asked.{ItemsAsk};
 ghost use Rattle.rz_folder.specs.OnlyReads.{OnlyReads};
 ghost use Rattle.rz_stmt_items.specs.Compile.{compile_of};
 ghost use Rattle.rz_stmt_items.specs.Item.{plain_items};
@@ -40,6 +43,7 @@ pub fn resource_of_items<F: Folder>(
     setting: Setting,
     types: &TypeTable,
 ) -> Result<Resource, Halt<Fault>>
+    requires { MayRead F.Folder folder.old (LooksFor paths.now (ItemsAsk (compile_of stmt).items)) }
     ensures resource { IfSome (F.files folder.old) (λ files. Yields result (IsResource (around setting paths.now files) mark (table_of types.now) (compile_of stmt))) }
     ensures named { IfOk result (λ resource. length resource.name < 256) }
     ensures nameable { (files : ℕ) → mark.file < files → AreItemsWithin files (plain_items stmt.items) → OnRefusal result (IsNameable files) }
@@ -65,6 +69,7 @@ fn bytes_of<F: Folder>(
     known: &Facts,
     types: &TypeTable,
 ) -> Result<Bytes, Halt<Fault>>
+    requires { MayRead F.Folder folder.old (LooksFor paths.now (ItemsAsk (plain_items items))) }
     ensures bytes { IfSome (F.files folder.old) (λ files. Yields result (AreBytes paths.now files mark (table_of types.now) (plain_items items) known.now)) }
     ensures nameable { (files : ℕ) → mark.file < files → AreItemsWithin files (plain_items items) → OnRefusal result (IsNameable files) }
     ensures reads { OnlyReads F.Folder folder.old folder.new (IsReadFault result) }
@@ -93,6 +98,7 @@ fn bytes_read<F: Folder>(
     known: &Facts,
     template: &Template,
 ) -> Result<Bytes, Halt<Fault>>
+    requires { MayRead F.Folder folder.old (LooksFor paths.now (ItemsAsk (plain_items items))) }
     ensures bytes { IfSome (F.files folder.old) (λ files. Yields result (AreReadBytes paths.now files mark known.now (plain_items items) (template_of template.now))) }
     ensures nameable { (files : ℕ) → mark.file < files → AreItemsWithin files (plain_items items) → OnRefusal result (IsNameable files) }
     ensures reads { OnlyReads F.Folder folder.old folder.new (IsReadFault result) }

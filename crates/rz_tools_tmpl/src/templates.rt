@@ -5,6 +5,7 @@ ghost use Rattle.std.specs.FinMap as finite;
 ghost use Rattle.rz_core.specs.Message.{IsNameable};
 ghost use Rattle.rz_core.specs.Stop.{seen, IsReadFault, OnRefusal, Yields};
 ghost use Rattle.rz_bridge_files.specs.Contents.{fork_in};
+ghost use Rattle.rz_folder.specs.MayRead.{IsIt, MayRead};
 ghost use Rattle.rz_folder.specs.OnlyReads.{OnlyReads};
 ghost use Rattle.rz_types_table.specs.TypeTable.{table_of};
 ghost use Rattle.rz_tools_tmpl.specs.Templates.{TypesAt, TypesIn, TypesOf};
@@ -20,7 +21,7 @@ use std::alloc::Global;
 /// The types that the 'TMPL' resources of the file of this name declare, in map order; none where no file is named. The form
 /// of the file is found. The name of such a resource is the type that it declares, for any id; one whose name isn't four
 /// bytes declares nothing, and so does one that has an entry of an unknown code (452), as ResEdit has more codes. Of several
-/// for one type the last counts. No file changes.
+/// for one type the last counts. No file changes, and no other file is read.
 ///
 /// Refused, without a mark, with 101 where no file has the name (kept: the name), then with the first rule that the form and
 /// then the fork of the file break, as [`file_in`] and [`admit_fork`] say, and then with the first fault of the templates in
@@ -34,6 +35,7 @@ pub fn read_templates<F: Folder>(
     folder: &mut F,
     name: Option<&str>,
 ) -> Result<TypeTable, Halt<Fault>>
+    requires { MayRead F.Folder folder.old (IsIt (option_map (λ name. name.now) name)) }
     ensures types { IfSome (F.files folder.old) (λ files. Yields (seen table_of result) (TypesOf (option_map (λ name. name.now) name.entry) files)) }
     ensures nameable { (files : ℕ) → OnRefusal result (IsNameable files) }
     ensures reads { OnlyReads F.Folder folder.old folder.new (IsReadFault result) }
@@ -50,6 +52,7 @@ fn templates_at<F: Folder>(
     folder: &mut F,
     name: &str,
 ) -> Result<TypeTable, Halt<Fault>>
+    requires { F.may_read folder.old name.now }
     ensures types { IfSome (F.files folder.old) (λ files. Yields (seen table_of result) (TypesAt name.now (finite.get files name.now))) }
     ensures nameable { (files : ℕ) → OnRefusal result (IsNameable files) }
     ensures reads { OnlyReads F.Folder folder.old folder.new (IsReadFault result) }

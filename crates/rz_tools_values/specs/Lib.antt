@@ -1,4 +1,5 @@
 pub mod Around
+pub mod Asked
 pub mod Chosen
 pub mod Contents
 pub mod Files

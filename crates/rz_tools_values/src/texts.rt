@@ -4,6 +4,9 @@ ghost use Rattle.std.specs.Prelude.{◌≡◌, ◌<◌, ◌^◌, ℕ, length, If
 ghost use Rattle.rz_core.specs.Message.{IsNameable};
 ghost use Rattle.rz_core.specs.Stop.{Gives, OnFault, IsReadFault, OnRefusal, Yields};
 ghost use Rattle.rz_types_fields.specs.Text.{arguments_of, plain_argument, plain_arguments, plain_key, plain_part, plain_parts, Format};
+ghost use Rattle.rz_folder.specs.MayRead.{IsOneOf, MayRead};
+ghost use Rattle.rz_folder_paths.specs.Names.{names_of, utf8_name, LooksFor};
+ghost use Rattle.rz_tools_values.specs.Asked.{ArgumentAsks, ArgumentsAsk, PartAsks, TextsAsk};
 ghost use Rattle.rz_folder.specs.OnlyReads.{OnlyReads};
 ghost use Rattle.rz_tools_values.specs.Lent.{lent_one};
 ghost use Rattle.rz_tools_values.specs.Texts.{argument_given, argument_read, arguments_given, arguments_read, bytes_chosen, bytes_in, bytes_of_one, key_said, part_given, part_read, resource_bytes, resource_named, texts_given, texts_read};
@@ -22,7 +25,8 @@ use std::alloc::Global;
 /// arguments of formats too, from left to right, where of the resource so much is known. The first fault is the answer:
 /// 101 where a file stands neither under its name nor after a path (kept: the name); of a `$$Resource` before it 211,
 /// 215 and 204 of its id, and 211, 215 and 222 of its name, and after it the first rule that the form or the fork breaks,
-/// and 218 where it has no such resource (kept: the type and the id, or the name). No file changes. (MPW Rez.)
+/// and 218 where it has no such resource (kept: the type and the id, or the name). No file changes, and none is read that
+/// no part names. (MPW Rez.)
 #[cycle(texts)]
 pub fn read_texts<F: Folder>(
     alloc: Global,
@@ -32,6 +36,7 @@ pub fn read_texts<F: Folder>(
     mark: Mark,
     known: &Facts,
 ) -> Result<Texts, Halt<Fault>>
+    requires { MayRead F.Folder folder.old (LooksFor paths.now (TextsAsk (plain_parts texts))) }
     ensures read { IfSome (F.files folder.old) (λ files.
         Yields result (λ answer. texts_given answer ≡ texts_read paths.now files mark known.now (plain_parts texts))) }
     ensures nameable { (files : ℕ) → mark.file < files → OnRefusal result (IsNameable files) }
@@ -57,6 +62,7 @@ fn read_part<F: Folder>(
     mark: Mark,
     known: &Facts,
 ) -> Result<TextPart, Halt<Fault>>
+    requires { MayRead F.Folder folder.old (LooksFor paths.now (PartAsks (plain_part part))) }
     ensures read { IfSome (F.files folder.old) (λ files.
         Yields result (λ answer. part_given answer ≡ part_read paths.now files mark known.now (plain_part part))) }
     ensures nameable { (files : ℕ) → mark.file < files → OnRefusal result (IsNameable files) }
@@ -111,6 +117,7 @@ fn read_arguments<F: Folder>(
     mark: Mark,
     known: &Facts,
 ) -> Result<FormatArgs, Halt<Fault>>
+    requires { MayRead F.Folder folder.old (LooksFor paths.now (ArgumentsAsk (arguments_of (plain_arguments arguments)))) }
     ensures read { IfSome (F.files folder.old) (λ files.
         Yields result (λ answer. arguments_given answer ≡ arguments_read paths.now files mark known.now (arguments_of (plain_arguments arguments)))) }
     ensures nameable { (files : ℕ) → mark.file < files → OnRefusal result (IsNameable files) }
@@ -136,6 +143,7 @@ fn read_argument<F: Folder>(
     mark: Mark,
     known: &Facts,
 ) -> Result<FormatArg, Halt<Fault>>
+    requires { MayRead F.Folder folder.old (LooksFor paths.now (ArgumentAsks (plain_argument argument))) }
     ensures read { IfSome (F.files folder.old) (λ files.
         Yields result (λ answer. argument_given answer ≡ argument_read paths.now files mark known.now (plain_argument argument))) }
     ensures nameable { (files : ℕ) → mark.file < files → OnRefusal result (IsNameable files) }
@@ -161,6 +169,7 @@ fn resource_named<F: Folder>(
     mark: Mark,
     known: &Facts,
 ) -> Result<Bytes, Halt<Fault>>
+    requires { MayRead F.Folder folder.old (IsOneOf (names_of paths.now (utf8_name name.now))) }
     ensures read { IfSome (F.files folder.old) (λ files.
         Yields result (λ answer. answer ≡ resource_named paths.now files mark known.now name.now kind (plain_key key.now))) }
     ensures nameable { (files : ℕ) → mark.file < files → OnRefusal result (IsNameable files) }
@@ -182,6 +191,7 @@ fn resource_bytes<F: Folder>(
     pick: &Pick,
     mark: Mark,
 ) -> Result<Bytes, Halt<Fault>>
+    requires { MayRead F.Folder folder.old (IsOneOf (names_of paths.now (utf8_name name.now))) }
     ensures read { IfSome (F.files folder.old) (λ files. Yields result (λ answer. answer ≡ resource_bytes paths.now files mark name.now kind pick.now)) }
     ensures nameable { (files : ℕ) → mark.file < files → OnRefusal result (IsNameable files) }
     ensures reads { OnlyReads F.Folder folder.old folder.new (IsReadFault result) }

@@ -6,3 +6,4 @@ pub mod Puts
 pub mod Renamings
 pub mod Asked
 pub mod Included
+pub mod Lone

@@ -8,3 +8,4 @@ pub mod Change
 pub mod Read
 pub mod Include
 pub mod Lists
+pub mod Asked

@@ -3,6 +3,8 @@
 ghost use Rattle.std.specs.Prelude.{◌≡◌, ◌<◌, ◌^◌, ℕ, length, None, Some, IfOk, IfSome};
 ghost use Rattle.rz_core.specs.Message.{IsNameable};
 ghost use Rattle.rz_core.specs.Stop.{Gives, OnFault, IsReadFault, OnRefusal, Yields, left, Meets};
+ghost use Rattle.rz_folder.specs.MayRead.{IsOneOf, MayRead};
+ghost use Rattle.rz_folder_paths.specs.Names.{names_of, utf8_name};
 ghost use Rattle.rz_folder.specs.OnlyReads.{OnlyReads};
 ghost use Rattle.rz_stmt_lists.specs.Include.{include_of, part_of};
 ghost use Rattle.rz_set.specs.After.{HasShortName};
@@ -41,7 +43,8 @@ pub struct Asked {
 /// path (kept: the name); the first rule that the form or the fork breaks; of the ids of the pick 211, 215 and 204; 218
 /// for a pick by id or name that chooses none; the faults of the head, as `new_head` says; and 219 for a protected
 /// resource that would be replaced, where protected ones aren't given up (kept: its type and id). Up to there no
-/// resource is copied, but for the name of a picked one while its head is computed. No file changes. (MPW Rez.)
+/// resource is copied, but for the name of a picked one while its head is computed. No file changes, and no other file is
+/// read. (MPW Rez.)
 pub fn include_resources<F: Folder>(
     alloc: Global,
     folder: &mut F,
@@ -51,6 +54,7 @@ pub fn include_resources<F: Folder>(
     setting: Setting,
     resources: &mut ResSet,
 ) -> Result<(), Halt<Fault>>
+    requires { MayRead F.Folder folder.old (IsOneOf (names_of paths.now (utf8_name (include_of stmt.now).file))) }
     ensures included { IfSome (F.files folder.old) (λ files.
         Yields (left resources.new result) (λ answer. answer ≡ list_including (around setting paths.now files) mark resources.old (include_of stmt.now))) }
     ensures nameable { (files : ℕ) → mark.file < files → OnRefusal result (IsNameable files) }

@@ -1,17 +1,17 @@
 //! The resources of a fork, which are lent, as an `include` statement puts them: which of them, and copies of those alone.
 //! What is left of the list is `after_include` of `rz_set`.
 
-ghost use Rattle.std.specs.Prelude.{◌≡◌, filter, map, option_map, IfOk, IfErr, None, Some};
+ghost use Rattle.std.specs.Prelude.{◌≡◌, ◌<◌, filter, length, map, IfOk, IfErr, None, Some};
 ghost use Rattle.std.specs.List.{flat_map};
 ghost use Rattle.std.specs.Option.{option_copied};
 ghost use Rattle.rz_fork.specs.View.{lent};
-ghost use Rattle.rz_set.specs.After.{after_include, forbidden, replaced, under, under_head, HasShortName, Leaves};
-ghost use Rattle.rz_set.specs.Choice.{included, key_pair, missing_choice, the_choice};
+ghost use Rattle.rz_set.specs.After.{after_include, after_put, forbidden, replaced, under, under_head, HasShortName, Leaves};
+ghost use Rattle.rz_set.specs.Choice.{included, missing_choice, the_choice};
 ghost use Rattle.rz_set.specs.ResSet.{AreNamed};
 ghost use Rattle.rz_set.specs.Wanted.{is_included};
 ghost use Rattle.rz_tools_values.specs.Lent.{lent_one};
 
-use rz_core::{Bytes, NoMemory, OsType, Resource, Stop};
+use rz_core::{Bytes, NoMemory, Resource, Stop};
 use rz_fork::{ForkView, ResView};
 use rz_set::{Choice, Head, Included, ResSet, SetFault, included_as};
 use rz_tools_values::picked_in;
@@ -21,7 +21,7 @@ use std::alloc::Global;
 /// head in place of its own, where the head has them; no other is copied. A pick by id or name that chooses none is
 /// refused, and then one by which a protected resource of the list would be replaced, where protected ones aren't given
 /// up; both before anything is copied. After a refusal, and where memory is refused, the list is unchanged. It goes at
-/// most three times over the fork. (MPW Rez.)
+/// most twice over the fork, and for a pick by id or name up to the resource that it finds. (MPW Rez.)
 pub fn include_lent(
     alloc: Global,
     fork: &ForkView<'_>,
@@ -30,6 +30,56 @@ pub fn include_lent(
     over: bool,
     resources: &mut ResSet,
 ) -> Result<(), Stop<SetFault>>
+    requires named { AreNamed fork.now.list }
+    requires head { HasShortName (option_copied head) }
+    ensures { Leaves resources.old (after_include fork.now.list choice.now (option_copied head.entry) over resources.old) result resources.new }
+{
+    fork.keys_differ();
+    match chosen_in(fork, choice) {
+        Some(one) => include_one(alloc, &one, head, over, resources),
+        None => include_each(alloc, fork, choice, head, over, resources),
+    }
+}
+
+/// The resource of a fork that the pick by id or name of a choice finds, if there is one.
+fn chosen_in<'a>(fork: &ForkView<'a>, choice: &Choice) -> Option<ResView<'a>>
+    ensures { lent_one result ≡ the_choice choice.now fork.now.list }
+{
+    match choice {
+        Choice::All | Choice::Except(_) => None,
+        Choice::Chosen(kind, pick) => picked_in(fork, *kind, pick),
+    }
+}
+
+/// Puts a copy of one lent resource under a head into the list.
+fn include_one(
+    alloc: Global,
+    one: &ResView<'_>,
+    head: Option<&Head>,
+    over: bool,
+    resources: &mut ResSet,
+) -> Result<(), Stop<SetFault>>
+    requires { length (under (option_copied head) (lent one.now)).name < 256 }
+    ensures { Leaves resources.old (after_put over (under (option_copied head.entry) (lent one.now)) resources.old) result resources.new }
+{
+    if let Some(fault) = forbidden_by(one, head, over, resources) {
+        return Err(Stop::Refused(fault));
+    }
+    let copy = copy_under(alloc, one, head)?;
+    resources.put(copy, over)
+}
+
+/// Puts copies of the resources of a fork that a choice includes under a head into the list, where the choice has no pick by
+/// id or name, or one that finds nothing and is refused.
+fn include_each(
+    alloc: Global,
+    fork: &ForkView<'_>,
+    choice: &Choice,
+    head: Option<&Head>,
+    over: bool,
+    resources: &mut ResSet,
+) -> Result<(), Stop<SetFault>>
+    requires none { the_choice choice.now fork.now.list ≡ None }
     requires named { AreNamed fork.now.list }
     requires head { HasShortName (option_copied head) }
     ensures { Leaves resources.old (after_include fork.now.list choice.now (option_copied head.entry) over resources.old) result resources.new }
@@ -45,33 +95,14 @@ pub fn include_lent(
     resources.put_each(news, over)
 }
 
-/// Which resources of a fork are included, by type and id, or that there is no such resource.
+/// Which resources of a fork are included, by type and id, where no pick by id or name finds one; such a pick is refused.
 fn included_in(fork: &ForkView<'_>, choice: &Choice) -> Result<Included, SetFault>
+    requires { the_choice choice.now fork.now.list ≡ None }
     ensures included { IfOk result (λ test. filter (is_included test) fork.now.list ≡ included choice.now fork.now.list) }
     ensures there { IfOk result (λ test. missing_choice choice.now fork.now.list ≡ None) }
     ensures missing { IfErr result (λ fault. missing_choice choice.now fork.now.list ≡ Some fault) }
 {
-    included_as(choice, key_in(fork, choice))
-}
-
-/// The type and the id of the resource of a fork that the pick by id or name of a choice finds, if there is one.
-fn key_in(fork: &ForkView<'_>, choice: &Choice) -> Option<(OsType, i16)>
-    ensures { result ≡ option_map key_pair (the_choice choice.now fork.now.list) }
-{
-    match choice {
-        Choice::All | Choice::Except(_) => None,
-        Choice::Chosen(kind, pick) => key_of(&picked_in(fork, *kind, pick)),
-    }
-}
-
-/// The type and the id of a lent resource, if there is one.
-fn key_of(one: &Option<ResView<'_>>) -> Option<(OsType, i16)>
-    ensures { result ≡ option_map key_pair (lent_one one.now) }
-{
-    match one {
-        Some(one) => Some((one.kind, one.id)),
-        None => None,
-    }
+    included_as(choice, None)
 }
 
 /// The first protected resource of the list that an included one of a fork would replace, if it may not be. It takes no

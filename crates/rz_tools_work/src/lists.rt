@@ -2,6 +2,9 @@
 
 ghost use Rattle.std.specs.Prelude.{◌≡◌, ◌<◌, ℕ, IfSome};
 ghost use Rattle.rz_core.specs.Message.{IsNameable};
+ghost use Rattle.rz_folder.specs.MayRead.{MayRead};
+ghost use Rattle.rz_folder_paths.specs.Names.{LooksFor};
+ghost use Rattle.rz_tools_work.specs.Asked.{ListAsks};
 ghost use Rattle.rz_folder.specs.OnlyReads.{OnlyReads};
 ghost use Rattle.rz_stmt_lists.specs.Lists.{list_of};
 ghost use Rattle.rz_core.specs.Stop.{IsReadFault, OnRefusal, left, Yields};
@@ -41,6 +44,7 @@ pub fn list_step<F: Folder>(
     setting: Setting,
     resources: &mut ResSet,
 ) -> Result<(), Halt<Fault>>
+    requires { MayRead F.Folder folder.old (LooksFor paths.now (ListAsks (list_of stmt.now))) }
     ensures stepped { IfSome (F.files folder.old) (λ files.
         Yields (left resources.new result) (λ answer. answer ≡ list_after (around setting paths.now files) mark resources.old (list_of stmt.now))) }
     ensures nameable { (files : ℕ) → mark.file < files → OnRefusal result (IsNameable files) }

@@ -2,6 +2,8 @@
 
 ghost use Rattle.std.specs.Prelude.{◌≡◌, ◌<◌, ℕ, length, IfOk, IfSome};
 ghost use Rattle.rz_core.specs.Message.{IsNameable};
+ghost use Rattle.rz_folder.specs.MayRead.{IsOneOf, MayRead};
+ghost use Rattle.rz_folder_paths.specs.Names.{names_of, utf8_name};
 ghost use Rattle.rz_folder.specs.OnlyReads.{OnlyReads};
 ghost use Rattle.rz_stmt_lists.specs.Read.{read_of};
 ghost use Rattle.rz_core.specs.Stop.{IsReadFault, OnRefusal, Yields, halted, left};
@@ -21,7 +23,7 @@ use std::alloc::Global;
 /// Does what a `read` statement on this line says: the whole file, as it is, becomes a resource with this head, and is put
 /// into the list. The first fault is the answer: those of the head, as `facts_of` says; 101 where the file stands neither
 /// under its name nor after a path (kept: the name); 301 for more than 16,777,212 bytes; and 219 for a protected resource
-/// with its type and id, where protected ones aren't given up. No file changes. (MPW Rez.)
+/// with its type and id, where protected ones aren't given up. No file changes, and no other file is read. (MPW Rez.)
 pub fn read_resource<F: Folder>(
     alloc: Global,
     folder: &mut F,
@@ -31,6 +33,7 @@ pub fn read_resource<F: Folder>(
     setting: Setting,
     resources: &mut ResSet,
 ) -> Result<(), Halt<Fault>>
+    requires { MayRead F.Folder folder.old (IsOneOf (names_of paths.now (utf8_name (read_of stmt.now).file))) }
     ensures read { IfSome (F.files folder.old) (λ files.
         Yields (left resources.new result) (λ answer. answer ≡ list_reading (around setting paths.now files) mark resources.old (read_of stmt.now))) }
     ensures nameable { (files : ℕ) → mark.file < files → OnRefusal result (IsNameable files) }
@@ -51,6 +54,7 @@ fn resource_read<F: Folder>(
     mark: Mark,
     setting: Setting,
 ) -> Result<Resource, Halt<Fault>>
+    requires { MayRead F.Folder folder.old (IsOneOf (names_of paths.now (utf8_name (read_of stmt.now).file))) }
     ensures read { IfSome (F.files folder.old) (λ files. Yields result (λ answer. answer ≡ resource_read (around setting paths.now files) mark (read_of stmt.now))) }
     ensures named { IfOk result (λ resource. length resource.name < 256) }
     ensures nameable { (files : ℕ) → mark.file < files → OnRefusal result (IsNameable files) }
@@ -72,6 +76,7 @@ fn with_file<F: Folder>(
     mark: Mark,
 ) -> Result<Resource, Halt<Fault>>
     requires named { length known.name < 256 }
+    requires may { MayRead F.Folder folder.old (IsOneOf (names_of paths.now (utf8_name name.now))) }
     ensures read { IfSome (F.files folder.old) (λ files. Yields result (λ answer. answer ≡ with_file paths.now files mark name.now known)) }
     ensures named { IfOk result (λ resource. length resource.name < 256) }
     ensures nameable { (files : ℕ) → mark.file < files → OnRefusal result (IsNameable files) }
@@ -91,6 +96,7 @@ fn contents_named<F: Folder>(
     name: &[u8],
     mark: Mark,
 ) -> Result<Bytes, Halt<Fault>>
+    requires { MayRead F.Folder folder.old (IsOneOf (names_of paths.now (utf8_name name.now))) }
     ensures read { IfSome (F.files folder.old) (λ files. Yields result (λ answer. answer ≡ contents_named paths.now files mark name.now)) }
     ensures nameable { (files : ℕ) → mark.file < files → OnRefusal result (IsNameable files) }
     ensures reads { OnlyReads F.Folder folder.old folder.new (IsReadFault result) }

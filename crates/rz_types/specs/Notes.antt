@@ -1,12 +1,14 @@
 -- What the notes of a walk over a declaration tell: which names are known. (MPW Rez.)
-use Rattle.std.specs.Prelude.{Bool, ◌&&◌, ◌||◌, not, if◌then◌else◌, List, [], ◌∷◌, Option, Some, None}
-use Rattle.rz_core.specs.Lists.{or_else}
-use Rattle.rz_expr.specs.Environment.{count_key, place_key, rows_key, Key}
-use Rattle.rz_expr.specs.Term.{BitsAt, Constant, FactOf, Indexed, Named, OfOne, OfTwo, RowNumber, RowsOf, Term}
+use Rattle.std.specs.Prelude.{Bool, ◌&&◌, ◌||◌, not, if◌then◌else◌, List, [], ◌∷◌, Option, option_and_then}
+use Rattle.std.specs.List.{find}
+use Rattle.rz_expr.specs.Environment.{Key}
+use Rattle.rz_expr.specs.Mention.{key_mentioned, mentions}
+use Rattle.rz_expr.specs.Term.{Term}
 use Rattle.rz_types_fields.specs.Field.{plain_body, plain_field, PlainBody, PlainField}
 use Rattle.rz_types_fields.specs.Solve.{is_same_key}
 use Rattle.rz_types_fields.specs.Passed.{at_field, at_front, between, declares, gives_key, is_known, met_behind, nothing_passed, states, Names, Passed}
 use Rattle.rz_expr.specs.NameKey.{key_of}
+use Rattle.rz_types.specs.Readable.{is_known_there}
 use Rattle.rz_types.specs.declared.passed.Note.{Note}
 use Rattle.rz_types.specs.declared.passed.Note.TheVariants.{Front, Met, Told}
 
@@ -52,19 +54,6 @@ telling (Met field) key before = before
 telling (Told one) key before = is_same_key (key_of one) key || before
 telling (Front row) key before = if declares (plain_body row.now) key then states (plain_body row.now) key else before
 
--- the name, where it isn't known
-abbrev pub if_unknown : Names → Key → Option Key
-if_unknown known key = if known key then None else Some key
-
 -- the first name in an expression that isn't known, or isn't met where bits are asked for at it
 abbrev pub first_unknown : (met known : Names) → Term → Option Key
-first_unknown met known (Constant number) = None
-first_unknown met known (Named name) = if_unknown known (place_key name)
-first_unknown met known (Indexed name index) = or_else (if_unknown known (rows_key name)) (first_unknown met known index)
-first_unknown met known (RowsOf name) = if_unknown known (count_key name)
-first_unknown met known (RowNumber name) = None
-first_unknown met known (BitsAt name start width) =
-    or_else (if_unknown met (place_key name)) (or_else (first_unknown met known start) (first_unknown met known width))
-first_unknown met known (FactOf which) = None
-first_unknown met known (OfOne op operand) = first_unknown met known operand
-first_unknown met known (OfTwo op left right) = or_else (first_unknown met known left) (first_unknown met known right)
+first_unknown met known term = option_and_then key_mentioned (find (λ one. not (is_known_there met known one)) (mentions term))

@@ -1,14 +1,15 @@
 -- Which declarations can be read: those by which the bytes of a resource say where each field ends, and how many rows each
 -- array has. (Inside Macintosh: More Macintosh Toolbox, Resource Manager; MPW Rez.)
 use Rattle.std.specs.Prelude.{ℕ, ◌+◌, ◌*◌, min, ℤ, nat_abs, nat_le, Bool, true, false, ◌&&◌, ◌||◌, List, [], ◌∷◌, Option, Some, None}
-use Rattle.std.specs.List.{list_all}
+use Rattle.std.specs.List.{list_all, list_any}
 use Rattle.std.specs.Option.{is_some, unwrap_or}
 use Rattle.rz_core.specs.declared.resource.Word.{Word}
 use Rattle.rz_expr.specs.Environment.{count_key, place_key, rows_key, Key}
-use Rattle.rz_expr.specs.Term.{BitsAt, Constant, FactOf, Indexed, Named, OfOne, OfTwo, RowNumber, RowsOf, Term}
+use Rattle.rz_expr.specs.Mention.{alone, counted, indexed, mentions, with_bits, Mention}
+use Rattle.rz_expr.specs.Term.{Term}
 use Rattle.rz_types_fields.specs.Field.{case_and, field_and, no_cases, no_fields, Align, Array, Fill, Label, Number, PlainBody, PlainCases, PlainField, PlainText, Points, Switch, Text}
 use Rattle.rz_types_fields.specs.Shape.{numbers_of}
-use Rattle.rz_types_fields.specs.Solve.{can_solve, is_same_key}
+use Rattle.rz_types_fields.specs.Solve.{can_solve, is_same_key, keys_in}
 use Rattle.rz_types_fields.specs.Passed.{at_field, at_front, behind, behind_piece, declares, is_known, nothing_passed, Names, Passed}
 use Rattle.rz_types_fields.specs.Piece.{pieces_of, terms_of_text, Filler, OneNumber, OneText, Piece, Place, Zeros}
 use Rattle.rz_types_fields.specs.Width.{fixed_width, fixed_widths, text_width}
@@ -56,34 +57,25 @@ abbrev mutual
 
 -- Names that an expression has.
 
--- all of them are known, and bits are asked for only at labels that are met; the number of a row around always is
+-- it is known; a label at which bits are asked for is met; the number of a row around always is known, and so is a fact
+abbrev pub is_known_there : (met known : Names) → Mention → Bool
+is_known_there met known (alone name) = known (place_key name)
+is_known_there met known (indexed name) = known (rows_key name)
+is_known_there met known (counted name) = known (count_key name)
+is_known_there met known (with_bits name) = met (place_key name)
+is_known_there met known other = true
+
+-- all of them are
 abbrev pub all_known : (met known : Names) → Term → Bool
-all_known met known (Constant number) = true
-all_known met known (Named name) = known (place_key name)
-all_known met known (Indexed name index) = known (rows_key name) && all_known met known index
-all_known met known (RowsOf name) = known (count_key name)
-all_known met known (RowNumber name) = true
-all_known met known (BitsAt name start width) = met (place_key name) && all_known met known start && all_known met known width
-all_known met known (FactOf which) = true
-all_known met known (OfOne op operand) = all_known met known operand
-all_known met known (OfTwo op left right) = all_known met known left && all_known met known right
+all_known met known term = list_all (is_known_there met known) (mentions term)
 
 -- it has no other unknown name than this, which is given by a field after it in its body, and can be solved
 abbrev pub tells : PlainBody → (met known : Names) → Term → Key → Bool
 tells rest met known term key = declares rest key && can_solve key term && all_known met (λ other. is_same_key key other || known other) term
 
 -- one of its names is so
-abbrev pub tells_one : PlainBody → (met known : Names) → Term → Term → Bool
-tells_one rest met known whole (Constant number) = false
-tells_one rest met known whole (Named name) = tells rest met known whole (place_key name)
-tells_one rest met known whole (Indexed name index) = tells_one rest met known whole index
-tells_one rest met known whole (RowNumber name) = false
-tells_one rest met known whole (RowsOf name) = tells rest met known whole (count_key name)
-tells_one rest met known whole (BitsAt name start width) =
-    tells rest met known whole (place_key name) || tells_one rest met known whole start || tells_one rest met known whole width
-tells_one rest met known whole (FactOf which) = false
-tells_one rest met known whole (OfOne op operand) = tells_one rest met known whole operand
-tells_one rest met known whole (OfTwo op left right) = tells_one rest met known whole left || tells_one rest met known whole right
+abbrev pub tells_one : PlainBody → (met known : Names) → Term → Bool
+tells_one rest met known term = list_any (tells rest met known term) (keys_in term)
 
 -- Fields.
 
@@ -91,7 +83,7 @@ tells_one rest met known whole (OfTwo op left right) = tells_one rest met known 
 abbrev pub is_number_read : PlainBody → Passed → Option Term → Bool
 is_number_read rest passed None = true
 is_number_read rest passed (Some term) =
-    all_known passed.met (is_known passed) term || tells_one rest passed.met (is_known passed) term term
+    all_known passed.met (is_known passed) term || tells_one rest passed.met (is_known passed) term
 
 -- the end of the resource ends a field: of the outermost body, with only fields of fixed width after it
 abbrev pub ends_at_end : (outermost : Bool) → PlainBody → Bool

@@ -1,6 +1,6 @@
 -- The rules of type declarations, and the first that a body breaks. (MPW Rez.)
-use Rattle.std.specs.Prelude.{◌≡◌, ◌⊎◌, ℕ, ◌==◌, min, ℤ, pos, Bool, true, false, not, ◌||◌, if◌then◌else◌, List, [], ◌∷◌, ◌++◌, map, Option, Some, None, option_map}
-use Rattle.std.specs.List.{AllByRecursion, list_any}
+use Rattle.std.specs.Prelude.{◌≡◌, ◌⊎◌, ℕ, ◌==◌, min, ℤ, pos, Bool, true, false, not, ◌||◌, if◌then◌else◌, List, [], ◌∷◌, ◌++◌, map, Option, Some, None, option_and_then, option_map}
+use Rattle.std.specs.List.{find, list_any, AllByRecursion}
 use Rattle.std.specs.Option.{is_none, is_some}
 use Rattle.std.specs.declared.result.Result.{Result}
 use Rattle.rz_core.specs.Lists.{first_in, first_of, or_else, unless_fault}
@@ -9,7 +9,8 @@ use Rattle.rz_core.specs.declared.fault.Kept.TheVariants as kept
 use Rattle.rz_core.specs.declared.resource.Word.{Word}
 use Rattle.rz_expr.specs.Constant.{constant_of}
 use Rattle.rz_expr.specs.Environment.{predefined}
-use Rattle.rz_expr.specs.Term.{BitsAt, Constant, FactOf, Indexed, Named, OfOne, OfTwo, RowNumber, RowsOf, Term}
+use Rattle.rz_expr.specs.Mention.{alone, around, counted, fact, indexed, mentions, name_mentioned, with_bits, Mention}
+use Rattle.rz_expr.specs.Term.{Term}
 use Rattle.rz_types_fields.specs.Field.{case_and, field_and, no_cases, no_fields, takes_value, Align, Array, Fill, Label, Number, PlainBody, PlainCases, PlainField, Points, Switch, Text}
 use Rattle.rz_types_fields.specs.Range.{is_between, may_be_size}
 use Rattle.rz_types_fields.specs.Piece.{expressions_of}
@@ -159,22 +160,18 @@ bad_case position name keys before = option_map (λ number. name_fault number po
 
 -- Names that an expression can't name.
 
--- a name that isn't one of these
-abbrev pub not_among : List Word → List ℕ → Option (List ℕ)
-not_among names name = if is_among name names then None else Some name
+-- a label, label in rows, array or array around is one of these; `true`, `false` and facts are none of them, and always there
+abbrev pub is_named_there : Own → Mention → Bool
+is_named_there scope (alone name) = is_some (predefined name) || is_among name scope.labels
+is_named_there scope (indexed name) = is_among name scope.indexed
+is_named_there scope (counted name) = is_among name scope.arrays
+is_named_there scope (around name) = is_among name scope.around
+is_named_there scope (with_bits name) = is_among name scope.labels
+is_named_there scope (fact which) = true
 
--- the first label, label in rows, array or array around that an expression names and that isn't one of these; `true` and
--- `false` are none
+-- the first name in an expression that isn't there
 abbrev pub unknown_name : Own → Term → Option (List ℕ)
-unknown_name scope (Constant number) = None
-unknown_name scope (Named name) = if is_some (predefined name) then None else not_among scope.labels name
-unknown_name scope (Indexed name index) = or_else (not_among scope.indexed name) (unknown_name scope index)
-unknown_name scope (RowsOf name) = not_among scope.arrays name
-unknown_name scope (RowNumber name) = not_among scope.around name
-unknown_name scope (BitsAt name start width) = or_else (not_among scope.labels name) (or_else (unknown_name scope start) (unknown_name scope width))
-unknown_name scope (FactOf which) = None
-unknown_name scope (OfOne op operand) = unknown_name scope operand
-unknown_name scope (OfTwo op left right) = or_else (unknown_name scope left) (unknown_name scope right)
+unknown_name scope term = option_and_then name_mentioned (find (λ one. not (is_named_there scope one)) (mentions term))
 
 abbrev pub unknown_in : Own → PlainField → Option (List ℕ)
 unknown_in scope field = first_of (map (unknown_name scope) (expressions_of field))

@@ -1,6 +1,6 @@
 //! What the fields before one tell of names, as notes, and what is near at it. What is known by them is in `specs/Notes`.
 
-ghost use Rattle.std.specs.Prelude.{◌≡◌, ◌||◌, if◌then◌else◌, Bool, Some, None, IfOk, map, option_map};
+ghost use Rattle.std.specs.Prelude.{◌≡◌, ◌||◌, not, Bool, IfOk, map, option_map};
 ghost use Rattle.std.specs.List.{list_all};
 ghost use Rattle.std.specs.Option.{unwrap_or};
 ghost use Rattle.rz_expr.specs.Term.{term_of};
@@ -9,10 +9,10 @@ ghost use Rattle.rz_types_fields.specs.Passed.{is_measured, is_near};
 ghost use Rattle.rz_types_fields.specs.Piece.{terms_of_text};
 ghost use Rattle.rz_expr.specs.NameKey.{key_of};
 ghost use Rattle.rz_types.specs.Notes.{first_unknown, known, meeting, passed, telling};
-ghost use Rattle.rz_types.specs.Readable.{all_known};
+ghost use Rattle.rz_types.specs.Readable.{all_known, is_known_there};
 
 use rz_core::NoMemory;
-use rz_expr::{Expr, Key};
+use rz_expr::{Expr, Key, Mention, MentionTest, first_mention};
 use rz_types_fields::{
     Field, TextField, declares, fixed_width, gives_key, is_label, is_predefined, is_same_key,
     states, text_expressions,
@@ -129,11 +129,25 @@ pub fn is_known(fields: &[Field], notes: &[Note<'_>], key: Key<'_>) -> bool
     is_near(fields, key) || is_met(notes, key) || is_told(notes, key)
 }
 
-/// The name, where it isn't known.
-fn unless(known: bool, key: Key<'_>) -> Option<Key<'_>>
-    ensures { option_map key_of result ≡ (if known then None else Some (key_of key.entry)) }
-{
-    if known { None } else { Some(key) }
+/// What isn't known at the first of these fields, or isn't met where bits are asked for at it.
+#[derive(Clone, Copy)]
+struct Unknown<'a> {
+    fields: &'a [Field],
+    notes: &'a [Note<'a>],
+}
+
+impl MentionTest for Unknown<'_> {
+    ghost test = { λ test mention. not (is_known_there (passed test.notes.now).met (known (plain_body test.fields.now) test.notes.now) mention) };
+
+    fn passes(&self, mention: Mention<'_>) -> bool {
+        match mention {
+            Mention::Alone(name) => !is_known(self.fields, self.notes, Key::Place(name)),
+            Mention::Indexed(name) => !is_known(self.fields, self.notes, Key::Rows(name)),
+            Mention::Counted(name) => !is_known(self.fields, self.notes, Key::Count(name)),
+            Mention::WithBits(name) => !is_met(self.notes, Key::Place(name)),
+            Mention::Around(_) | Mention::Fact(_) => false,
+        }
+    }
 }
 
 /// The first name in an expression that isn't known at the first of these fields, or isn't met where bits are asked for
@@ -141,38 +155,9 @@ fn unless(known: bool, key: Key<'_>) -> Option<Key<'_>>
 pub fn first_unknown<'a>(fields: &[Field], notes: &[Note<'_>], expr: &'a Expr) -> Option<Key<'a>>
     ensures { option_map key_of result ≡ first_unknown (passed notes.now).met (known (plain_body fields.now) notes.now) (term_of expr.now) }
 {
-    match expr {
-        Expr::Number(_) | Expr::Fact(_) | Expr::ArrayIndex(_) => None,
-        Expr::Name(name) => {
-            let key = Key::Place(name);
-            unless(is_known(fields, notes, key), key)
-        }
-        Expr::Count(name) => {
-            let key = Key::Count(name);
-            unless(is_known(fields, notes, key), key)
-        }
-        Expr::Indexed(name, index) => {
-            let key = Key::Rows(name);
-            match unless(is_known(fields, notes, key), key) {
-                Some(key) => Some(key),
-                None => first_unknown(fields, notes, index),
-            }
-        }
-        Expr::Unary(_, operand) => first_unknown(fields, notes, operand),
-        Expr::Binary(_, left, right) => match first_unknown(fields, notes, left) {
-            Some(key) => Some(key),
-            None => first_unknown(fields, notes, right),
-        },
-        Expr::Bits(name, start, width) => {
-            let key = Key::Place(name);
-            match unless(is_met(notes, key), key) {
-                Some(key) => Some(key),
-                None => match first_unknown(fields, notes, start) {
-                    Some(key) => Some(key),
-                    None => first_unknown(fields, notes, width),
-                },
-            }
-        }
+    match first_mention(expr, &Unknown { fields, notes }) {
+        Some(mention) => mention.key(),
+        None => None,
     }
 }
 

@@ -11,8 +11,8 @@ use rz_core::NoMemory;
 use std::alloc::Global;
 use std::rc::Rc;
 
-/// A body that has the shape of a declaration and keeps the rules, as [`check`](crate::check) gives it. Several templates
-/// may share one body, which never changes.
+/// A body that has the shape of a declaration and keeps the rules, as `check` of `rz_types_check` gives it. Several
+/// templates may share one body, which never changes.
 #[derive(Drop)]
 pub struct Template {
     body: Rc<Body>,
@@ -41,7 +41,8 @@ impl Template {
         }
     }
 
-    /// Another template of the same body, which both share: whatever length the body has, it takes no memory.
+    /// A second template that shares the body of this one. No field is copied: the time doesn't grow with the body, and
+    /// no memory is taken. Refused where no further template can be counted.
     pub fn share(&self) -> Result<Template, NoMemory>
         ensures { IfOk result (λ template. template_of template ≡ template_of self.now) }
     {

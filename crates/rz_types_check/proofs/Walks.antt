@@ -33,10 +33,10 @@ cut_back names own = ap (λ n. take n (map now_of names ++ own)) (sym (length-ma
 
 all_cut : (names : Names) (own : Own) → first_names (counts_in names) (and_names (own_of names) own) ≡ own_of names
 all_cut names own = λ i. record {
-  labels = cut_back names.labels.items own.labels i;
-  arrays = cut_back names.arrays.items own.arrays i;
-  indexed = cut_back names.indexed.items own.indexed i;
-  around = cut_back names.around.items own.around i;
+  labels = cut_back names.labels.list.items own.labels i;
+  arrays = cut_back names.arrays.list.items own.arrays i;
+  indexed = cut_back names.indexed.list.items own.indexed i;
+  around = cut_back names.around.list.items own.around i;
 }
 
 pub cut_again : (names : Names) (own more new : Own) (counts : Counts) → counts ≡ counts_in names → more ≡ and_names (own_of names) own → new ≡ first_names counts more

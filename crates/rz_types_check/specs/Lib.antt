@@ -1,1 +1,3 @@
 pub mod Walked
+pub mod Keys
+pub mod Firsts

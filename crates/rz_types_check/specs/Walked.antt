@@ -76,19 +76,19 @@ all_met scope met field = field_met scope met field >>= λ next. within_met scop
 
 abbrev pub own_of : Names → Own
 own_of names = record {
-  labels = map (λ name. name.now) names.labels.items;
-  arrays = map (λ name. name.now) names.arrays.items;
-  indexed = map (λ name. name.now) names.indexed.items;
-  around = map (λ name. name.now) names.around.items;
+  labels = map (λ name. name.now) names.labels.list.items;
+  arrays = map (λ name. name.now) names.arrays.list.items;
+  indexed = map (λ name. name.now) names.indexed.list.items;
+  around = map (λ name. name.now) names.around.list.items;
 }
 
 -- how many names of each kind there are, and the first so many of each
 abbrev pub counts_in : Names → Counts
 counts_in names = record {
-  labels = length names.labels.items;
-  arrays = length names.arrays.items;
-  indexed = length names.indexed.items;
-  around = length names.around.items;
+  labels = length names.labels.list.items;
+  arrays = length names.arrays.list.items;
+  indexed = length names.indexed.list.items;
+  around = length names.around.list.items;
 }
 
 abbrev pub first_names : Counts → Own → Own

@@ -2,11 +2,14 @@
 //! exactly the first rule that it breaks. What the rules are, and what holds of a template that keeps them, is defined
 //! in `rz_types`.
 //! It rests on `rz_core`, `rz_expr`, `rz_types_fields` and `rz_types`.
-//! A new rule changes the definitions of `rz_types`, and here `rules`, where a field or a case is met, or `named`, which
-//! finds the labels and arrays that expressions name, by themselves, by an index and by the number of a row; a new kind of
-//! name changes `names`, another order of the walk `walk`, and both `specs/Walked`.
+//! A new rule changes the definitions of `rz_types`, and here `rules`, where a field or a case is met, `keys` for the
+//! keys of cases, or `named`, which finds the labels and arrays that expressions name, by themselves, by an index and by
+//! the number of a row; a new kind of name changes `names`, another order of the walk `walk`, and both `specs/Walked`.
+//! How names are looked up is in `name_list`.
 #![tactic(auto)]
 
+mod keys;
+mod name_list;
 mod named;
 mod names;
 mod rules;

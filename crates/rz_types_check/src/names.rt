@@ -6,6 +6,7 @@ ghost use Rattle.rz_types_fields.specs.Field.{plain_body, plain_field};
 ghost use Rattle.rz_types.specs.Walk.{and_names, around_names, label_name, labels_in, names_of, no_names, own_names};
 ghost use Rattle.rz_types_check.specs.Walked.{counts_in, first_names, own_of};
 
+use crate::name_list::NameList;
 use rz_core::{NoMemory, Word};
 use rz_types_fields::Field;
 use std::alloc::Global;
@@ -14,13 +15,13 @@ use std::alloc::Global;
 #[derive(Drop)]
 pub struct Names<'a> {
     /// Those of labels.
-    pub labels: Vec<&'a Word>,
+    pub labels: NameList<'a>,
     /// Those of arrays.
-    pub arrays: Vec<&'a Word>,
+    pub arrays: NameList<'a>,
     /// Those of labels that stand directly in the rows of arrays.
-    pub indexed: Vec<&'a Word>,
+    pub indexed: NameList<'a>,
     /// Those of arrays around.
-    pub around: Vec<&'a Word>,
+    pub around: NameList<'a>,
 }
 
 /// How many names of each kind there are.
@@ -41,10 +42,10 @@ pub fn counts_of(names: &Names<'_>) -> Counts
     ensures { result ≡ counts_in names.now }
 {
     Counts {
-        labels: names.labels.len(),
-        arrays: names.arrays.len(),
-        indexed: names.indexed.len(),
-        around: names.around.len(),
+        labels: names.labels.list.len(),
+        arrays: names.arrays.list.len(),
+        indexed: names.indexed.list.len(),
+        around: names.around.list.len(),
     }
 }
 
@@ -53,10 +54,10 @@ impl Names<'_> {
     pub fn cut(&mut self, counts: Counts)
         ensures { own_of self.new ≡ first_names counts (own_of self.old) }
     {
-        self.labels.truncate(counts.labels);
-        self.arrays.truncate(counts.arrays);
-        self.indexed.truncate(counts.indexed);
-        self.around.truncate(counts.around);
+        self.labels.cut(counts.labels);
+        self.arrays.cut(counts.arrays);
+        self.indexed.cut(counts.indexed);
+        self.around.cut(counts.around);
     }
 }
 
@@ -65,10 +66,10 @@ pub fn no_names<'a>(alloc: Global) -> Names<'a>
     ensures { own_of result ≡ no_names }
 {
     Names {
-        labels: Vec::new(alloc),
-        arrays: Vec::new(alloc),
-        indexed: Vec::new(alloc),
-        around: Vec::new(alloc),
+        labels: NameList::new(alloc),
+        arrays: NameList::new(alloc),
+        indexed: NameList::new(alloc),
+        around: NameList::new(alloc),
     }
 }
 
@@ -99,8 +100,8 @@ pub fn push_name<'a>(names: &mut Names<'a>, field: &'a Field) -> Result<(), NoMe
 }
 
 /// Appends the names of the labels that stand directly in the rows of an array.
-fn push_indexed<'a>(names: &mut Vec<&'a Word>, field: &'a Field) -> Result<(), NoMemory>
-    ensures { OnOk result (map (λ name. name.now) names.new.items ≡ map (λ name. name.now) names.old.items ++ (own_names (plain_field field.now)).indexed) }
+fn push_indexed<'a>(names: &mut NameList<'a>, field: &'a Field) -> Result<(), NoMemory>
+    ensures { OnOk result (map (λ name. name.now) names.new.list.items ≡ map (λ name. name.now) names.old.list.items ++ (own_names (plain_field field.now)).indexed) }
 {
     match field {
         Field::Array(array) => push_labels(names, array.row.as_slice()),
@@ -109,8 +110,8 @@ fn push_indexed<'a>(names: &mut Vec<&'a Word>, field: &'a Field) -> Result<(), N
 }
 
 /// Appends the names of the labels that stand directly in a body.
-fn push_labels<'a>(names: &mut Vec<&'a Word>, row: &'a [Field]) -> Result<(), NoMemory>
-    ensures { OnOk result (map (λ name. name.now) names.new.items ≡ map (λ name. name.now) names.old.items ++ labels_in (plain_body row.now)) }
+fn push_labels<'a>(names: &mut NameList<'a>, row: &'a [Field]) -> Result<(), NoMemory>
+    ensures { OnOk result (map (λ name. name.now) names.new.list.items ≡ map (λ name. name.now) names.old.list.items ++ labels_in (plain_body row.now)) }
 {
     for field in row {
         push_if(names, label_of(field))?;
@@ -119,8 +120,8 @@ fn push_labels<'a>(names: &mut Vec<&'a Word>, row: &'a [Field]) -> Result<(), No
 }
 
 /// Appends a name, where there is one.
-fn push_if<'a>(names: &mut Vec<&'a Word>, name: Option<&'a Word>) -> Result<(), NoMemory>
-    ensures { OnOk result (map (λ name. name.now) names.new.items ≡ map (λ name. name.now) names.old.items ++ option_to_list (option_map (λ name. name.now) name.entry)) }
+fn push_if<'a>(names: &mut NameList<'a>, name: Option<&'a Word>) -> Result<(), NoMemory>
+    ensures { OnOk result (map (λ name. name.now) names.new.list.items ≡ map (λ name. name.now) names.old.list.items ++ option_to_list (option_map (λ name. name.now) name.entry)) }
 {
     if let Some(name) = name {
         names.push(name)?;

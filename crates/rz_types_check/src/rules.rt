@@ -6,11 +6,11 @@ ghost use Rattle.rz_core.specs.Stop.{Gives, seen};
 ghost use Rattle.rz_core.specs.Lists.{or_else};
 ghost use Rattle.rz_types_fields.specs.Field.{plain_body, plain_cases, plain_field, plain_text};
 ghost use Rattle.rz_types_fields.specs.Shape.{is_well_shaped};
-ghost use Rattle.rz_types.specs.Rules.{array_twice, bad_case, bad_place, bad_rows, bad_size, bad_width, case_names, checked, differ, has_other_place, has_other_width, has_same_bits, has_values, key_rule, label_twice, may_be_count, may_be_rows, may_be_width, name_fault, no_values, repeated, unknown_fault, unless, width_fault};
-ghost use Rattle.rz_types.specs.Walk.{is_among};
-ghost use Rattle.std.specs.List.{list_any};
+ghost use Rattle.rz_types.specs.Rules.{array_twice, bad_case, bad_place, bad_rows, bad_size, bad_width, case_names, checked, has_values, label_twice, may_be_count, may_be_rows, may_be_width, name_fault, no_values, repeated, unknown_fault, unless, width_fault};
 ghost use Rattle.rz_types_check.specs.Walked.{own_of};
 
+use crate::keys::{Keys, key_rule};
+use crate::name_list::NameList;
 use crate::names::Names;
 use crate::walk::check_fields;
 use rz_core::{Kept, NoMemory, Stop, Word};
@@ -44,8 +44,8 @@ const MOST_ROWS: i32 = 1_048_576;
 /// index, and the size of a text comes before the formats in it. Names are the same in whatever case. The body has the
 /// shape of a declaration: the width of a type that has its own, two or four fixed numbers of points, units that there
 /// are, arrays and switches at most 60 deep in one another, and so on. The walk goes as deep as these stand in one
-/// another. Each label and each array is looked for among those before it, and each name in an expression among those
-/// that it may name; so is each key among those of the cases before it. (MPW Rez.)
+/// another. Names and keys are looked up, among those before or those that may be named, each in constant time on
+/// average. (MPW Rez.)
 pub fn check(alloc: Global, body: Body) -> Result<Template, Stop<TypeFault>>
     requires { is_well_shaped (plain_body body) ≡ true }
     ensures { Gives (checked (plain_body body)) (seen template_of result) }
@@ -102,12 +102,12 @@ fn bad_place(
 fn label_twice(
     alloc: Global,
     position: u64,
-    before: &[&Word],
+    before: &NameList<'_>,
     name: &Word,
 ) -> Result<Option<TypeFault>, NoMemory>
-    ensures { IfOk result (λ fault. fault ≡ label_twice position (map (λ name. name.now) before.now) name.now) }
+    ensures { IfOk result (λ fault. fault ≡ label_twice position (map (λ name. name.now) before.now.list.items) name.now) }
 {
-    if is_among(name.bytes.as_slice(), before) {
+    if before.has(name)? {
         Ok(Some(name_fault(alloc, 230, position, name)?))
     } else {
         Ok(None)
@@ -118,15 +118,15 @@ fn label_twice(
 fn array_twice(
     alloc: Global,
     position: u64,
-    before: &[&Word],
+    before: &NameList<'_>,
     name: &Option<Word>,
 ) -> Result<Option<TypeFault>, NoMemory>
-    ensures { IfOk result (λ fault. fault ≡ array_twice position (map (λ name. name.now) before.now) name.now) }
+    ensures { IfOk result (λ fault. fault ≡ array_twice position (map (λ name. name.now) before.now.list.items) name.now) }
 {
     let Some(name) = name else {
         return Ok(None);
     };
-    if is_among(name.bytes.as_slice(), before) {
+    if before.has(name)? {
         Ok(Some(name_fault(alloc, 231, position, name)?))
     } else {
         Ok(None)
@@ -170,30 +170,18 @@ fn case_twice(alloc: Global, position: u64, cases: &[Case]) -> Result<Option<Typ
     }
 }
 
-/// The first case name that stands before it too.
+/// The first case name that stands before it too, in whatever case.
 fn repeated<'a>(alloc: Global, cases: &'a [Case]) -> Result<Option<&'a Word>, NoMemory>
     ensures { IfOk result (λ name. option_map (λ name. name.now) name ≡ repeated (case_names (plain_cases cases.now))) }
 {
-    let mut before = Vec::new(alloc);
+    let mut before = NameList::new(alloc);
     for case in cases {
-        if is_among(case.name.bytes.as_slice(), &before) {
+        if before.has(&case.name)? {
             return Ok(Some(&case.name));
         }
         before.push(&case.name)?;
     }
     Ok(None)
-}
-
-/// Whether a name is one of these, in whatever case.
-pub fn is_among(name: &[u8], names: &[&Word]) -> bool
-    ensures { result ≡ is_among name.now (map (λ name. name.now) names.now) }
-{
-    for one in names {
-        if one.is(name) {
-            return true;
-        }
-    }
-    false
 }
 
 /// The first rule that a case of the switch at this position breaks, by its keys, after cases with those keys.
@@ -202,77 +190,14 @@ pub fn broken_behind(
     position: u64,
     name: &Word,
     keys: &[CaseKey],
-    before: &[CaseKey],
+    before: &Keys,
 ) -> Result<Option<TypeFault>, NoMemory>
-    ensures { IfOk result (λ fault. fault ≡ bad_case position name.now keys.now before.now) }
+    ensures { IfOk result (λ fault. fault ≡ bad_case position name.now keys.now before.now.list.items) }
 {
     match key_rule(keys, before) {
         Some(number) => Ok(Some(name_fault(alloc, number, position, name)?)),
         None => Ok(None),
     }
-}
-
-/// The number of the first rule that the keys of a case break, after these.
-fn key_rule(keys: &[CaseKey], before: &[CaseKey]) -> Option<u16>
-    ensures { result ≡ key_rule keys.now before.now }
-{
-    let [key] = keys else {
-        return Some(233);
-    };
-    if has_other_width(key, before) {
-        Some(234)
-    } else if key.distance.is_none() || has_other_place(key, before) {
-        Some(235)
-    } else if has_same_bits(key, before) {
-        Some(236)
-    } else {
-        None
-    }
-}
-
-/// Whether one of the keys has another width.
-fn has_other_width(key: &CaseKey, before: &[CaseKey]) -> bool
-    ensures { result ≡ list_any (has_other_width key.now) before.now }
-{
-    for one in before {
-        if key.width != one.width {
-            return true;
-        }
-    }
-    false
-}
-
-/// Whether one of the keys stands at another distance.
-fn has_other_place(key: &CaseKey, before: &[CaseKey]) -> bool
-    ensures { result ≡ list_any (has_other_place key.now) before.now }
-{
-    for one in before {
-        if differ(key.distance, one.distance) {
-            return true;
-        }
-    }
-    false
-}
-
-fn differ(one: Option<u64>, other: Option<u64>) -> bool
-    ensures { result ≡ differ one other }
-{
-    match (one, other) {
-        (Some(one), Some(other)) => one != other,
-        _ => true,
-    }
-}
-
-/// Whether one of the keys has the same bits.
-fn has_same_bits(key: &CaseKey, before: &[CaseKey]) -> bool
-    ensures { result ≡ list_any (has_same_bits key.now) before.now }
-{
-    for one in before {
-        if key.bits == one.bits {
-            return true;
-        }
-    }
-    false
 }
 
 /// A fault of a field at this position that keeps a name.

@@ -1,6 +1,6 @@
 //! The walk over the fields of a declaration, depth first. Its steps are in `specs/Walked`.
 
-ghost use Rattle.std.specs.Prelude.{IfOk, OnOk, ◌≡◌, ◌+◌, ◌++◌, [], None, option_map};
+ghost use Rattle.std.specs.Prelude.{IfOk, ◌≡◌, ◌+◌, [], None, option_map};
 ghost use Rattle.rz_core.specs.Stop.{Gives};
 ghost use Rattle.rz_core.specs.Lists.{unless_fault};
 ghost use Rattle.rz_types_fields.specs.Field.{plain_body, plain_cases, plain_field};
@@ -8,12 +8,13 @@ ghost use Rattle.rz_types.specs.Rules.{broken, kept_position, unknown_fault, unk
 ghost use Rattle.rz_types.specs.Walk.{and_names, names_of, no_names};
 ghost use Rattle.rz_types_check.specs.Walked.{all_met, body_met, cases_met, field_met, met_of, own_of, rows_met, scope_of, Walks};
 
+use crate::keys::Keys;
 use crate::named::unknown_in;
 use crate::names::{Names, counts_of, no_names, push_around, push_name, push_names};
 use crate::rules::{MOST_KEPT, broken_behind, broken_field, unknown_fault};
 use rz_core::{NoMemory, Stop};
 use rz_types::TypeFault;
-use rz_types_fields::{ArrayField, Case, CaseKey, Field, case_keys};
+use rz_types_fields::{ArrayField, Case, Field, case_keys};
 use std::alloc::Global;
 
 /// A walk over the fields of a declaration, depth first.
@@ -153,17 +154,18 @@ fn walk_cases<'a>(
 ) -> Result<(), Stop<TypeFault>>
     ensures { Walks (cases_met (scope_of walk.old) position [] (met_of walk.old) (plain_cases cases.now)) walk.old result walk.new }
 {
-    let mut keys = Vec::new(alloc);
+    let mut keys = Keys::new(alloc);
     for case in cases {
         match walk_body(alloc, case.row.as_slice(), walk) {
             Ok(()) => {}
             Err(stop) => return Err(stop),
         }
         let own = case_keys(alloc, case.row.as_slice())?;
-        if let Some(fault) = broken_behind(alloc, position, &case.name, &own, &keys)? {
+        let broken = broken_behind(alloc, position, &case.name, &own, &keys)?;
+        if let Some(fault) = broken {
             return Err(Stop::Refused(fault));
         }
-        push_keys(&mut keys, &own)?;
+        keys.push(&own)?;
     }
     Ok(())
 }
@@ -206,14 +208,4 @@ fn next_position(position: u64) -> u64
     } else {
         MOST_KEPT
     }
-}
-
-/// Appends keys.
-fn push_keys(keys: &mut Vec<CaseKey>, own: &[CaseKey]) -> Result<(), NoMemory>
-    ensures { OnOk result (keys.new.items ≡ keys.old.items ++ own.now) }
-{
-    for key in own {
-        keys.push(*key)?;
-    }
-    Ok(())
 }

@@ -3,7 +3,7 @@ use Rattle.std.proofs.Common.{◌≡◌, ℕ, ℤ, pos, negsuc, Bool, true, fals
 use Rattle.std.specs.Prelude.{◌*ℤ◌, ◌^◌, if◌then◌else◌, int_div, int_rem, nat_lt}
 use Rattle.std.specs.Int.{int_shr}
 use Rattle.std.specs.Option.{is_some}
-use Rattle.rz_core.proofs.Tests.{and_so, both}
+use Rattle.rz_core.proofs.Tests.{both}
 use Rattle.rz_core.specs.Stop.{◌>>=◌, Gives, OnFault}
 use Rattle.rz_core.specs.declared.facts.Facts.{Facts}
 use Rattle.rz_core.specs.declared.fault.Fault.{Fault}
@@ -12,6 +12,7 @@ use Rattle.rz_core.specs.declared.stop.Stop.{Stop}
 use Rattle.rz_core.specs.declared.stop.Stop.TheVariants.{NoMemory, Refused}
 use Rattle.rz_expr.specs.Constant.{constant_sight, is_constant}
 use Rattle.rz_expr.specs.Environment.{place_key, predefined, Environment, Sight}
+use Rattle.rz_expr.specs.Mention.{alone, around, counted, fact, indexed, is_true_or_false, mentions, with_bits, Mention}
 use Rattle.rz_expr.specs.Term.{BitsAt, Constant, FactOf, Indexed, Named, OfOne, OfTwo, RowNumber, RowsOf, Term}
 use Rattle.rz_expr.specs.Value.{divided, is_zero, known_value, operate, operate_one, reduced, shifted, value_of}
 use Rattle.rz_expr.specs.declared.expr.BinaryOp.{BinaryOp}
@@ -19,7 +20,8 @@ use Rattle.rz_expr.specs.declared.expr.BinaryOp.TheVariants as two
 use Rattle.rz_expr.specs.declared.value.EvalFault.{EvalFault}
 use Rattle.rz_expr.specs.declared.value.EvalFault.TheVariants.{BadShift, ZeroDivisor}
 use Rattle.rz_expr.proofs.Cases.{same_value}
-use Rattle.rz_types_fields.specs.Value.{constant_value, field_sight, is_field_expression, number_of, with_fault, IsArithmetic, IsArithmeticFault}
+use Rattle.rz_expr.proofs.Items.{all_more, all_two}
+use Rattle.rz_types_fields.specs.Value.{constant_value, field_sight, in_head, is_field_expression, number_of, with_fault, IsArithmetic, IsArithmeticFault}
 
 chained : (first : Result ℤ EvalFault) (next : ℤ → Result ℤ EvalFault) → IsArithmetic first → ((x : ℤ) → IsArithmetic (next x)) → IsArithmetic (first >>= next)
 chained (Ok x) next one rest = rest x
@@ -75,7 +77,7 @@ KnowsWords names = (name : List ℕ) (value : ℤ) → predefined name ≡ Some 
 pub sound : (sight : Sight) → KnowsWords sight.names → (term : Term) → is_field_expression term ≡ true → IsArithmetic (value_of term sight)
 sound sight gives (Constant number) is = tt
 sound sight gives (Named name) is =
-    let own = something (predefined name) is in
+    let own = something (predefined name) (both (in_head (alone name)) true is).0 in
     let given = gives name own.0 own.1 in
     given_sound name (sight.names.give (place_key name)) given.0 given.1
 sound sight gives (Indexed name index) is = absurd cc
@@ -85,7 +87,7 @@ sound sight gives (BitsAt name start width) is = absurd cc
 sound sight gives (FactOf which) is = tt
 sound sight gives (OfOne op operand) is = chained (value_of operand sight) (λ value. Ok (operate_one op value)) (sound sight gives operand is) (λ x. tt)
 sound sight gives (OfTwo op left right) is =
-    let each = both (is_field_expression left) (is_field_expression right) is in
+    let each = all_two in_head (mentions left) (mentions right) is in
     chained (value_of left sight) (λ one. value_of right sight >>= λ other. operate op one other) (sound sight gives left each.0)
     (λ one. chained (value_of right sight) (λ other. operate op one other) (sound sight gives right each.1) (λ other. operate_sound op one other))
 
@@ -95,18 +97,16 @@ facts_see known = λ name value is. (value, sym (same_value name) ∙ is)
 constants_see : KnowsWords constant_sight.names
 constants_see = λ name value is. (value, sym (same_value name) ∙ is)
 
+constant_one : (one : Mention) → is_true_or_false one ≡ true → in_head one ≡ true
+constant_one (alone name) is = is
+constant_one (indexed name) is = absurd cc
+constant_one (counted name) is = absurd cc
+constant_one (around name) is = absurd cc
+constant_one (with_bits name) is = absurd cc
+constant_one (fact which) is = refl
+
 pub constant_stands : (term : Term) → is_constant term ≡ true → is_field_expression term ≡ true
-constant_stands (Constant number) is = refl
-constant_stands (Named name) is = is
-constant_stands (Indexed name index) is = absurd cc
-constant_stands (RowsOf name) is = absurd cc
-constant_stands (RowNumber name) is = absurd cc
-constant_stands (BitsAt name start width) is = absurd cc
-constant_stands (FactOf which) is = absurd cc
-constant_stands (OfOne op operand) is = constant_stands operand is
-constant_stands (OfTwo op left right) is =
-    let each = both (is_constant left) (is_constant right) is in
-    and_so (is_field_expression left) (is_field_expression right) (constant_stands left each.0) (constant_stands right each.1)
+constant_stands term is = all_more is_true_or_false in_head constant_one (mentions term) is
 
 pub field_sound : (known : Facts) (term : Term) → is_field_expression term ≡ true → IsArithmetic (value_of term (field_sight known []))
 field_sound known term is = sound (field_sight known []) (facts_see known) term is

@@ -8,3 +8,4 @@ pub mod Appending
 pub mod Bodies
 pub mod Capped
 pub mod Marks
+pub mod KeysIn

@@ -7,7 +7,7 @@ use Rattle.rz_core.specs.declared.resource.Word.{Word}
 use Rattle.rz_core.specs.Lists.{or_else}
 use Rattle.rz_expr.specs.Environment.{count_of, place_in, place_of, row_in, rows_of, Key}
 use Rattle.rz_types_fields.specs.Field.{field_and, no_fields, Align, Array, Fill, Label, Number, PlainBody, PlainField, Points, Switch, Text}
-use Rattle.rz_types_fields.specs.Known.{stated_in, stated_value, value_inside}
+use Rattle.rz_types_fields.specs.Front.{stated_in, stated_value, value_inside}
 use Rattle.rz_types_fields.specs.Passed.{declares, gives_count, gives_key, gives_rows, has_label}
 use Rattle.rz_types_fields.specs.RowLabels.{is_row, labels_count, numbers_row, row_number, RowOf}
 use Rattle.rz_types_fields.specs.Solve.{is_same_key}

@@ -1,42 +1,17 @@
--- The numbers of rows, the places and the numbers of rows around that names have, as the code notes them.
+-- What the code notes of names, as contracts see it: the numbers of rows, the places and the numbers of rows around that the
+-- notes give them, and which names are met after them.
 use Rattle.std.specs.Prelude.{◌≡◌, ℕ, ℤ, pos, Bool, ◌&&◌, ◌||◌, not, if◌then◌else◌, List, [], ◌∷◌, ◌++◌, Option, Some, None, option_map}
 use Rattle.std.specs.Option.{is_some}
-use Rattle.rz_core.specs.Lists.{or_else}
-use Rattle.rz_core.specs.declared.resource.Word.{Word}
 use Rattle.rz_expr.specs.Environment.{count_key, row_key, Environment, Key}
 use Rattle.rz_expr.specs.NameKey.{key_of}
-use Rattle.rz_types_fields.specs.Field.{field_and, no_fields, plain_body, Array, PlainBody, PlainField}
+use Rattle.rz_types_fields.specs.Field.{plain_body, PlainBody}
+use Rattle.rz_types_fields.specs.Front.{value_inside}
 use Rattle.rz_types_fields.specs.Solve.{is_same_key}
-use Rattle.rz_types_fields.specs.Passed.{counts_rows, declares, gives_rows, outside, stands_at, states_count, Names}
-use Rattle.rz_types_fields.specs.RowLabels.{is_row, row_number, row_value, RowOf}
+use Rattle.rz_types_fields.specs.Passed.{counts_rows, declares, gives_rows, outside, stands_at, Names}
+use Rattle.rz_types_fields.specs.RowLabels.{row_value, RowOf}
 use Rattle.rz_types_fields.specs.declared.names.InRow.{InRow}
 use Rattle.rz_types_fields.specs.declared.names.Note.{Note}
 use Rattle.rz_types_fields.specs.declared.names.Note.TheVariants.{Coming, Counted, Hidden, Numbered, Placed, PlaceTold, Rows, Told}
-
--- At the front of a body.
-
--- a body's own names have no value but their stated counts
-abbrev pub stated_value : Option Word → Option ℤ → Key → Option ℤ
-stated_value name count key = if states_count name count key then count else None
-
-abbrev pub stated_in : PlainBody → Key → Option ℤ
-stated_in no_fields key = None
-stated_in (field_and (Array name count row) fields) key = or_else (stated_value name count key) (stated_in fields key)
-stated_in (field_and field fields) key = stated_in fields key
-
--- at the front of a row of an array the name of the array has its number, too
-abbrev pub value_inside : Option RowOf → PlainBody → Key → Option ℤ → Option ℤ
-value_inside which body key other = if is_row which key then row_number which else if declares body key then stated_in body key else other
-
-abbrev pub names_inside : Option RowOf → PlainBody → Environment → Environment
-names_inside which body names = record { give = λ key. value_inside which body key (names.give key) }
-
--- the number of rows that is stated of an array
-abbrev pub stated_by : PlainField → Key → Option ℤ
-stated_by (Array name count row) key = stated_value name count key
-stated_by field key = None
-
--- Notes.
 
 -- which row of an array a body is, as the code has it
 abbrev pub which_of : Option InRow → Option RowOf

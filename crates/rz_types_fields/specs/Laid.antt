@@ -18,7 +18,7 @@ use Rattle.rz_expr.specs.declared.value.EvalFault.TheVariants.{BadIndex, BadShif
 use Rattle.rz_bits.specs.Bits.{bits_of, bytes_of, number_bits}
 use Rattle.rz_bits.specs.BitBuf.{filled, missing, zeros}
 use Rattle.rz_types_fields.specs.Field.{case_and, field_and, no_cases, no_fields, takes_value, Align, Array, Fill, Label, Number, PlainBody, PlainCases, PlainField, PlainText, Points, Switch, Text}
-use Rattle.rz_types_fields.specs.Known.{names_inside}
+use Rattle.rz_types_fields.specs.Front.{names_inside}
 use Rattle.rz_types_fields.specs.RowLabels.{also_rows, is_row, row_of, RowOf}
 use Rattle.rz_types_fields.specs.Range.{fits_number, may_be_size}
 use Rattle.rz_types_fields.specs.Passed.{declares, gives_count, outside, stands_at, Names}

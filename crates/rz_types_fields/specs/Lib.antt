@@ -11,6 +11,7 @@ pub mod Solve
 pub mod Piece
 pub mod Passed
 pub mod RowLabels
+pub mod Front
 pub mod Row
 pub mod Sees
 pub mod Spells

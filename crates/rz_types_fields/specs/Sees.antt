@@ -3,8 +3,9 @@ use Rattle.std.specs.Prelude.{ℕ, ◌-◌, ℤ, pos, Bool, false, ◌||◌, not
 use Rattle.std.specs.List.{list_any}
 use Rattle.std.specs.Result.{is_ok}
 use Rattle.rz_core.specs.declared.facts.Facts.{Facts}
-use Rattle.rz_expr.specs.Environment.{place_in, place_key, place_of, rows_key, rows_of, Environment, Key, Sight}
-use Rattle.rz_expr.specs.Term.{BitsAt, Constant, FactOf, Indexed, Named, OfOne, OfTwo, RowNumber, RowsOf, Term}
+use Rattle.rz_expr.specs.Environment.{place_key, rows_key, Environment, Sight}
+use Rattle.rz_expr.specs.Mention.{alone, indexed, mentions, with_bits, Mention}
+use Rattle.rz_expr.specs.Term.{Term}
 use Rattle.rz_expr.specs.Value.{value_of}
 use Rattle.rz_bits.specs.View.{number_at}
 use Rattle.rz_types_fields.specs.Passed.{Names}
@@ -45,23 +46,15 @@ beside late sight = record {
 -- Late numbers.
 
 -- a label that wasn't met stands later; so does one in the rows of an array that hasn't ended
-abbrev pub is_later : Names → Key → Bool
-is_later met (place_of name) = not (met (place_of name))
-is_later met (rows_of label) = not (met (rows_of label))
-is_later met (place_in label number) = not (met (rows_of label))
-is_later met key = false
+abbrev pub is_later : Names → Mention → Bool
+is_later met (alone name) = not (met (place_key name))
+is_later met (indexed name) = not (met (rows_key name))
+is_later met (with_bits name) = not (met (place_key name))
+is_later met other = false
 
 -- the expression names a label that stands later
 abbrev pub names_later : Names → Term → Bool
-names_later met (Constant number) = false
-names_later met (Named name) = is_later met (place_key name)
-names_later met (Indexed name index) = is_later met (rows_key name) || names_later met index
-names_later met (RowsOf name) = false
-names_later met (RowNumber name) = false
-names_later met (BitsAt name start width) = is_later met (place_key name) || (names_later met start || names_later met width)
-names_later met (FactOf which) = false
-names_later met (OfOne op operand) = names_later met operand
-names_later met (OfTwo op left right) = names_later met left || names_later met right
+names_later met term = list_any (is_later met) (mentions term)
 
 -- a number is late where its expression names a label after it, or has no value beside the late bits
 abbrev pub is_late : Names → Late → Term → Sight → Bool

@@ -1,9 +1,11 @@
 -- Which value a name has where the value of an expression is known: the operators undone, from the outside in. (MPW Rez.)
-use Rattle.std.specs.Prelude.{◌≡◌, ℕ, ◌==◌, ◌%◌, ◌^◌, ℤ, pos, negsuc, ◌+ℤ◌, ◌-ℤ◌, ◌*ℤ◌, neg_ℤ, int_div, int_rem, int_le, nat_lt, Bool, true, false, ◌&&◌, ◌||◌, not, if◌then◌else◌, List, [], ◌∷◌, Option, Some, None, option_and_then, option_map}
+use Rattle.std.specs.Prelude.{◌≡◌, ℕ, ◌==◌, ◌%◌, ◌^◌, ℤ, pos, negsuc, ◌+ℤ◌, ◌-ℤ◌, ◌*ℤ◌, neg_ℤ, int_div, int_rem, int_le, nat_lt, Bool, true, false, ◌&&◌, not, if◌then◌else◌, List, [], ◌∷◌, Option, Some, None, option_and_then, option_map}
 use Rattle.std.specs.Int.{cast_unsigned, w64}
+use Rattle.std.specs.List.{flat_map, list_any, AllByRecursion}
 use Rattle.std.specs.Ordering.{int_eq}
 use Rattle.std.specs.Result.{result_ok}
 use Rattle.rz_expr.specs.Environment.{count_key, count_of, place_in, place_key, place_of, row_in, rows_of, Environment, Key, Sight}
+use Rattle.rz_expr.specs.Mention.{alone, counted, mentions, with_bits, Mention}
 use Rattle.rz_expr.specs.Term.{BitsAt, Constant, FactOf, Indexed, Named, OfOne, OfTwo, RowNumber, RowsOf, Term}
 use Rattle.rz_expr.specs.Value.{is_zero, value_of}
 use Rattle.rz_expr.specs.declared.expr.UnaryOp.{UnaryOp}
@@ -27,17 +29,21 @@ is_same_key (place_in name row) (place_in other number) = is_same_name name othe
 is_same_key (row_in name) (row_in other) = is_same_name name other
 is_same_key key other = false
 
--- the expression has this name in it; the rows of an indexed label and the row around are no names that can be told
+-- the keys whose value a number can tell: those of labels and arrays; those of the rows of an indexed label and of the row
+-- around can't be told
+abbrev pub tellable : Mention → List Key
+tellable (alone name) = place_key name ∷ []
+tellable (counted name) = count_key name ∷ []
+tellable (with_bits name) = place_key name ∷ []
+tellable other = []
+
+-- those in an expression, in order
+abbrev pub keys_in : Term → List Key
+keys_in term = flat_map tellable (mentions term)
+
+-- the expression has this name in it
 abbrev pub has_key : Key → Term → Bool
-has_key key (Constant number) = false
-has_key key (Named name) = is_same_key key (place_key name)
-has_key key (Indexed name index) = has_key key index
-has_key key (RowsOf name) = is_same_key key (count_key name)
-has_key key (RowNumber name) = false
-has_key key (BitsAt name start width) = is_same_key key (place_key name) || has_key key start || has_key key width
-has_key key (FactOf which) = false
-has_key key (OfOne op operand) = has_key key operand
-has_key key (OfTwo op left right) = has_key key left || has_key key right
+has_key key term = list_any (is_same_key key) (keys_in term)
 
 -- Operators.
 
@@ -151,16 +157,7 @@ IsSolvedTo false solved value = solved ≡ value
 
 -- so is each of the names in an expression
 abbrev pub AreSolved : (known : Key → Bool) → (solved : Key → Option ℤ) → Environment → Term → Type 0
-AreSolved known solved names (Constant number) = Unit {0}
-AreSolved known solved names (Named name) = IsSolvedTo (known (place_key name)) (solved (place_key name)) (names.give (place_key name))
-AreSolved known solved names (Indexed name index) = AreSolved known solved names index
-AreSolved known solved names (RowNumber name) = Unit {0}
-AreSolved known solved names (RowsOf name) = IsSolvedTo (known (count_key name)) (solved (count_key name)) (names.give (count_key name))
-AreSolved known solved names (BitsAt name start width) =
-    IsSolvedTo (known (place_key name)) (solved (place_key name)) (names.give (place_key name)) × AreSolved known solved names start × AreSolved known solved names width
-AreSolved known solved names (FactOf which) = Unit {0}
-AreSolved known solved names (OfOne op operand) = AreSolved known solved names operand
-AreSolved known solved names (OfTwo op left right) = AreSolved known solved names left × AreSolved known solved names right
+AreSolved known solved names term = AllByRecursion (λ key. IsSolvedTo (known key) (solved key) (names.give key)) (keys_in term)
 
 -- what a number stores tells the values of the names of its expression that weren't known before it
 abbrev pub SolvesBack : (known : Key → Bool) → ℕ → Sight → Term → ℕ → Type 0

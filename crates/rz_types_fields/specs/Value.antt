@@ -1,6 +1,6 @@
 -- What the expressions of fields, heads and declarations see, and their values. (MPW Rez.)
-use Rattle.std.specs.Prelude.{◌≡◌, ℕ, ℤ, pos, Bool, true, false, ◌&&◌, if◌then◌else◌, List, [], ◌∷◌, Option, Some, None, Ok, Err}
-use Rattle.std.specs.Option.{is_some}
+use Rattle.std.specs.Prelude.{◌≡◌, ℕ, ℤ, pos, Bool, true, false, if◌then◌else◌, List, [], ◌∷◌, Option, Some, None, Ok, Err}
+use Rattle.std.specs.List.{list_all}
 use Rattle.std.specs.Str.{str_eq_ignore_ascii_case}
 use Rattle.std.specs.declared.result.Result.{Result}
 use Rattle.rz_core.specs.Lists.{or_else}
@@ -10,7 +10,8 @@ use Rattle.rz_core.specs.declared.fault.Kept.TheVariants as kept
 use Rattle.rz_core.specs.declared.fault.Mark.{Mark}
 use Rattle.rz_expr.specs.Constant.{constant_sight}
 use Rattle.rz_expr.specs.Environment.{place_of, predefined, Environment, Key, Sight}
-use Rattle.rz_expr.specs.Term.{BitsAt, Constant, FactOf, Indexed, Named, OfOne, OfTwo, RowNumber, RowsOf, Term}
+use Rattle.rz_expr.specs.Mention.{alone, counted, fact, is_true_or_false, mentions, Mention}
+use Rattle.rz_expr.specs.Term.{Term}
 use Rattle.rz_expr.specs.Value.{value_of}
 use Rattle.rz_expr.specs.declared.value.EvalFault.{EvalFault}
 use Rattle.rz_expr.specs.declared.value.EvalFault.TheVariants.{BadIndex, BadShift, DataWidth, LaterData, UnknownName, ZeroDivisor}
@@ -40,69 +41,47 @@ is_date_fact facts.Kind = false
 is_date_fact facts.Attributes = false
 is_date_fact other = true
 
--- Expressions of new heads: no names but `true` and `false`, and of the functions the numbers of the date and the time.
+-- What expressions may mention, by where they stand.
+
+-- in the head of a new resource: of the functions the numbers of the date and the time alone
+abbrev pub in_new_head : Mention → Bool
+in_new_head (fact which) = is_date_fact which
+in_new_head other = is_true_or_false other
+
+-- in the head for chosen resources, and in that of `data`: all facts
+abbrev pub in_head : Mention → Bool
+in_head (fact which) = true
+in_head other = is_true_or_false other
+
+-- in an item: all names by themselves, but no rows and no bits of what is laid out
+abbrev pub in_item : Mention → Bool
+in_item (alone name) = true
+in_item (fact which) = true
+in_item other = false
+
+-- in the size of a text: labels, by themselves, in a row and with the bits after them, and the row around
+abbrev pub in_size : Mention → Bool
+in_size (counted name) = false
+in_size other = true
+
+-- in a fixed value: also arrays, by the number of their rows
+abbrev pub in_fixed : Mention → Bool
+in_fixed one = true
 
 abbrev pub is_head_expression : Term → Bool
-is_head_expression (Constant number) = true
-is_head_expression (Named name) = is_some (predefined name)
-is_head_expression (Indexed name index) = false
-is_head_expression (RowsOf name) = false
-is_head_expression (RowNumber name) = false
-is_head_expression (BitsAt name start width) = false
-is_head_expression (FactOf which) = is_date_fact which
-is_head_expression (OfOne op operand) = is_head_expression operand
-is_head_expression (OfTwo op left right) = is_head_expression left && is_head_expression right
-
--- Expressions of heads for chosen resources and of `data`: no names but `true` and `false`, and of the functions the facts.
+is_head_expression term = list_all in_new_head (mentions term)
 
 abbrev pub is_field_expression : Term → Bool
-is_field_expression (Constant number) = true
-is_field_expression (Named name) = is_some (predefined name)
-is_field_expression (Indexed name index) = false
-is_field_expression (RowsOf name) = false
-is_field_expression (RowNumber name) = false
-is_field_expression (BitsAt name start width) = false
-is_field_expression (FactOf which) = true
-is_field_expression (OfOne op operand) = is_field_expression operand
-is_field_expression (OfTwo op left right) = is_field_expression left && is_field_expression right
+is_field_expression term = list_all in_head (mentions term)
 
--- Expressions of fields.
-
--- an expression of a size: it may name labels, by themselves, in a row and with the bits after them, and the row around
-abbrev pub is_size_expression : Term → Bool
-is_size_expression (Constant number) = true
-is_size_expression (Named name) = true
-is_size_expression (Indexed name index) = is_size_expression index
-is_size_expression (RowsOf name) = false
-is_size_expression (RowNumber name) = true
-is_size_expression (BitsAt name start width) = is_size_expression start && is_size_expression width
-is_size_expression (FactOf which) = true
-is_size_expression (OfOne op operand) = is_size_expression operand
-is_size_expression (OfTwo op left right) = is_size_expression left && is_size_expression right
-
--- an expression of a fixed value: it may also name arrays, by the number of their rows
-abbrev pub is_fixed_expression : Term → Bool
-is_fixed_expression (Constant number) = true
-is_fixed_expression (Named name) = true
-is_fixed_expression (Indexed name index) = is_fixed_expression index
-is_fixed_expression (RowsOf name) = true
-is_fixed_expression (RowNumber name) = true
-is_fixed_expression (BitsAt name start width) = is_fixed_expression start && is_fixed_expression width
-is_fixed_expression (FactOf which) = true
-is_fixed_expression (OfOne op operand) = is_fixed_expression operand
-is_fixed_expression (OfTwo op left right) = is_fixed_expression left && is_fixed_expression right
-
--- an expression of an item: any names and facts, but no rows and no bits of what is laid out
 abbrev pub is_item_expression : Term → Bool
-is_item_expression (Constant number) = true
-is_item_expression (Named name) = true
-is_item_expression (Indexed name index) = false
-is_item_expression (RowsOf name) = false
-is_item_expression (RowNumber name) = false
-is_item_expression (BitsAt name start width) = false
-is_item_expression (FactOf which) = true
-is_item_expression (OfOne op operand) = is_item_expression operand
-is_item_expression (OfTwo op left right) = is_item_expression left && is_item_expression right
+is_item_expression term = list_all in_item (mentions term)
+
+abbrev pub is_size_expression : Term → Bool
+is_size_expression term = list_all in_size (mentions term)
+
+abbrev pub is_fixed_expression : Term → Bool
+is_fixed_expression term = list_all in_fixed (mentions term)
 
 -- What is seen.
 

@@ -106,10 +106,14 @@ pub fn gives_key(field: &Field, key: Key<'_>) -> bool
     }
 }
 
-/// Whether one of the fields of a body gives a name a value.
+/// Whether one of the fields of a body gives a name a value. No field gives the number of a row around, so for one of these
+/// the fields aren't looked through.
 pub fn declares(row: &[Field], key: Key<'_>) -> bool
     ensures { result ≡ declares (plain_body row.now) (key_of key.entry) }
 {
+    if let Key::Row(_) = key {
+        return false;
+    }
     for field in row {
         if gives_key(field, key) {
             return true;

@@ -7,7 +7,8 @@ ghost use Rattle.rz_core.specs.Lists.{or_else};
 ghost use Rattle.rz_expr.specs.Environment.{place_in_key, Key};
 ghost use Rattle.rz_expr.specs.NameKey.{key_of};
 ghost use Rattle.rz_types_fields.specs.Field.{plain_array, plain_body, plain_field};
-ghost use Rattle.rz_types_fields.specs.Known.{said, speaks, stated_by, stated_in, stated_value, which_of, Adds, AreRowsNoted, IsFront};
+ghost use Rattle.rz_types_fields.specs.Front.{stated_by, stated_in, stated_value};
+ghost use Rattle.rz_types_fields.specs.Known.{said, speaks, which_of, Adds, AreRowsNoted, IsFront};
 ghost use Rattle.rz_types_fields.specs.Passed.{declares, gives_count, gives_key};
 ghost use Rattle.rz_types_fields.specs.RowLabels.{is_row, label_count, label_index, labels_count, row_number, row_value};
 

@@ -1,3 +1,4 @@
 pub mod Found
+pub mod Groups
 pub mod Placed
 pub mod Places

@@ -1,20 +1,18 @@
 -- The positions of the slots whose declarations pass, and what is read in these slots.
-use Rattle.std.proofs.Common.{◌≡◌, ℕ, zero, suc, ◌+◌, ◌<◌, ◌≤◌, ◌==◌, Bool, true, false, ◌&&◌, ◌||◌, if◌then◌else◌, List, [], ◌∷◌, ◌++◌, get_or, length, map, take, drop, filter, Option, Some, None, refl, sym, ap, ◌∙◌, arith, append_assoc}
+use Rattle.std.proofs.Common.{◌≡◌, ℕ, ℤ, zero, suc, ◌+◌, ◌<◌, ◌≤◌, Bool, true, false, ◌||◌, if◌then◌else◌, List, [], ◌∷◌, ◌++◌, get_or, length, map, take, drop, filter, Option, Some, None, refl, sym, ap, ◌∙◌, arith, append_assoc}
 use Rattle.std.specs.List.{drop-map, list_any, remove}
 use Rattle.std.specs.Option.{option_to_list}
 use Rattle.std.specs.Prelude.{option_map, set, slice_get}
-use Rattle.std.proofs.lemmas.Bool.{eqb-true}
 use Rattle.std.proofs.lemmas.List.{append-nil, length-append, length-map, map-append, map-set, take_all, take_more, take-map}
 use Rattle.std.proofs.lemmas.Option.{same_Some, slice_get-get_or, slice_get-map, slice_get_read}
 use Rattle.rz_core.specs.Lists.{or_else}
-use Rattle.rz_core.specs.declared.resource.OsType.{OsType}
-use Rattle.rz_types_table.specs.Listed.{codes_of, declaration_of, listed, standing, AreOwn}
-use Rattle.rz_types_table.specs.Positions.{in_slot, of_code, positions}
-use Rattle.rz_types_table.specs.Table.{is_for, last_such, same_scope, stands_at, Declaration}
+use Rattle.rz_types_table.specs.Listed.{declaration_of, groups_of, listed, own_group, standing, AreOwn}
+use Rattle.rz_types_table.specs.Positions.{in_slot, of_group, positions, same_group}
+use Rattle.rz_types_table.specs.Table.{last_such, Declaration}
 use Rattle.rz_types_table.specs.declared.table.Declared.{Declared}
-use Rattle.rz_types_table.specs.declared.table.Scope.{Scope}
 use Rattle.rz_types.proofs.Firsts.{or_none}
 use Rattle.rz_types_table.proofs.Found.{last_such-push, none_first, standing-push}
+use Rattle.rz_types_table.proofs.Groups.{group_is}
 
 -- One position more.
 
@@ -44,11 +42,12 @@ pub positions-map : {A B : Type 0} (test : B → Bool) (f : A → B) (xs : List 
 positions-map test f [] = refl
 positions-map test f (x ∷ xs) = ap (λ (l : List ℕ). if test (f x) then 0 ∷ map suc l else map suc l) (positions-map test f xs)
 
--- a code more at the end, where a type's positions before and after differ by its own
-placed_more : (codes : List (Option ℕ)) (kind other : ℕ) (before after : List ℕ) → after ≡ before ++ (if kind == other then length codes ∷ [] else [])
-    → before ≡ positions (of_code other) codes → after ≡ positions (of_code other) (codes ++ Some kind ∷ [])
-placed_more codes kind other before after adds placed =
-    adds ∙ ap (λ (l : List ℕ). l ++ (if kind == other then length codes ∷ [] else [])) placed ∙ sym (positions-push (of_code other) codes (Some kind))
+-- a group more at the end, where a group's positions before and after differ by its own
+placed_more : (groups : List (Option (ℕ × Option ℤ))) (group other : ℕ × Option ℤ) (before after : List ℕ)
+    → after ≡ before ++ (if same_group group other then length groups ∷ [] else [])
+    → before ≡ positions (of_group other) groups → after ≡ positions (of_group other) (groups ++ Some group ∷ [])
+placed_more groups group other before after adds placed =
+    adds ∙ ap (λ (l : List ℕ). l ++ (if same_group group other then length groups ∷ [] else [])) placed ∙ sym (positions-push (of_group other) groups (Some group))
 
 -- What is read.
 
@@ -203,14 +202,14 @@ pub found_in : {A B : Type 0} (test : B → Bool) (f : A → B) (slot : Option A
 found_in test f None passes = cc
 found_in test f (Some x) passes = (x, refl, passes)
 
--- Declarations of one type.
+-- Declarations of one group.
 
-module _ (kind : ℕ) (slots : List (Option Declared)) (own : List ℕ) (placed : AreOwn kind slots own) where
+module _ (group : ℕ × Option ℤ) (slots : List (Option Declared)) (own : List ℕ) (placed : AreOwn group slots own) where
   abbrev of : Option Declared → Bool
-  of slot = of_code kind (option_map (λ (one : Declared). one.kind.code) slot)
+  of slot = of_group group (option_map own_group slot)
 
   placed_here : own ≡ positions of slots
-  placed_here = placed ∙ positions-map (of_code kind) (option_map (λ (one : Declared). one.kind.code)) slots
+  placed_here = placed ∙ positions-map (of_group group) (option_map own_group) slots
 
   -- each position is that of a slot
   pub own_within : (i : ℕ) → i < length own → get_or own i 0 < length slots
@@ -234,7 +233,7 @@ module _ (kind : ℕ) (slots : List (Option Declared)) (own : List ℕ) (placed 
         ∙ ap (λ (l : List ℕ). list_any test (listed (at_positions slots l))) (sym (take_all i own all))
         ∙ none
 
-    -- none before a position, where none of the type before it passes
+    -- none before a position, where none of the group before it passes
     pub none_front : (i : ℕ) → i < length own → list_any test (listed (at_positions slots (take i own))) ≡ false
         → list_any test (listed (take (get_or own i 0) slots)) ≡ false
     none_front i below none =
@@ -245,37 +244,28 @@ module _ (kind : ℕ) (slots : List (Option Declared)) (own : List ℕ) (placed 
         ∙ ap (λ (l : List ℕ). list_any test (listed (at_positions slots (take i l)))) (sym placed_here)
         ∙ none
 
--- another type's is for none of its ids
-pub not_for : (kind : OsType) (test : Scope → Bool) (x : Declared) → (x.kind.code == kind.code) ≡ false → is_for kind test (declaration_of x) ≡ false
-not_for kind test x other = ap (λ b. b && test x.scope) other
-
-pub not_there : (kind : OsType) (scope : Scope) (x : Declared) → (x.kind.code == kind.code) ≡ false → stands_at kind scope (declaration_of x) ≡ false
-not_there kind scope x other = ap (λ b. b && same_scope x.scope scope) other
-
 -- One declaration more.
 
 -- one more at the end
-pub placed_append : (slots more : List (Option Declared)) (one : Declared) (n kind : ℕ) (before after : List ℕ) → n ≡ length slots → more ≡ slots ++ Some one ∷ []
-    → after ≡ before ++ (if one.kind.code == kind then n ∷ [] else []) → AreOwn kind slots before → AreOwn kind more after
-placed_append slots more one n kind before after size is adds placed =
-    let code = option_map (λ (each : Declared). each.kind.code) in
-    placed_more (codes_of slots) one.kind.code kind before after
-    (adds ∙ ap (λ k. before ++ (if one.kind.code == kind then k ∷ [] else [])) (size ∙ sym (length-map slots code))) placed
-    ∙ ap (positions (of_code kind)) (sym (map-append code slots (Some one ∷ [])) ∙ ap codes_of (sym is))
+pub placed_append : (slots more : List (Option Declared)) (one : Declared) (n : ℕ) (group : ℕ × Option ℤ) (before after : List ℕ) → n ≡ length slots
+    → more ≡ slots ++ Some one ∷ [] → after ≡ before ++ (if same_group (own_group one) group then n ∷ [] else []) → AreOwn group slots before → AreOwn group more after
+placed_append slots more one n group before after size is adds placed =
+    placed_more (groups_of slots) (own_group one) group before after
+    (adds ∙ ap (λ k. before ++ (if same_group (own_group one) group then k ∷ [] else [])) (size ∙ sym (length-map slots (option_map own_group)))) placed
+    ∙ ap (positions (of_group group)) (sym (map-append (option_map own_group) slots (Some one ∷ [])) ∙ ap groups_of (sym is))
 
 kept_at : (xs ys : List ℕ) (i : ℕ) → i < length xs → get_or (xs ++ ys) i 0 ≡ get_or xs i 0
 kept_at [] ys i within = absurd (omega (arith, within))
 kept_at (x ∷ xs) ys zero within = refl
 kept_at (x ∷ xs) ys (suc i) within = kept_at xs ys i (omega (arith, within))
 
--- those before it keep their places among the positions of their type
-pub own_kept : (slots : List (Option Declared)) (one : Declared) (kind index : ℕ) (own more : List ℕ) → AreOwn kind slots own
-    → AreOwn kind (slots ++ Some one ∷ []) more → index < length own → (index < length more) × (get_or more index 0 ≡ get_or own index 0)
-own_kept slots one kind index own more placed after within =
-    let code = option_map (λ (each : Declared). each.kind.code) in
-    let last : List ℕ = if one.kind.code == kind then length (codes_of slots) ∷ [] else [] in
+-- those before it keep their places among the positions of their group
+pub own_kept : (slots : List (Option Declared)) (one : Declared) (group : ℕ × Option ℤ) (index : ℕ) (own more : List ℕ) → AreOwn group slots own
+    → AreOwn group (slots ++ Some one ∷ []) more → index < length own → (index < length more) × (get_or more index 0 ≡ get_or own index 0)
+own_kept slots one group index own more placed after within =
+    let last : List ℕ = if same_group (own_group one) group then length (groups_of slots) ∷ [] else [] in
     let is : more ≡ own ++ last =
-    after ∙ ap (positions (of_code kind)) (map-append code slots (Some one ∷ [])) ∙ positions-push (of_code kind) (codes_of slots) (Some one.kind.code)
+    after ∙ ap (positions (of_group group)) (map-append (option_map own_group) slots (Some one ∷ [])) ∙ positions-push (of_group group) (groups_of slots) (Some (own_group one))
     ∙ ap (λ (l : List ℕ). l ++ last) (sym placed) in (
       omega (arith, within, ap length is, length-append own last),
       ap (λ (l : List ℕ). get_or l index 0) is ∙ kept_at own last index within,
@@ -335,26 +325,26 @@ module _ {A : Type 0} (test : A → Bool) where
         ap (λ b. if b then 0 ∷ map suc (positions test xs) else map suc (positions test xs)) (fails ∙ sym (ap test (same_Some z x at) ∙ apart))
     untouched (z ∷ xs) (suc k) x at apart = ap (λ (l : List ℕ). if test z then 0 ∷ map suc l else map suc l) (untouched xs k x at apart)
 
-other_code : (kind other : ℕ) (code : Option ℕ) → (kind == other) ≡ false → of_code kind code ≡ true → of_code other code ≡ false
-other_code kind other None apart is = refl
-other_code kind other (Some code) apart is = ap (λ c. c == other) (eqb-true code kind is) ∙ apart
+other_group : (group other : ℕ × Option ℤ) (slot : Option (ℕ × Option ℤ)) → same_group group other ≡ false → of_group group slot ≡ true → of_group other slot ≡ false
+other_group group other None apart is = refl
+other_group group other (Some own) apart is = ap (λ (g : ℕ × Option ℤ). same_group g other) (group_is own group is) ∙ apart
 
-out_by : (codes : List (Option ℕ)) (kind other index position : ℕ) (own before : List ℕ) → slice_get own index ≡ Some position
-    → own ≡ positions (of_code kind) codes → before ≡ positions (of_code other) codes
-    → (b : Bool) → (kind == other) ≡ b → (if b then remove before index else before) ≡ positions (of_code other) (set codes position None)
-out_by codes kind other index position own before at placed placed_other true same =
+out_by : (groups : List (Option (ℕ × Option ℤ))) (group other : ℕ × Option ℤ) (index position : ℕ) (own before : List ℕ) → slice_get own index ≡ Some position
+    → own ≡ positions (of_group group) groups → before ≡ positions (of_group other) groups
+    → (b : Bool) → same_group group other ≡ b → (if b then remove before index else before) ≡ positions (of_group other) (set groups position None)
+out_by groups group other index position own before at placed placed_other true same =
     ap (λ (l : List ℕ). remove l index) placed_other
-    ∙ sym (cleared (of_code other) None refl codes index position
-    (ap (λ n. slice_get (positions (of_code n) codes) index) (sym (eqb-true kind other same)) ∙ ap (λ (l : List ℕ). slice_get l index) (sym placed) ∙ at))
-out_by codes kind other index position own before at placed placed_other false apart =
-    let there = passing (of_code kind) codes index position (ap (λ (l : List ℕ). slice_get l index) (sym placed) ∙ at) in
-    placed_other ∙ sym (untouched (of_code other) None refl codes position there.0 there.1 (other_code kind other there.0 apart there.2))
+    ∙ sym (cleared (of_group other) None refl groups index position
+    (ap (λ (g : ℕ × Option ℤ). slice_get (positions (of_group g) groups) index) (sym (group_is group other same)) ∙ ap (λ (l : List ℕ). slice_get l index) (sym placed) ∙ at))
+out_by groups group other index position own before at placed placed_other false apart =
+    let there = passing (of_group group) groups index position (ap (λ (l : List ℕ). slice_get l index) (sym placed) ∙ at) in
+    placed_other ∙ sym (untouched (of_group other) None refl groups position there.0 there.1 (other_group group other there.0 apart there.2))
 
--- of one type's positions one is taken out, and its slot is emptied
-pub placed_out : (slots new : List (Option Declared)) (kind other index position : ℕ) (own before after : List ℕ) → slice_get own index ≡ Some position
-    → AreOwn kind slots own → AreOwn other slots before → after ≡ (if kind == other then remove before index else before)
+-- of one group's positions one is taken out, and its slot is emptied
+pub placed_out : (slots new : List (Option Declared)) (group other : ℕ × Option ℤ) (index position : ℕ) (own before after : List ℕ) → slice_get own index ≡ Some position
+    → AreOwn group slots own → AreOwn other slots before → after ≡ (if same_group group other then remove before index else before)
     → new ≡ set slots position None → AreOwn other new after
-placed_out slots new kind other index position own before after at placed placed_other made is =
+placed_out slots new group other index position own before after at placed placed_other made is =
     made
-    ∙ out_by (codes_of slots) kind other index position own before at placed placed_other (kind == other) refl
-    ∙ ap (positions (of_code other)) (sym (map-set (option_map (λ (each : Declared). each.kind.code)) slots position None) ∙ ap codes_of (sym is))
+    ∙ out_by (groups_of slots) group other index position own before at placed placed_other (same_group group other) refl
+    ∙ ap (positions (of_group other)) (sym (map-set (option_map own_group) slots position None) ∙ ap groups_of (sym is))

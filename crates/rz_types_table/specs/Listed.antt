@@ -1,8 +1,8 @@
 -- The declarations of a table as contracts see them, one by one. A declaration stands in a slot, which is empty once the
 -- declaration was taken out.
-use Rattle.std.specs.Prelude.{◌≡◌, ◌<◌, ℕ, Bool, true, false, List, map, length, take, slice_get, slice_index, Option, Some, option_map, option_to_list, MatchOption, flat_map}
+use Rattle.std.specs.Prelude.{◌≡◌, ◌<◌, ℕ, ℤ, Bool, true, false, List, map, length, take, slice_get, slice_index, Option, Some, option_map, option_to_list, MatchOption, flat_map}
 use Rattle.std.specs.List.{list_any}
-use Rattle.rz_types_table.specs.Positions.{of_code, positions}
+use Rattle.rz_types_table.specs.Positions.{group_of, of_group, positions}
 use Rattle.rz_types_table.specs.Table.{Declaration}
 use Rattle.rz_types.specs.Template.{template_of}
 use Rattle.rz_types_table.specs.declared.table.Declared.{Declared}
@@ -17,13 +17,17 @@ standing slots = flat_map option_to_list slots
 abbrev pub listed : List (Option Declared) → List Declaration
 listed slots = map declaration_of (standing slots)
 
--- the codes of their types, slot by slot
-abbrev pub codes_of : List (Option Declared) → List (Option ℕ)
-codes_of slots = map (option_map (λ one. one.kind.code)) slots
+-- the group of a declaration: those of its type for its very id, or those of its type for ranges and for any id
+abbrev pub own_group : Declared → ℕ × Option ℤ
+own_group one = group_of one.kind one.scope
 
--- the positions are those of the declarations of a type
-abbrev pub AreOwn : ℕ → List (Option Declared) → List ℕ → Type 0
-AreOwn kind slots own = own ≡ positions (of_code kind) (codes_of slots)
+-- their groups, slot by slot
+abbrev pub groups_of : List (Option Declared) → List (Option (ℕ × Option ℤ))
+groups_of slots = map (option_map own_group) slots
+
+-- the positions are those of the declarations of a group
+abbrev pub AreOwn : ℕ × Option ℤ → List (Option Declared) → List ℕ → Type 0
+AreOwn group slots own = own ≡ positions (of_group group) (groups_of slots)
 
 -- which of the positions is that of the first declaration that passes, or that none passes
 abbrev pub IsFirst : (Declaration → Bool) → List (Option Declared) → List ℕ → Option ℕ → Type 0

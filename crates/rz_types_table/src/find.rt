@@ -1,16 +1,17 @@
 //! Which declaration counts for an id, and which one `as` names. Both are defined in `specs/Table`.
 
-ghost use Rattle.std.specs.Prelude.{◌≡◌, if◌then◌else◌, option_map};
+ghost use Rattle.std.specs.Prelude.{◌≡◌, if◌then◌else◌, None, Some, option_map};
 ghost use Rattle.rz_core.specs.Lists.{or_else};
-ghost use Rattle.rz_types_table.specs.Listed.{declaration_of, listed, AreOwn, IsFirst};
-ghost use Rattle.rz_types_table.specs.Positions.{in_slot};
+ghost use Rattle.rz_types_table.specs.Listed.{declaration_of, groups_of, listed, AreOwn, IsFirst};
+ghost use Rattle.rz_types_table.specs.Positions.{group_of, in_slot, ArePlaced};
 ghost use Rattle.rz_types_table.specs.Table.{asked, found, is_any, is_for, is_id, is_range_of, last_such, no_such_type, same_scope, stands_at};
 
+use crate::positions::{Places, held};
 use crate::table::{Declared, Scope};
 use rz_core::{Kept, OsType};
 use rz_types::TypeFault;
 
-/// Which of the declarations of a type is for a scope, where they stand in the slots at these positions: its index among
+/// Which of the declarations of a group is for a scope, where they stand in the slots at these positions: its index among
 /// the positions.
 pub fn index_of(
     slots: &[Option<Declared>],
@@ -18,7 +19,7 @@ pub fn index_of(
     kind: OsType,
     scope: Scope,
 ) -> Option<usize>
-    requires { AreOwn kind.code slots.now own.now }
+    requires { AreOwn (group_of kind scope) slots.now own.now }
     ensures { IsFirst (stands_at kind scope) slots.now own.now result }
 {
     for (index, position) in own.iter().enumerate() {
@@ -53,48 +54,80 @@ fn same_scope(one: Scope, other: Scope) -> bool
 /// The declaration that counts for an id.
 pub fn find_in<'a>(
     slots: &'a [Option<Declared>],
-    own: &[usize],
+    places: &Places,
     kind: OsType,
     id: i16,
 ) -> Option<&'a Declared>
-    requires { AreOwn kind.code slots.now own.now }
+    requires { ArePlaced (groups_of slots.now) places.now }
     ensures { option_map (λ one. declaration_of one.now) result ≡ found kind id (listed slots.now) }
 {
-    let mut by_id = None;
-    let mut by_range = None;
-    let mut for_any = None;
-    for position in own {
-        let slot = &slots[*position];
-        by_id = later(by_id, slot, is_for_id(slot, kind, id));
-        by_range = later(by_range, slot, is_for_range_of(slot, kind, id));
-        for_any = later(for_any, slot, is_for_any(slot, kind));
-    }
+    let own = held(places, (kind.code, Some(id)));
+    let others = held(places, (kind.code, None));
+    let by_id = last_for_id(slots, own, kind, id);
+    let by_range = last_for_range(slots, others, kind, id);
+    let for_any = last_for_any(slots, others, kind);
     or_else(by_id, or_else(by_range, for_any))
 }
 
 /// The declaration that `as` names.
 pub fn asked_in<'a>(
     slots: &'a [Option<Declared>],
-    own: &[usize],
+    places: &Places,
     kind: OsType,
     id: Option<i16>,
 ) -> Option<&'a Declared>
-    requires { AreOwn kind.code slots.now own.now }
+    requires { ArePlaced (groups_of slots.now) places.now }
     ensures { option_map (λ one. declaration_of one.now) result ≡ asked kind id (listed slots.now) }
 {
     match id {
-        Some(id) => find_in(slots, own, kind, id),
-        None => last_for_any(slots, own, kind),
+        Some(id) => find_in(slots, places, kind, id),
+        None => last_for_any(slots, held(places, (kind.code, None)), kind),
     }
 }
 
-/// The last declaration for any id.
+/// The last declaration for this very id, where those for it stand in the slots at these positions.
+fn last_for_id<'a>(
+    slots: &'a [Option<Declared>],
+    own: &[usize],
+    kind: OsType,
+    id: i16,
+) -> Option<&'a Declared>
+    requires { AreOwn (kind.code, Some id) slots.now own.now }
+    ensures { option_map (λ one. declaration_of one.now) result ≡ last_such (is_for kind (is_id id)) (listed slots.now) }
+{
+    let mut by_id = None;
+    for position in own {
+        let slot = &slots[*position];
+        by_id = later(by_id, slot, is_for_id(slot, kind, id));
+    }
+    by_id
+}
+
+/// The last declaration whose range holds an id, where those for ranges and for any id stand at these positions.
+fn last_for_range<'a>(
+    slots: &'a [Option<Declared>],
+    own: &[usize],
+    kind: OsType,
+    id: i16,
+) -> Option<&'a Declared>
+    requires { AreOwn (kind.code, None) slots.now own.now }
+    ensures { option_map (λ one. declaration_of one.now) result ≡ last_such (is_for kind (is_range_of id)) (listed slots.now) }
+{
+    let mut by_range = None;
+    for position in own {
+        let slot = &slots[*position];
+        by_range = later(by_range, slot, is_for_range_of(slot, kind, id));
+    }
+    by_range
+}
+
+/// The last declaration for any id, where those for ranges and for any id stand at these positions.
 fn last_for_any<'a>(
     slots: &'a [Option<Declared>],
     own: &[usize],
     kind: OsType,
 ) -> Option<&'a Declared>
-    requires { AreOwn kind.code slots.now own.now }
+    requires { AreOwn (kind.code, None) slots.now own.now }
     ensures { option_map (λ one. declaration_of one.now) result ≡ last_such (is_for kind is_any) (listed slots.now) }
 {
     let mut for_any = None;

@@ -1,14 +1,17 @@
 -- Names by their kinds: those that an expression asks for, and those of rows.
-use Rattle.std.proofs.Common.{◌≡◌, Bool, true, false, ◌&&◌, ◌||◌, Option, refl, sym, ap, ◌∙◌}
-use Rattle.rz_expr.specs.Environment.{count_key, count_of, place_in, place_key, place_of, row_in, rows_of, Key}
-use Rattle.rz_expr.specs.Term.{BitsAt, Constant, FactOf, Indexed, Named, OfOne, OfTwo, RowNumber, RowsOf, Term}
+use Rattle.std.proofs.Common.{◌≡◌, Bool, true, false, ◌&&◌, ◌||◌, not, List, [], ◌∷◌, Option, refl, sym, ap, ◌∙◌}
+use Rattle.std.specs.List.{flat_map, list_all}
+use Rattle.rz_expr.specs.Environment.{count_of, place_in, place_of, row_in, rows_of, Key}
+use Rattle.rz_expr.specs.Mention.{alone, around, counted, fact, indexed, mentions, with_bits, Mention}
+use Rattle.rz_expr.specs.Term.{Term}
 use Rattle.rz_types_fields.specs.Field.{field_and, no_fields, Align, Array, Fill, Label, Number, PlainBody, PlainField, Points, Switch, Text}
 use Rattle.rz_types_fields.specs.Passed.{is_label, is_measured, is_near}
 use Rattle.rz_types_fields.specs.RowLabels.{is_row, RowOf}
-use Rattle.rz_types_fields.specs.Solve.{has_key, is_same_key}
+use Rattle.rz_types_fields.specs.Solve.{has_key, is_same_key, keys_in, tellable}
+use Rattle.rz_types_fields.proofs.KeysIn.{key_passes}
 use Rattle.rz_types_fields.proofs.RowKeys.{counted_none, labelled_none, placed_none}
 use Rattle.rz_types_fields.proofs.SameNames.{key_is}
-use Rattle.rz_unlay.proofs.ReadsTests.{either_of}
+use Rattle.rz_unlay.proofs.ReadsTests.{not_true}
 
 -- asked for by its name alone: a label, the number of an array's rows, or that of the rows that a label is in
 abbrev pub is_asked : Key → Bool
@@ -57,19 +60,17 @@ apart_from_rows key other plain of = by (is_same_key key other) refl
     by false differ = refl
 
 -- an expression has no name of rows in it but those that nothing tells
+plain_keys : (all : List Mention) → list_all (λ key. not (of_rows key)) (flat_map tellable all) ≡ true
+plain_keys [] = refl
+plain_keys (alone name ∷ others) = plain_keys others
+plain_keys (indexed name ∷ others) = plain_keys others
+plain_keys (counted name ∷ others) = plain_keys others
+plain_keys (around name ∷ others) = plain_keys others
+plain_keys (with_bits name ∷ others) = plain_keys others
+plain_keys (fact which ∷ others) = plain_keys others
+
 pub plain_in : (key : Key) (term : Term) → has_key key term ≡ true → of_rows key ≡ false
-plain_in key (Constant number) has = absurd cc
-plain_in key (Named name) has = ap of_rows (key_is key (place_key name) has)
-plain_in key (Indexed name index) has = plain_in key index has
-plain_in key (RowsOf name) has = ap of_rows (key_is key (count_key name) has)
-plain_in key (RowNumber name) has = absurd cc
-plain_in key (BitsAt name start width) has =
-    either_of (is_same_key key (place_key name) || has_key key start) (has_key key width)
-    (either_of (is_same_key key (place_key name)) (has_key key start) (λ same. ap of_rows (key_is key (place_key name) same)) (plain_in key start))
-    (plain_in key width) has
-plain_in key (FactOf which) has = absurd cc
-plain_in key (OfOne op operand) has = plain_in key operand has
-plain_in key (OfTwo op left right) has = either_of (has_key key left) (has_key key right) (plain_in key left) (plain_in key right) has
+plain_in key term has = not_true (of_rows key) (key_passes (λ key. not (of_rows key)) (keys_in term) key (plain_keys (mentions term)) has)
 
 pub asked_in : (key : Key) (term : Term) → has_key key term ≡ true → is_asked key ≡ true
 asked_in key term has = plain_asked key (plain_in key term has)

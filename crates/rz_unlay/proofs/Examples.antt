@@ -8,7 +8,7 @@ use Rattle.std.specs.Int.{int_wrap}
 use Rattle.rz_bits.specs.Bits.{bits_of, number_bits}
 use Rattle.rz_types.specs.Passed.{at_front, nothing_passed, outside}
 use Rattle.rz_unlay.specs.Cursor.{body_found, line_of, reading, Line}
-use Rattle.rz_types_fields.specs.Known.{names_inside}
+use Rattle.rz_types_fields.specs.Front.{names_inside}
 use Rattle.rz_types_fields.specs.declared.field.NumForm.TheVariants as forms
 use Rattle.rz_types_fields.specs.declared.field.Radix.TheVariants as radixes
 use Rattle.rz_types_fields.specs.declared.field.TextForm.TheVariants as texts

@@ -26,7 +26,8 @@ use Rattle.rz_unlay_pieces.specs.Pieces.{claim_count, here_at, Step}
 use Rattle.rz_unlay_pieces.specs.Came.{met_in, met_of}
 use Rattle.rz_unlay_pieces.specs.declared.came.Met.{Met}
 use Rattle.rz_unlay.proofs.LeafSteps.{align_is, fill_is, label_is, num_is, points_is, text_is}
-use Rattle.rz_types_fields.specs.Known.{known, names_inside}
+use Rattle.rz_types_fields.specs.Front.{names_inside}
+use Rattle.rz_types_fields.specs.Known.{known}
 use Rattle.rz_unlay_pieces.specs.Few.{few, step_count, value_count}
 use Rattle.rz_unlay.specs.Few.{found_count, line_count, lines_count}
 use Rattle.rz_unlay.specs.Fits.{AreFit, CasesFit, Fits}

@@ -9,7 +9,7 @@ use Rattle.rz_types.specs.Kept.{AreOwn}
 use Rattle.rz_types.specs.Walk.{names_of}
 use Rattle.rz_types_fields.proofs.RowKeys.{labelled_none, no_stated, place_in_none, undeclared}
 use Rattle.rz_types_fields.specs.Field.{field_and, Array, PlainBody, PlainField}
-use Rattle.rz_types_fields.specs.Known.{names_inside, stated_in, value_inside}
+use Rattle.rz_types_fields.specs.Front.{names_inside, stated_in, value_inside}
 use Rattle.rz_types_fields.specs.Passed.{declares, gives_count, gives_key, gives_rows}
 use Rattle.rz_types_fields.specs.RowLabels.{also_rows, is_row, row_number, row_value, RowOf}
 use Rattle.rz_unlay.proofs.Asked.{of_rows}

@@ -6,7 +6,7 @@ use Rattle.rz_core.specs.declared.facts.Facts.{Facts}
 use Rattle.rz_core.specs.declared.resource.Word.{Word}
 use Rattle.rz_expr.specs.Environment.{count_key, place_of, Environment, IsPartOf, Key}
 use Rattle.rz_types_fields.specs.Field.{case_and, field_and, no_cases, no_fields, Align, Array, Fill, Label, Number, PlainBody, PlainCases, PlainField, Points, Switch, Text}
-use Rattle.rz_types_fields.specs.Known.{names_inside, stated_in}
+use Rattle.rz_types_fields.specs.Front.{names_inside, stated_in}
 use Rattle.rz_types_fields.specs.Passed.{declares, gives_rows, is_label, met_behind, met_inside, Names}
 use Rattle.rz_types_fields.specs.RowLabels.{also_rows, is_row, label_places, row_number, row_of, row_value, RowOf}
 use Rattle.rz_types_fields.proofs.RowKeys.{placed_none}

@@ -11,7 +11,7 @@ use Rattle.rz_bits.specs.BitBuf.{filled, missing, zeros}
 use Rattle.rz_types_fields.specs.declared.tree.Tree.{Tree}
 use Rattle.rz_types_fields.specs.declared.tree.Tree.TheVariants as trees
 use Rattle.rz_types_fields.specs.Field.{case_and, field_and, no_cases, no_fields, Align, Array, Fill, Label, Number, PlainBody, PlainCases, PlainField, Points, Switch, Text}
-use Rattle.rz_types_fields.specs.Known.{names_inside}
+use Rattle.rz_types_fields.specs.Front.{names_inside}
 use Rattle.rz_types_fields.specs.Passed.{at_field, at_front, behind, met_behind, met_inside, nothing_passed, outside, Names, Passed}
 use Rattle.rz_types_fields.specs.Sees.{Late}
 use Rattle.rz_types_fields.specs.Shape.{are_cases_shaped, are_shaped, body_depth, deepest_body, is_none_or, is_own_name, is_shaped, is_well_shaped}

@@ -17,7 +17,7 @@ use Rattle.rz_words.specs.declared.words.Role.TheVariants.{OtherName}
 use Rattle.rz_expr.proofs.Cases.{same_value}
 use Rattle.rz_types_fields.specs.declared.tree.Tree.{Tree}
 use Rattle.rz_types_fields.specs.Field.{field_and, no_fields, Align, Array, Fill, Label, Number, PlainBody, PlainField, Points, Switch, Text}
-use Rattle.rz_types_fields.specs.Known.{names_inside, stated_in}
+use Rattle.rz_types_fields.specs.Front.{names_inside, stated_in}
 use Rattle.rz_types.specs.Names.{FillsRows}
 use Rattle.rz_types_fields.specs.Passed.{at_field, at_front, behind, declares, gives_count, gives_key, nothing_passed, outside, states, Passed}
 use Rattle.rz_types_fields.specs.Shape.{are_shaped, is_shaped}

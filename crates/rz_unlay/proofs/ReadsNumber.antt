@@ -6,6 +6,8 @@ use Rattle.std.proofs.lemmas.Nat.{pow_pos}
 use Rattle.std.proofs.Math.Nat.{mod-lt}
 use Rattle.rz_core.specs.declared.facts.Facts.{Facts}
 use Rattle.rz_expr.specs.Environment.{count_key, count_of, place_in, place_key, place_of, row_in, rows_key, rows_of, Environment, IsPartOf, Key, Sight}
+use Rattle.rz_expr.proofs.Items.{all_two}
+use Rattle.rz_expr.specs.Mention.{mentions}
 use Rattle.rz_expr.specs.Term.{BitsAt, Constant, FactOf, Indexed, Named, OfOne, OfTwo, RowNumber, RowsOf, Term}
 use Rattle.rz_expr.specs.Value.{known_value, place_in_row, value_of}
 use Rattle.rz_expr.specs.declared.value.EvalFault.{EvalFault}
@@ -16,12 +18,13 @@ use Rattle.rz_types_fields.specs.declared.tree.Tree.TheVariants as trees
 use Rattle.rz_types_fields.specs.Field.{field_and, PlainBody, PlainField}
 use Rattle.rz_types_fields.specs.Passed.{declares, is_held, is_known, is_near, told_by, Names, Passed}
 use Rattle.rz_types_fields.specs.Sees.{bits_before, is_late, sees, Late}
-use Rattle.rz_types_fields.specs.Solve.{can_solve, has_key, is_same_key, solved_value, undoes_left, undoes_one, undoes_right, AreSolved, IsSolvedTo, SolvesBack}
+use Rattle.rz_types_fields.specs.Solve.{can_solve, has_key, is_same_key, keys_in, solved_value, undoes_left, undoes_one, undoes_right, AreSolved, IsSolvedTo, SolvesBack}
 use Rattle.rz_types_fields.specs.Spells.{is_late_value, IsNumber}
 use Rattle.rz_types_fields.specs.Stored.{stored_number}
 use Rattle.rz_types_fields.specs.Value.{see}
+use Rattle.rz_types_fields.proofs.KeysIn.{has_bits, has_one, has_two, key_there}
 use Rattle.rz_types_fields.proofs.SameNames.{key_is}
-use Rattle.rz_types.specs.Readable.{all_known, is_number_read, tells_one}
+use Rattle.rz_types.specs.Readable.{all_known, is_known_there, is_number_read, tells_one}
 use Rattle.rz_unlay_pieces.specs.Ahead.{in_resource}
 use Rattle.rz_unlay_pieces.specs.Pieces.{here_at, is_stored, late_behind, number_step, seen_at, solve_all, solved_at, with_near, Step}
 use Rattle.rz_unlay.proofs.Ahead.{Ahead}
@@ -39,15 +42,16 @@ use Rattle.rz_unlay.proofs.Told.{all_told, AreTold, IsTold, Widens}
 -- a name that can be solved stands in it
 solved_there : (key : Key) (term : Term) → can_solve key term ≡ true → has_key key term ≡ true
 solved_there key (Constant number) can = absurd cc
-solved_there key (Named name) can = can
+solved_there key (Named name) can = has_one key (place_key name) ∙ can
 solved_there key (Indexed name index) can = absurd cc
 solved_there key (RowNumber name) can = absurd cc
-solved_there key (RowsOf name) can = can
+solved_there key (RowsOf name) can = has_one key (count_key name) ∙ can
 solved_there key (BitsAt name start width) can = absurd cc
 solved_there key (FactOf which) can = absurd cc
 solved_there key (OfOne op operand) can = solved_there key operand (both_true (undoes_one op) (can_solve key operand) can).1
 solved_there key (OfTwo op left right) can =
-    by_test (has_key key left) _ _ (λ there is. left_true (has_key key left) (has_key key right) there)
+    has_two key op left right
+    ∙ by_test (has_key key left) _ _ (λ there is. left_true (has_key key left) (has_key key right) there)
     (λ absent is. right_true (has_key key left) (has_key key right) (solved_there key right (both_true (undoes_right op) (can_solve key right) is).1)) can
 
 -- so it is none of rows
@@ -61,48 +65,30 @@ solved_to false solved value is to = to
 -- a name in it that isn't known is solved to its value
 solved_back : (known : Names) (solved : Key → Option ℤ) (names : Environment) (key : Key) → known key ≡ false → (term : Term) → AreSolved known solved names term → has_key key term ≡ true
     → solved key ≡ names.give key
-solved_back known solved names key unknown (Constant number) are has = absurd cc
-solved_back known solved names key unknown (Named name) are has =
-    subst (λ (k : Key). known k ≡ false → solved k ≡ names.give k) (sym (key_is key (place_key name) has)) (λ so. solved_to (known (place_key name)) _ _ so are) unknown
-solved_back known solved names key unknown (Indexed name index) are has = solved_back known solved names key unknown index are has
-solved_back known solved names key unknown (RowNumber name) are has = absurd cc
-solved_back known solved names key unknown (RowsOf name) are has =
-    subst (λ (k : Key). known k ≡ false → solved k ≡ names.give k) (sym (key_is key (count_key name) has)) (λ so. solved_to (known (count_key name)) _ _ so are) unknown
-solved_back known solved names key unknown (BitsAt name start width) are has =
-    either_of (is_same_key key (place_key name) || has_key key start) (has_key key width)
-    (either_of (is_same_key key (place_key name)) (has_key key start)
-    (λ same. subst (λ (k : Key). known k ≡ false → solved k ≡ names.give k) (sym (key_is key (place_key name) same)) (λ so. solved_to (known (place_key name)) _ _ so are.0) unknown)
-    (λ there. solved_back known solved names key unknown start are.1 there))
-    (λ there. solved_back known solved names key unknown width are.2 there)
-    has
-solved_back known solved names key unknown (FactOf which) are has = absurd cc
-solved_back known solved names key unknown (OfOne op operand) are has = solved_back known solved names key unknown operand are has
-solved_back known solved names key unknown (OfTwo op left right) are has =
-    either_of (has_key key left) (has_key key right) (λ there. solved_back known solved names key unknown left are.0 there)
-    (λ there. solved_back known solved names key unknown right are.1 there) has
+solved_back known solved names key unknown term are has =
+    solved_to (known key) (solved key) (names.give key) unknown (key_there (λ key. IsSolvedTo (known key) (solved key) (names.give key)) (keys_in term) key are has)
 
 -- in an expression with a value each name has one
 pub has_value : (facts : Facts) (bits : ℤ → ℤ → Option ℤ) (names : Environment) (key : Key) (term : Term) (value : ℤ) → value_of term (see facts bits names) ≡ Ok value → has_key key term ≡ true
     → (v : ℤ) × (names.give key ≡ Some v)
 has_value facts bits names key (Constant number) value is has = absurd cc
 has_value facts bits names key (Named name) value is has =
-    let it = name_has name (names.give (place_key name)) value is in (it.0, ap names.give (key_is key (place_key name) has) ∙ it.1)
+    let it = name_has name (names.give (place_key name)) value is in (it.0, ap names.give (key_is key (place_key name) (sym (has_one key (place_key name)) ∙ has)) ∙ it.1)
 has_value facts bits names key (Indexed name index) value is has =
     let one = parts_have (value_of index (see facts bits names)) (λ number. place_in_row name names number (names.give (rows_key name))) value is in
     has_value facts bits names key index one.0 one.1 has
 has_value facts bits names key (RowNumber name) value is has = absurd cc
 has_value facts bits names key (RowsOf name) value is has =
-    let it = name_has name (names.give (count_key name)) value is in (it.0, ap names.give (key_is key (count_key name) has) ∙ it.1)
+    let it = name_has name (names.give (count_key name)) value is in (it.0, ap names.give (key_is key (count_key name) (sym (has_one key (count_key name)) ∙ has)) ∙ it.1)
 has_value facts bits names key (BitsAt name start width) value is has =
     let one = parts_have (known_value name (names.give (place_key name))) _ value is in
     let two = parts_have (value_of start (see facts bits names)) _ value one.2 in
     let three = parts_have (value_of width (see facts bits names)) _ value two.2 in
-    either_of (is_same_key key (place_key name) || has_key key start) (has_key key width)
-    (either_of (is_same_key key (place_key name)) (has_key key start)
+    either_of (is_same_key key (place_key name)) (has_key key start || has_key key width)
     (λ same. let it = name_has name (names.give (place_key name)) one.0 one.1 in (it.0, ap names.give (key_is key (place_key name) same) ∙ it.1))
-    (λ there. has_value facts bits names key start two.0 two.1 there))
-    (λ there. has_value facts bits names key width three.0 three.1 there)
-    has
+    (either_of (has_key key start) (has_key key width) (λ there. has_value facts bits names key start two.0 two.1 there)
+    (λ there. has_value facts bits names key width three.0 three.1 there))
+    (sym (has_bits key name start width) ∙ has)
 has_value facts bits names key (FactOf which) value is has = absurd cc
 has_value facts bits names key (OfOne op operand) value is has =
     let one = parts_have (value_of operand (see facts bits names)) _ value is in has_value facts bits names key operand one.0 one.1 has
@@ -110,7 +96,7 @@ has_value facts bits names key (OfTwo op left right) value is has =
     let one = parts_have (value_of left (see facts bits names)) _ value is in
     let two = parts_have (value_of right (see facts bits names)) _ value one.2 in
     either_of (has_key key left) (has_key key right) (λ there. has_value facts bits names key left one.0 one.1 there)
-    (λ there. has_value facts bits names key right two.0 two.1 there) has
+    (λ there. has_value facts bits names key right two.0 two.1 there) (sym (has_two key op left right) ∙ has)
 
 -- What a number tells.
 
@@ -118,15 +104,15 @@ has_value facts bits names key (OfTwo op left right) value is has =
 module _ (met known : Names) (env : Environment) (near : Environment → Environment) (solved : Key → Environment → Option ℤ) where
   all_are_known : (term : Term) → all_known met known term ≡ true → AreTold met known env near solved term
   all_are_known (Constant number) is = tt
-  all_are_known (Named name) is = inl is
+  all_are_known (Named name) is = inl (both_true (known (place_key name)) true is).0
   all_are_known (Indexed name index) is = all_are_known index (both_true (known (rows_key name)) (all_known met known index) is).1
   all_are_known (RowNumber name) is = tt
-  all_are_known (RowsOf name) is = inl is
+  all_are_known (RowsOf name) is = inl (both_true (known (count_key name)) true is).0
   all_are_known (BitsAt name start width) is = is
   all_are_known (FactOf which) is = tt
   all_are_known (OfOne op operand) is = all_are_known operand is
   all_are_known (OfTwo op left right) is =
-      let each = both_true (all_known met known left) (all_known met known right) is in (all_are_known left each.0, all_are_known right each.1)
+      let each = all_two (is_known_there met known) (mentions left) (mentions right) is in (all_are_known left each.0, all_are_known right each.1)
 
   each_told : (key : Key) → of_rows key ≡ false → IsTold known env near solved key → (term : Term) → can_solve key term ≡ true
       → all_known met (λ other. is_same_key key other || known other) term ≡ true → AreTold met known env near solved term
@@ -139,7 +125,7 @@ module _ (met known : Names) (env : Environment) (near : Environment → Environ
   each_told key plain told (FactOf which) can is = absurd cc
   each_told key plain told (OfOne op operand) can is = each_told key plain told operand (both_true (undoes_one op) (can_solve key operand) can).1 is
   each_told key plain told (OfTwo op left right) can is =
-      let each = both_true (all_known met (λ other. is_same_key key other || known other) left) _ is in
+      let each = all_two (is_known_there met (λ other. is_same_key key other || known other)) (mentions left) (mentions right) is in
       by_test (has_key key left) _ _
       (λ there one.
       let second = both_true (undoes_left op && not (has_key key right)) (can_solve key left) one in
@@ -192,10 +178,10 @@ module _ (facts : Facts) (bits : ℤ → ℤ → Option ℤ) (rest : PlainBody) 
                 (solved_same key can others names covers part ∙ solved_back known (λ key. solved_value width key (see facts bits env) term stored) env key is term back there ∙ has.1),
           )
 
-  pub names_told : (all_known met known term || tells_one rest met known term term) ≡ true → AreTold met known env near solved term
-  names_told is = either_of (all_known met known term) (tells_one rest met known term term) (all_are_known met known env near solved term)
+  pub names_told : (all_known met known term || tells_one rest met known term) ≡ true → AreTold met known env near solved term
+  names_told is = either_of (all_known met known term) (tells_one rest met known term) (all_are_known met known env near solved term)
       (λ tells_it.
-      let it = teller rest met known term term tells_it in
+      let it = teller rest met known term tells_it in
       let one = both_true (declares rest it.key && can_solve it.key term) _ it.is in
       let two = both_true (declares rest it.key) (can_solve it.key term) one.0 in
       each_told met known env near solved it.key (solved_plain it.key term two.1) (key_told it.key two.0 two.1 one.1) term two.1 one.1)
@@ -212,10 +198,10 @@ its_names rest term passed reads =
     let known = is_known passed in
     let still : (key : Key) → known key ≡ true → its key ≡ true = (λ key is. right_true (has_key key term) (known key) is) in
     let met : (key : Key) → passed.met key ≡ true → its key ≡ true = (λ key is. still key (met_known passed key is)) in
-    either_of (all_known passed.met known term) (tells_one rest passed.met known term term)
+    either_of (all_known passed.met known term) (tells_one rest passed.met known term)
     (λ all. still_known passed.met known its its met still term all)
     (λ tells_it.
-    let it = teller rest passed.met known term term tells_it in
+    let it = teller rest passed.met known term tells_it in
     let one = both_true (declares rest it.key && can_solve it.key term) _ it.is in
     let can = (both_true (declares rest it.key) (can_solve it.key term) one.0).1 in
     still_known passed.met (λ other. is_same_key it.key other || known other) its its met

@@ -12,6 +12,8 @@ use Rattle.rz_core.specs.declared.facts.Facts.{Facts}
 use Rattle.rz_expr.specs.Constant.{constant_of, constant_sight, is_constant}
 use Rattle.rz_expr.proofs.Cases.{same_value}
 use Rattle.rz_expr.specs.Environment.{predefined, Environment, Sight}
+use Rattle.rz_expr.proofs.Items.{all_two}
+use Rattle.rz_expr.specs.Mention.{alone, is_true_or_false, mentions}
 use Rattle.rz_expr.specs.Term.{BitsAt, Constant, FactOf, Indexed, Named, OfOne, OfTwo, RowNumber, RowsOf, Term}
 use Rattle.rz_expr.specs.Value.{known_value, operate, operate_one, value_of}
 use Rattle.rz_expr.specs.declared.value.EvalFault.{EvalFault}
@@ -49,7 +51,7 @@ module _ (facts : Facts) (bits : ℤ → ℤ → Option ℤ) (env : Environment)
   same_constant : (term : Term) → is_constant term ≡ true → value_of term constant_sight ≡ value_of term (see facts bits env)
   same_constant (Constant number) is = refl
   same_constant (Named name) is =
-      let there = value_there (predefined (str_to_ascii_lowercase name)) (sym (ap is_some (same_value name)) ∙ is) in
+      let there = value_there (predefined (str_to_ascii_lowercase name)) (sym (ap is_some (same_value name)) ∙ (both_true (is_true_or_false (alone name)) true is).0) in
       ap (known_value name) (there.1 ∙ sym (has (str_to_ascii_lowercase name) there.0 there.1))
   same_constant (Indexed name index) is = absurd cc
   same_constant (RowsOf name) is = absurd cc
@@ -58,7 +60,7 @@ module _ (facts : Facts) (bits : ℤ → ℤ → Option ℤ) (env : Environment)
   same_constant (FactOf which) is = absurd cc
   same_constant (OfOne op operand) is = λ i. same_constant operand is i >>= λ value. Ok (operate_one op value)
   same_constant (OfTwo op left right) is =
-      let each = both_true (is_constant left) (is_constant right) is in
+      let each = all_two is_true_or_false (mentions left) (mentions right) is in
       λ i. same_constant left each.0 i >>= λ one. same_constant right each.1 i >>= λ other. operate op one other
 
   ok_is : (r : Result ℤ EvalFault) (c : ℤ) → result_ok r ≡ Some c → r ≡ Ok c

@@ -9,7 +9,7 @@ use Rattle.rz_expr.specs.Environment.{count_key, place_key, Environment, Key}
 use Rattle.rz_expr.specs.Term.{Term}
 use Rattle.rz_expr.specs.Value.{value_of}
 use Rattle.rz_types_fields.specs.Field.{case_and, no_cases, Align, Array, Fill, Label, Number, PlainBody, PlainCases, PlainField, PlainText, Points, Switch, Text}
-use Rattle.rz_types_fields.specs.Known.{names_inside}
+use Rattle.rz_types_fields.specs.Front.{names_inside}
 use Rattle.rz_types_fields.specs.Passed.{gives_count, gives_key, gives_rows, met_inside, Names}
 use Rattle.rz_types_fields.specs.Piece.{pieces_of, terms_of_text, Filler, OneNumber, OneText, Piece, Place, Zeros}
 use Rattle.rz_types_fields.specs.RowLabels.{also_rows, row_of, row_value}

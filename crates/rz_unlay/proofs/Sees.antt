@@ -1,6 +1,7 @@
 -- What is known of names is enough for the expressions that have them.
-use Rattle.std.proofs.Common.{◌≡◌, ℕ, ℤ, pos, negsuc, Bool, true, false, ◌&&◌, ◌||◌, not, List, Option, Some, None, Result, Ok, Err, refl, sym, ap, ◌∙◌, subst, arith}
+use Rattle.std.proofs.Common.{◌≡◌, ℕ, ℤ, pos, negsuc, Bool, true, false, ◌&&◌, ◌||◌, not, List, [], ◌∷◌, ◌++◌, Option, Some, None, Result, Ok, Err, refl, sym, ap, ◌∙◌, subst, arith}
 use Rattle.std.specs.Prelude.{◌+ℤ◌, if◌then◌else◌, int_le, int_lt, option_and_then}
+use Rattle.std.specs.List.{flat_map, list_all, list_any}
 use Rattle.std.specs.Result.{is_ok, result_ok}
 use Rattle.std.specs.Str.{str_to_ascii_lowercase}
 use Rattle.std.proofs.lemmas.Bool.Decides.{nat_tests}
@@ -8,20 +9,23 @@ use Rattle.rz_core.specs.Stop.{◌>>=◌}
 use Rattle.rz_core.specs.declared.facts.Facts.{Facts}
 use Rattle.rz_expr.proofs.Grows as sights
 use Rattle.rz_expr.specs.Environment.{count_key, place_in, place_in_key, place_key, row_in, row_key, rows_key, rows_of, Environment, IsPartOf, Key}
+use Rattle.rz_expr.proofs.Items.{all_more, all_two, none_two}
+use Rattle.rz_expr.specs.Mention.{alone, around, counted, fact, indexed, mentions, with_bits, Mention}
 use Rattle.rz_expr.specs.Term.{BitsAt, Constant, FactOf, Indexed, Named, OfOne, OfTwo, RowNumber, RowsOf, Term}
 use Rattle.rz_expr.specs.Value.{known_value, number_at, operate, operate_one, place_in_row, value_of}
 use Rattle.rz_expr.specs.declared.value.EvalFault.{EvalFault}
 use Rattle.rz_expr.specs.declared.value.EvalFault.TheVariants.{BadIndex}
 use Rattle.rz_types.specs.Names.{FillsRows}
-use Rattle.rz_types.specs.Readable.{all_known}
-use Rattle.rz_types_fields.specs.Solve.{can_solve, has_key, in_64_bits, is_same_key, solve, undo_left, undo_one, undo_right, undoes_left, undoes_one, undoes_right}
+use Rattle.rz_types.proofs.Unknown.{has_known}
+use Rattle.rz_types.specs.Readable.{all_known, is_known_there}
+use Rattle.rz_types_fields.specs.Solve.{can_solve, has_key, in_64_bits, is_same_key, solve, tellable, undo_left, undo_one, undo_right, undoes_left, undoes_one, undoes_right}
 use Rattle.rz_types_fields.specs.Passed.{is_held, is_known, Names, Passed}
 use Rattle.rz_types_fields.specs.Sees.{hit, is_late, names_later, Late}
 use Rattle.rz_types_fields.specs.Value.{see}
-use Rattle.rz_types_fields.proofs.SameNames.{key_is}
+use Rattle.rz_types_fields.proofs.KeysIn.{has_one}
 use Rattle.rz_unlay.proofs.Asked.{apart_from_rows, is_asked, of_rows}
 pub use Rattle.rz_unlay.proofs.ReadsTests.{both_true, by_test, not_true}
-use Rattle.rz_unlay.proofs.ReadsTests.{either_of, left_true, neither, right_true}
+use Rattle.rz_unlay.proofs.ReadsTests.{left_true, right_true}
 
 -- each of these names that is asked for has a value
 abbrev pub Covers : Names → Environment → Type 0
@@ -78,25 +82,25 @@ module _ (facts : Facts) (bits : ℤ → ℤ → Option ℤ) (met known : Names)
 
   pub value_same : (term : Term) → all_known met known term ≡ true → value_of term (see facts bits part) ≡ value_of term (see facts bits whole)
   value_same (Constant number) is = refl
-  value_same (Named name) is = ap (known_value name) (name_same (place_key name) refl is)
+  value_same (Named name) is = ap (known_value name) (name_same (place_key name) refl (both_true (known (place_key name)) true is).0)
   value_same (Indexed name index) is =
       let each = both_true (known (rows_key name)) (all_known met known index) is in
       (λ i. value_same index each.1 i >>= λ number. place_in_row name part number (part.give (rows_key name)))
       ∙ (λ i. value_of index (see facts bits whole) >>= λ number. row_same name number (part.give (rows_key name)) refl i)
       ∙ (λ i. value_of index (see facts bits whole) >>= λ number. place_in_row name whole number (name_same (rows_key name) refl each.0 i))
-  value_same (RowsOf name) is = ap (known_value name) (name_same (count_key name) refl is)
+  value_same (RowsOf name) is = ap (known_value name) (name_same (count_key name) refl (both_true (known (count_key name)) true is).0)
   value_same (RowNumber name) is = ap (known_value name) (stands.around (str_to_ascii_lowercase name))
   value_same (BitsAt name start width) is =
-      let one = both_true (met (place_key name) && all_known met known start) (all_known met known width) is in
-      let two = both_true (met (place_key name)) (all_known met known start) one.0 in
-      λ i. known_value name (name_same (place_key name) refl (leads (place_key name) two.0) i)
-      >>= λ place. value_same start two.1 i
-      >>= λ behind. value_same width one.1 i
+      let one = both_true (met (place_key name)) (list_all (is_known_there met known) (mentions start ++ mentions width)) is in
+      let two = all_two (is_known_there met known) (mentions start) (mentions width) one.1 in
+      λ i. known_value name (name_same (place_key name) refl (leads (place_key name) one.0) i)
+      >>= λ place. value_same start two.0 i
+      >>= λ behind. value_same width two.1 i
       >>= λ size. number_at (see facts bits part) (place +ℤ behind) size
   value_same (FactOf which) is = refl
   value_same (OfOne op operand) is = ap (λ (r : Result ℤ EvalFault). r >>= λ value. Ok (operate_one op value)) (value_same operand is)
   value_same (OfTwo op left right) is =
-      let each = both_true (all_known met known left) (all_known met known right) is in
+      let each = all_two (is_known_there met known) (mentions left) (mentions right) is in
       λ i. value_same left each.0 i >>= λ one. value_same right each.1 i >>= λ other. operate op one other
 
 -- so they are late there where they are late here
@@ -187,70 +191,47 @@ module _ (facts : Facts) (bits : ℤ → ℤ → Option ℤ) (part whole : Envir
 -- Names that are known.
 
 -- where more is known, the names of an expression still are
-pub still_known : (met known more_met more : Names) → ((key : Key) → met key ≡ true → more_met key ≡ true) → ((key : Key) → known key ≡ true → more key ≡ true) → (term : Term)
-    → all_known met known term ≡ true → all_known more_met more term ≡ true
-still_known met known more_met more one other (Constant number) is = refl
-still_known met known more_met more one other (Named name) is = other (place_key name) is
-still_known met known more_met more one other (Indexed name index) is =
-    let each = both_true (known (rows_key name)) (all_known met known index) is in
-    rw (other (rows_key name) each.0, still_known met known more_met more one other index each.1) refl
-still_known met known more_met more one other (RowsOf name) is = other (count_key name) is
-still_known met known more_met more one other (RowNumber name) is = refl
-still_known met known more_met more one other (BitsAt name start width) is =
-    let first = both_true (met (place_key name) && all_known met known start) (all_known met known width) is in
-    let second = both_true (met (place_key name)) (all_known met known start) first.0 in
-    rw (one (place_key name) second.0, still_known met known more_met more one other start second.1, still_known met known more_met more one other width first.1) refl
-still_known met known more_met more one other (FactOf which) is = refl
-still_known met known more_met more one other (OfOne op operand) is = still_known met known more_met more one other operand is
-still_known met known more_met more one other (OfTwo op left right) is =
-    let each = both_true (all_known met known left) (all_known met known right) is in
-    rw (still_known met known more_met more one other left each.0, still_known met known more_met more one other right each.1) refl
+module _ (met known more_met more : Names) (one : (key : Key) → met key ≡ true → more_met key ≡ true) (other : (key : Key) → known key ≡ true → more key ≡ true) where
+  one_still : (name : Mention) → is_known_there met known name ≡ true → is_known_there more_met more name ≡ true
+  one_still (alone name) is = other (place_key name) is
+  one_still (indexed name) is = other (rows_key name) is
+  one_still (counted name) is = other (count_key name) is
+  one_still (around name) is = refl
+  one_still (with_bits name) is = one (place_key name) is
+  one_still (fact which) is = refl
+
+  pub still_known : (term : Term) → all_known met known term ≡ true → all_known more_met more term ≡ true
+  still_known term is = all_more (is_known_there met known) (is_known_there more_met more) one_still (mentions term) is
 
 -- an expression without a name knows the others
-pub others_known : (met known : Names) (key : Key) → of_rows key ≡ false → (term : Term) → has_key key term ≡ false → all_known met (λ other. is_same_key key other || known other) term ≡ true
-    → all_known met known term ≡ true
-others_known met known key plain (Constant number) absent is = refl
-others_known met known key plain (Named name) absent is = sym (ap (λ (b : Bool). b || known (place_key name)) absent) ∙ is
-others_known met known key plain (Indexed name index) absent is =
-    let each = both_true (is_same_key key (rows_key name) || known (rows_key name)) _ is in
-    let own : known (rows_key name) ≡ true = sym (ap (λ (b : Bool). b || known (rows_key name)) (apart_from_rows key (rows_key name) plain refl)) ∙ each.0 in
-    rw (own, others_known met known key plain index absent each.1) refl
-others_known met known key plain (RowNumber name) absent is = refl
-others_known met known key plain (RowsOf name) absent is = sym (ap (λ (b : Bool). b || known (count_key name)) absent) ∙ is
-others_known met known key plain (BitsAt name start width) absent is =
-    let no_parts = neither (is_same_key key (place_key name) || has_key key start) (has_key key width) absent in
-    let no_name = neither (is_same_key key (place_key name)) (has_key key start) no_parts.0 in
-    let one = both_true (met (place_key name) && all_known met (λ other. is_same_key key other || known other) start) _ is in
-    let two = both_true (met (place_key name)) _ one.0 in
-    rw (two.0, others_known met known key plain start no_name.1 two.1, others_known met known key plain width no_parts.1 one.1) refl
-others_known met known key plain (FactOf which) absent is = refl
-others_known met known key plain (OfOne op operand) absent is = others_known met known key plain operand absent is
-others_known met known key plain (OfTwo op left right) absent is =
-    let no_parts = neither (has_key key left) (has_key key right) absent in
-    let one = both_true (all_known met (λ other. is_same_key key other || known other) left) _ is in
-    rw (others_known met known key plain left no_parts.0 one.0, others_known met known key plain right no_parts.1 one.1) refl
+module _ (met known : Names) (key : Key) (plain : of_rows key ≡ false) where
+  abbrev with_key : Names
+  with_key other = is_same_key key other || known other
+
+  without : (other : Key) → is_same_key key other ≡ false → with_key other ≡ true → known other ≡ true
+  without other differ is = sym (ap (λ (b : Bool). b || known other) differ) ∙ is
+
+  one_other : (one : Mention) → list_any (is_same_key key) (tellable one) ≡ false → is_known_there met with_key one ≡ true → is_known_there met known one ≡ true
+  one_other (alone name) absent is = without (place_key name) (sym (has_one key (place_key name)) ∙ absent) is
+  one_other (indexed name) absent is = without (rows_key name) (apart_from_rows key (rows_key name) plain refl) is
+  one_other (counted name) absent is = without (count_key name) (sym (has_one key (count_key name)) ∙ absent) is
+  one_other (around name) absent is = refl
+  one_other (with_bits name) absent is = is
+  one_other (fact which) absent is = refl
+
+  each_other : (all : List Mention) → list_any (is_same_key key) (flat_map tellable all) ≡ false → list_all (is_known_there met with_key) all ≡ true → list_all (is_known_there met known) all ≡ true
+  each_other [] absent is = refl
+  each_other (one ∷ others) absent is =
+      let none = none_two (is_same_key key) (tellable one) (flat_map tellable others) absent in
+      let each = both_true (is_known_there met with_key one) (list_all (is_known_there met with_key) others) is in
+      rw (one_other one none.0 each.0, each_other others none.1 each.1) refl
+
+  pub others_known : (term : Term) → has_key key term ≡ false → all_known met (λ other. is_same_key key other || known other) term ≡ true → all_known met known term ≡ true
+  others_known term absent is = each_other (mentions term) absent is
 
 -- a name of an expression whose names are known is known
 pub its_known : (met known : Names) (leads : (key : Key) → met key ≡ true → known key ≡ true) (key : Key) (term : Term) → all_known met known term ≡ true → has_key key term ≡ true → known key ≡ true
-its_known met known leads key (Constant number) is has = absurd cc
-its_known met known leads key (Named name) is has = ap known (key_is key (place_key name) has) ∙ is
-its_known met known leads key (Indexed name index) is has = its_known met known leads key index (both_true (known (rows_key name)) (all_known met known index) is).1 has
-its_known met known leads key (RowNumber name) is has = absurd cc
-its_known met known leads key (RowsOf name) is has = ap known (key_is key (count_key name) has) ∙ is
-its_known met known leads key (BitsAt name start width) is has =
-    let one = both_true (met (place_key name) && all_known met known start) (all_known met known width) is in
-    let two = both_true (met (place_key name)) (all_known met known start) one.0 in
-    either_of (is_same_key key (place_key name) || has_key key start) (has_key key width)
-    (either_of (is_same_key key (place_key name)) (has_key key start)
-    (λ same. ap known (key_is key (place_key name) same) ∙ leads (place_key name) two.0)
-    (λ there. its_known met known leads key start two.1 there))
-    (λ there. its_known met known leads key width one.1 there)
-    has
-its_known met known leads key (FactOf which) is has = absurd cc
-its_known met known leads key (OfOne op operand) is has = its_known met known leads key operand is has
-its_known met known leads key (OfTwo op left right) is has =
-    let each = both_true (all_known met known left) (all_known met known right) is in
-    either_of (has_key key left) (has_key key right) (λ there. its_known met known leads key left each.0 there) (λ there. its_known met known leads key right each.1 there) has
+its_known met known leads key term is has = has_known met known leads term key is has
 
 -- What is solved is the same.
 
@@ -269,7 +250,7 @@ module _ (facts : Facts) (bits : ℤ → ℤ → Option ℤ) (met known : Names)
       ap (λ (solved : ℤ → Option ℤ). option_and_then solved (option_and_then in_64_bits (undo_one op number)))
       (λ i n. solve_same operand each.1 is n i)
   solve_same (OfTwo op left right) can is number =
-      let sides = both_true (all_known met (λ other. is_same_key key other || known other) left) _ is in
+      let sides = all_two (is_known_there met (λ other. is_same_key key other || known other)) (mentions left) (mentions right) is in
       by_test (has_key key left) _ _
       (λ there one.
       let second = both_true (undoes_left op && not (has_key key right)) (can_solve key left) one in

@@ -1,9 +1,11 @@
 -- The names of an expression that are solved where a number is read.
-use Rattle.std.proofs.Common.{◌≡◌, ◌⊎◌, inl, inr, ℤ, false, ◌||◌, Option, Some, None, refl, sym, ap, ◌∙◌, subst}
+use Rattle.std.proofs.Common.{◌≡◌, ◌⊎◌, inl, inr, ℤ, false, ◌||◌, [], ◌∷◌, Option, Some, None, refl, sym, ap, ◌∙◌, subst}
+use Rattle.std.specs.List.{list_any}
 use Rattle.rz_expr.specs.Environment.{count_key, place_key, Environment, IsPartOf, Key}
 use Rattle.rz_expr.specs.Term.{BitsAt, Constant, FactOf, Indexed, Named, OfOne, OfTwo, RowNumber, RowsOf, Term}
 use Rattle.rz_types_fields.specs.Passed.{Names}
 use Rattle.rz_types_fields.specs.Solve.{has_key, is_same_key}
+use Rattle.rz_types_fields.proofs.KeysIn.{has_one, has_two}
 use Rattle.rz_types_fields.proofs.SameNames.{key_is, key_itself}
 use Rattle.rz_unlay_pieces.specs.Pieces.{also, solve_all, solve_key}
 use Rattle.rz_unlay.proofs.ReadsTests.{and_then, by_case, if_false, if_true, neither, not_both, some_same}
@@ -75,15 +77,23 @@ module _ (near : Environment → Environment) (solved : Key → Environment → 
         behind key value (inl was) = earlier key value (first.had key value was)
         behind key value (inr it) = inr (record { mid = it.mid; behind = part_of_part names mid it.mid first.kept it.behind; before = it.before; absent = it.absent; is = it.is })
 
+    -- as many names or more
+    wider : (has wide : Names) (names more : Environment) → ((key : Key) → wide key ≡ false → has key ≡ false) → Solved near solved has names more → Solved near solved wide names more
+    wider has wide names more leads it = record { kept = it.kept; same = λ key none. it.same key (leads key none); had = it.had }
+
+    one_solved : (own : Key) (names more : Environment) → solve_key solved own ((near names).give own) names ≡ Some more → Solved near solved (λ key. list_any (is_same_key key) (own ∷ [])) names more
+    one_solved own names more is = wider (λ key. is_same_key key own) (λ key. list_any (is_same_key key) (own ∷ [])) names more (λ key none. sym (has_one key own) ∙ none) (key_solved own names more is)
+
     pub all_solved : (term : Term) (names more : Environment) → solve_all near solved term names ≡ Some more → Solved near solved (λ key. has_key key term) names more
     all_solved (Constant number) names more is = none_solved (λ key. false) names more is
-    all_solved (Named name) names more is = key_solved (place_key name) names more is
+    all_solved (Named name) names more is = one_solved (place_key name) names more is
     all_solved (Indexed name index) names more is = all_solved index names more is
     all_solved (RowNumber name) names more is = none_solved (λ key. false) names more is
-    all_solved (RowsOf name) names more is = key_solved (count_key name) names more is
+    all_solved (RowsOf name) names more is = one_solved (count_key name) names more is
     all_solved (BitsAt name start width) names more is = none_solved (λ key. has_key key (BitsAt name start width)) names more is
     all_solved (FactOf which) names more is = none_solved (λ key. false) names more is
     all_solved (OfOne op operand) names more is = all_solved operand names more is
     all_solved (OfTwo op left right) names more is =
         let one = and_then (solve_all near solved right) (solve_all near solved left names) more is in
-        both_solved (λ key. has_key key left) (λ key. has_key key right) names one.0 more (all_solved left names one.0 one.1) (all_solved right one.0 more one.2)
+        wider (λ key. has_key key left || has_key key right) (λ key. has_key key (OfTwo op left right)) names more (λ key none. sym (has_two key op left right) ∙ none)
+        (both_solved (λ key. has_key key left) (λ key. has_key key right) names one.0 more (all_solved left names one.0 one.1) (all_solved right one.0 more one.2))

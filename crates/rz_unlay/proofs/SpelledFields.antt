@@ -8,7 +8,7 @@ use Rattle.rz_core.specs.declared.facts.Facts.{Facts}
 use Rattle.rz_core.specs.declared.resource.Word.{Word}
 use Rattle.rz_expr.specs.Environment.{place_key, Environment, IsPartOf, Key}
 use Rattle.rz_types_fields.specs.Field.{case_and, field_and, no_cases, no_fields, Align, Array, Fill, Label, Number, PlainBody, PlainCases, PlainField, Points, Switch, Text}
-use Rattle.rz_types_fields.specs.Known.{names_inside}
+use Rattle.rz_types_fields.specs.Front.{names_inside}
 use Rattle.rz_types_fields.specs.Passed.{at_field, at_front, behind, declares, gives_key, is_held, met_behind, met_inside, Passed}
 use Rattle.rz_types_fields.specs.Row.{By}
 use Rattle.rz_types_fields.specs.RowLabels.{also_rows, label_places, row_of, RowOf}

@@ -6,8 +6,8 @@ use Rattle.std.proofs.lemmas.List.{length-drop, length-take}
 use Rattle.std.proofs.lemmas.Nat.{pow_pos}
 use Rattle.std.proofs.Math.Nat.{mod-lt}
 use Rattle.rz_core.specs.declared.facts.Facts.{Facts}
-use Rattle.rz_expr.specs.Environment.{count_key, count_of, place_in, place_key, place_of, row_in, rows_of, Environment, IsPartOf, Key, Sight}
-use Rattle.rz_expr.specs.Term.{BitsAt, Constant, FactOf, Indexed, Named, OfOne, OfTwo, RowNumber, RowsOf, Term}
+use Rattle.rz_expr.specs.Environment.{count_of, place_in, place_of, row_in, rows_of, Environment, IsPartOf, Key, Sight}
+use Rattle.rz_expr.specs.Term.{Term}
 use Rattle.rz_expr.specs.Value.{value_of}
 use Rattle.rz_expr.specs.declared.value.EvalFault.{EvalFault}
 use Rattle.rz_bits.specs.Bits.{number_bits, number_of}
@@ -19,10 +19,11 @@ use Rattle.rz_types_fields.specs.Field.{field_and, PlainBody, PlainField}
 use Rattle.rz_types_fields.specs.Passed.{declares, is_held, is_known, is_near, told_by, Names, Passed}
 use Rattle.rz_types_fields.specs.Range.{fits_number}
 use Rattle.rz_types_fields.specs.Sees.{bits_before, is_late, sees, Late}
-use Rattle.rz_types_fields.specs.Solve.{can_solve, has_key, is_same_key, solved_value, AreSolved, IsSolvedTo, SolvesBack}
+use Rattle.rz_types_fields.specs.Solve.{can_solve, has_key, is_same_key, keys_in, solved_value, AreSolved, IsSolvedTo, SolvesBack}
 use Rattle.rz_types_fields.specs.Spells.{is_late_value, IsNumber}
 use Rattle.rz_types_fields.specs.Stored.{stored_number}
-use Rattle.rz_types_fields.proofs.SameNames.{key_is, key_itself}
+use Rattle.rz_types_fields.proofs.KeysIn.{each_key}
+use Rattle.rz_types_fields.proofs.SameNames.{key_is}
 use Rattle.rz_types.specs.Readable.{all_known, is_number_read, tells_one}
 use Rattle.rz_unlay_pieces.specs.Pieces.{here_at, is_stored, late_behind, number_step, seen_at, solve_all, solved_at, with_near, Here, Step}
 use Rattle.rz_unlay.proofs.Near.{near_alone}
@@ -80,12 +81,12 @@ pub record PieceRead (all : List Bool) (body : PlainBody) (first : ℕ) (declare
 
 -- each of its names is known, or the fields after it give it
 known_or_given : (rest : PlainBody) (met known : Names) → ((key : Key) → met key ≡ true → known key ≡ true) → (term : Term)
-    → (all_known met known term || tells_one rest met known term term) ≡ true → (key : Key) → has_key key term ≡ true → (declares rest key || known key) ≡ true
+    → (all_known met known term || tells_one rest met known term) ≡ true → (key : Key) → has_key key term ≡ true → (declares rest key || known key) ≡ true
 known_or_given rest met known leads term reads key has =
-    either_of (all_known met known term) (tells_one rest met known term term)
+    either_of (all_known met known term) (tells_one rest met known term)
     (λ are. right_true (declares rest key) (known key) (its_known met known leads key term are has))
     (λ tells_it.
-    let it = teller rest met known term term tells_it in
+    let it = teller rest met known term tells_it in
     let one = both_true (declares rest it.key && can_solve it.key term) (all_known met (λ other. is_same_key it.key other || known other) term) it.is in
     let two = both_true (declares rest it.key) (can_solve it.key term) one.0 in
     either_of (is_same_key it.key key) (known key)
@@ -96,24 +97,7 @@ known_or_given rest met known leads term reads key has =
 
 each_solved : (known : Names) (solved : Key → Option ℤ) (names : Environment) (term : Term) → ((key : Key) → has_key key term ≡ true → IsSolvedTo (known key) (solved key) (names.give key))
     → AreSolved known solved names term
-each_solved known solved names (Constant number) each = tt
-each_solved known solved names (Named name) each = each (place_key name) (key_itself (place_key name))
-each_solved known solved names (Indexed name index) each = each_solved known solved names index each
-each_solved known solved names (RowNumber name) each = tt
-each_solved known solved names (RowsOf name) each = each (count_key name) (key_itself (count_key name))
-each_solved known solved names (BitsAt name start width) each = (
-  each (place_key name) (left_true (is_same_key (place_key name) (place_key name) || has_key (place_key name) start) (has_key (place_key name) width)
-      (left_true (is_same_key (place_key name) (place_key name)) (has_key (place_key name) start) (key_itself (place_key name)))),
-  each_solved known solved names start (λ key has. each key (left_true (is_same_key key (place_key name) || has_key key start) (has_key key width)
-      (right_true (is_same_key key (place_key name)) (has_key key start) has))),
-  each_solved known solved names width (λ key has. each key (right_true (is_same_key key (place_key name) || has_key key start) (has_key key width) has)),
-)
-each_solved known solved names (FactOf which) each = tt
-each_solved known solved names (OfOne op operand) each = each_solved known solved names operand each
-each_solved known solved names (OfTwo op left right) each = (
-  each_solved known solved names left (λ key has. each key (left_true (has_key key left) (has_key key right) has)),
-  each_solved known solved names right (λ key has. each key (right_true (has_key key left) (has_key key right) has)),
-)
+each_solved known solved names term each = each_key (λ key. IsSolvedTo (known key) (solved key) (names.give key)) (keys_in term) each
 
 -- After a fixed number.
 

@@ -7,7 +7,7 @@ use Rattle.rz_core.specs.declared.facts.Facts.{Facts}
 use Rattle.rz_core.specs.declared.resource.Word.{Word}
 use Rattle.rz_expr.specs.Environment.{count_key, place_in, place_of, rows_of, Environment, IsPartOf, Key}
 use Rattle.rz_types_fields.specs.Field.{field_and, no_fields, Align, Array, Fill, Label, Number, PlainBody, PlainField, Points, Switch, Text}
-use Rattle.rz_types_fields.specs.Known.{names_inside, stated_in, stated_value}
+use Rattle.rz_types_fields.specs.Front.{names_inside, stated_in, stated_value}
 use Rattle.rz_types_fields.specs.Passed.{at_front, behind, declares, gives_count, gives_key, gives_rows, has_label, is_held, is_label, states, states_count, Passed}
 use Rattle.rz_types_fields.specs.RowLabels.{also_rows, is_row, label_index, labels_count, row_number, row_of, row_value, RowOf}
 use Rattle.rz_types_fields.specs.Sees.{Late}

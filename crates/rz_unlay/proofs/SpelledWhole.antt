@@ -9,7 +9,7 @@ use Rattle.rz_expr.specs.Environment.{Key}
 use Rattle.rz_bits.specs.Bits.{bits_of, number_of}
 use Rattle.rz_bits.specs.BitBuf.{filled, missing, zeros}
 use Rattle.rz_types_fields.specs.Field.{PlainBody}
-use Rattle.rz_types_fields.specs.Known.{names_inside, stated_in}
+use Rattle.rz_types_fields.specs.Front.{names_inside, stated_in}
 use Rattle.rz_types_fields.specs.Passed.{at_front, declares, is_held, nothing_passed, outside, Passed}
 use Rattle.rz_types_fields.specs.Shape.{are_shaped}
 use Rattle.rz_types_fields.specs.Spells.{most_bits, values_in, Spells}

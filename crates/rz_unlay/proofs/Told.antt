@@ -1,12 +1,14 @@
 -- The names of an expression are solved to the values that they have.
-use Rattle.std.proofs.Common.{◌≡◌, ◌⊎◌, inl, inr, ℤ, Bool, true, false, ◌||◌, Option, Some, None, refl, sym, ap, ◌∙◌, subst}
+use Rattle.std.proofs.Common.{◌≡◌, ◌⊎◌, inl, inr, ℤ, Bool, true, false, ◌||◌, [], ◌∷◌, Option, Some, None, refl, sym, ap, ◌∙◌, subst}
 use Rattle.std.specs.Prelude.{if◌then◌else◌, option_and_then}
+use Rattle.std.specs.List.{list_any}
 use Rattle.rz_expr.specs.Environment.{count_key, place_key, Environment, IsPartOf, Key}
 use Rattle.rz_expr.specs.Term.{BitsAt, Constant, FactOf, Indexed, Named, OfOne, OfTwo, RowNumber, RowsOf, Term}
 use Rattle.rz_unlay_pieces.specs.Pieces.{also, solve_all, solve_key}
 use Rattle.rz_types.specs.Readable.{all_known}
 use Rattle.rz_types_fields.specs.Solve.{has_key, is_same_key}
 use Rattle.rz_types_fields.specs.Passed.{Names}
+use Rattle.rz_types_fields.proofs.KeysIn.{has_one, has_two}
 use Rattle.rz_types_fields.proofs.SameNames.{key_is, key_itself}
 use Rattle.rz_unlay.proofs.Asked.{apart_from_rows, asked_in, of_rows, plain_asked}
 use Rattle.rz_unlay.proofs.ReadsTests.{if_false, some_same}
@@ -136,13 +138,19 @@ module _ (met known : Names) (leads : (key : Key) → met key ≡ true → known
   covers_more : (names more : Environment) → Covers known (near names) → IsPartOf names more → Covers known (near more)
   covers_more names more covers kept key asked is = let it = covers key asked is in widens.wider names more kept key it.0 it.1
 
+  one_told : (own : Key) (names : Environment) → of_rows own ≡ false → Covers known (near names) → IsKnownOf names env → IsTold known env near solved own
+      → Tells env near (λ key. list_any (is_same_key key) (own ∷ []) ≡ true) names (solve_key solved own ((near names).give own) names)
+  one_told own names plain covers part told =
+      other_names known env near widens solved (λ key. is_same_key key own ≡ true) (λ key. list_any (is_same_key key) (own ∷ []) ≡ true) names _ (λ key has. sym (has_one key own) ∙ has)
+      (key_told known env near widens solved own names plain covers part told)
+
   pub all_told : (term : Term) (names : Environment) → Covers known (near names) → IsKnownOf names env → AreTold met known env near solved term
       → Tells env near (λ key. has_key key term ≡ true) names (solve_all near solved term names)
   all_told (Constant number) names covers part told = record { more = names; is = refl; kept = same_part names; part = part; has = λ key has. absurd cc }
-  all_told (Named name) names covers part told = key_told known env near widens solved (place_key name) names refl covers part told
+  all_told (Named name) names covers part told = one_told (place_key name) names refl covers part told
   all_told (Indexed name index) names covers part told = all_told index names covers part told
   all_told (RowNumber name) names covers part told = record { more = names; is = refl; kept = same_part names; part = part; has = λ key has. absurd cc }
-  all_told (RowsOf name) names covers part told = key_told known env near widens solved (count_key name) names refl covers part told
+  all_told (RowsOf name) names covers part told = one_told (count_key name) names refl covers part told
   all_told (BitsAt name start width) names covers part told = record {
     more = names;
     is = refl;
@@ -155,5 +163,5 @@ module _ (met known : Names) (leads : (key : Key) → met key ≡ true → known
   all_told (OfTwo op left right) names covers part told =
       let one = all_told left names covers part told.0 in
       let two = all_told right one.more (covers_more names one.more covers one.kept) one.part told.1 in
-      other_names known env near widens solved _ _ names _ (λ key has. or_true (has_key key left) (has_key key right) has)
+      other_names known env near widens solved _ _ names _ (λ key has. or_true (has_key key left) (has_key key right) (sym (has_two key op left right) ∙ has))
       (then_told known env near widens solved _ _ names _ (solve_all near solved right) one two)

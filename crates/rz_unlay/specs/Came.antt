@@ -13,7 +13,8 @@ use Rattle.rz_unlay.specs.Cursor.{body_found, line_of, Line, Lines, ReadsRow}
 use Rattle.rz_unlay_pieces.specs.declared.learnt.Learnt.{Learnt}
 use Rattle.rz_unlay.specs.Pieces.{Found}
 use Rattle.rz_unlay_pieces.specs.Pieces.{Step}
-use Rattle.rz_types_fields.specs.Known.{known, names_inside}
+use Rattle.rz_types_fields.specs.Front.{names_inside}
+use Rattle.rz_types_fields.specs.Known.{known}
 use Rattle.rz_types_fields.specs.RowLabels.{row_of, RowOf}
 use Rattle.rz_unlay.specs.declared.came.RowCame.{RowCame}
 use Rattle.rz_unlay.specs.declared.came.RowsCame.{RowsCame}

@@ -19,7 +19,7 @@ use Rattle.rz_unlay.specs.Pieces.{field_of_pieces, with_value, Found}
 use Rattle.rz_unlay.specs.declared.rows.Until.{Until}
 use Rattle.rz_unlay.specs.declared.rows.Until.TheVariants as ends
 use Rattle.rz_unlay_pieces.specs.Pieces.{claim_count, here_at, known_count, Step}
-use Rattle.rz_types_fields.specs.Known.{names_inside}
+use Rattle.rz_types_fields.specs.Front.{names_inside}
 use Rattle.rz_types_fields.specs.RowLabels.{also_rows, label_places, row_of}
 
 -- Rows.

@@ -4,7 +4,8 @@
 ghost use Rattle.std.specs.Prelude.{◌≡◌, IfOk, OnOk, Some, pos, true};
 ghost use Rattle.rz_expr.specs.Environment.{count_key, place_key};
 ghost use Rattle.rz_types_fields.specs.Field.{plain_body};
-ghost use Rattle.rz_types_fields.specs.Known.{known, met, names_inside, which_of, Grew};
+ghost use Rattle.rz_types_fields.specs.Front.{names_inside};
+ghost use Rattle.rz_types_fields.specs.Known.{known, met, which_of, Grew};
 ghost use Rattle.rz_types_fields.specs.Passed.{met_inside, stands_at};
 ghost use Rattle.rz_types_fields.specs.RowLabels.{also_rows};
 ghost use Rattle.rz_unlay_pieces.specs.Names.{told};

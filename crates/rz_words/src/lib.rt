@@ -2,8 +2,8 @@
 //! and a law says that each word of the tables is read as what it is, in whatever case.
 //! It rests on `rz_core`.
 //! Reserved words are one table (`keyword`), the words of attributes another (`attribute`), which `rz_stmt_data` reads
-//! and `rz_show` writes, and the names of `$$` functions a third (`words`). A new word changes its table, the definition
-//! beside it, and docs/LANGUAGE.md.
+//! and `rz_show_lines` writes, and the names of `$$` functions a third (`words`). A new word changes its table, the
+//! definition beside it, and docs/LANGUAGE.md.
 #![tactic(auto)]
 
 mod attribute;

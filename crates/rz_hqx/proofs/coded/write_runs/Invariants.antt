@@ -1,5 +1,6 @@
 use Rattle.std.proofs.Common.{◌≡◌, ◌++◌, ◌≤◌, drop}
-use Rattle.rz_hqx.specs.Runs.{packed_behind, packed}
+use Rattle.rz_hqx.specs.Runs.{packed}
+use Rattle.rz_hqx.proofs.Writing.{packed_behind}
 use Rattle.rz_hqx.proofs.coded.write_runs.Given as goal
 
 abbrev pub invariant-loop-next : goal.invariant-loop-next

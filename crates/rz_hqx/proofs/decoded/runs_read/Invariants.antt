@@ -1,5 +1,6 @@
 use Rattle.std.proofs.Common.{◌≡◌, ◌+◌, ◌≤◌, if◌then◌else◌, drop}
-use Rattle.rz_hqx.specs.Runs.{unpacked_behind, run_behind, unpacked}
+use Rattle.rz_hqx.specs.Runs.{unpacked}
+use Rattle.rz_hqx.proofs.Reading.{run_behind, unpacked_behind}
 use Rattle.rz_hqx.proofs.decoded.runs_read.Given as goal
 
 abbrev pub invariant-loop-code : goal.invariant-loop-code

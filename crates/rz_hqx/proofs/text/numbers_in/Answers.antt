@@ -4,7 +4,8 @@ use Rattle.std.specs.List.{AllByRecursion}
 use Rattle.rz_bridge.specs.Faults.{fault}
 use Rattle.rz_bridge.specs.declared.fault.BridgeFault.{BridgeFault}
 use Rattle.rz_hqx.specs.Letters.{number_of}
-use Rattle.rz_hqx.specs.Text.{is_blank, numbers_behind, numbers_in}
+use Rattle.rz_hqx.specs.Text.{is_blank, numbers_in}
+use Rattle.rz_hqx.proofs.Numbered.{numbers_behind}
 use Rattle.rz_hqx.proofs.Steps.{blank_more, letter_more, letter_bad, all_push}
 use Rattle.rz_hqx.proofs.text.numbers_in.Goals as goal
 use Rattle.rz_hqx.proofs.text.numbers_in.Goals.{then-not-is_blank+in-Some+in_ok-push, else-not-is_blank}

@@ -1,6 +1,7 @@
 use Rattle.std.proofs.Common.{◌≡◌, ◌+◌, ◌<◌, ◌≤◌, drop, length}
 use Rattle.std.specs.List.{AllByRecursion}
-use Rattle.rz_hqx.specs.Text.{numbers_behind, numbers_in}
+use Rattle.rz_hqx.specs.Text.{numbers_in}
+use Rattle.rz_hqx.proofs.Numbered.{numbers_behind}
 use Rattle.rz_hqx.proofs.text.numbers_in.Given as goal
 
 abbrev pub invariant-loop-byte : goal.invariant-loop-byte

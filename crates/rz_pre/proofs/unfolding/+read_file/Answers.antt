@@ -2,6 +2,7 @@ use Rattle.std.proofs.Common.{ℕ, ◌-◌, ◌<◌, List, length, rules, revers
 use Rattle.std.specs.declared.option.Option.{Option}
 use Rattle.std.proofs.lemmas.Result.{err_from_is_err_and}
 use Rattle.rz_lex.specs.Within.{AreWithin}
+use Rattle.rz_lex.specs.Joined.{joined}
 use Rattle.rz_lex.specs.Lexer.{Source}
 use Rattle.rz_lex.specs.declared.raw_line.RawLine.{RawLine}
 use Rattle.rz_pre.specs.Reading.{state_of}
@@ -9,14 +10,42 @@ use Rattle.rz_pre.proofs.Going.{at_some, left_at_end, left_in_comment, left_in_l
 use Rattle.rz_lex.specs.declared.token.Token.{Token}
 use Rattle.rz_pre.specs.Placed.{IsPlaced}
 use Rattle.rz_pre.proofs.Placing.{open_more, steps_files, steps_open, steps_within, within_more}
+use Rattle.rz_folder.proofs.Allowed.{may_read_of_after}
 use Rattle.rz_folder.proofs.Reading.{reads_on}
+use Rattle.rz_folder.specs.MayRead.{IsOneOf, MayRead, MayReadOf}
+use Rattle.rz_folder_paths.specs.Names.{names_of, utf8_name}
 use Rattle.rz_pre.proofs.Lexing.{steps_lexed}
+use Rattle.rz_pre.proofs.Reaching.{included_under, lines_go_on, may_read_first, may_read_included, may_read_inside}
+use Rattle.rz_pre.specs.Reached.{IsIncluded, IsReached}
 use Rattle.rz_folder_paths.proofs.Found.{if_some}
 use Rattle.rz_pre.proofs.unfolding.+read_file.Goals as goal
 use Rattle.rz_pre.proofs.unfolding.+read_file.Goals.{in-Some-2+in_ok-text+in_ok-read_file, in_default-2}
 
+-- the names under which the file is looked for that the line includes
+pub open_included-requires-clause-may : goal.open_included-requires-clause-may
+open_included-requires-clause-may g t c =
+    subst (λ (own : List ℕ). MayRead g.F.Folder c.loop-opens.folder (IsOneOf (names_of c.args.setting.paths.now (utf8_name own)))) (sym c.as_slice.ensures)
+    (may_read_first g.F.Folder c.args.setting.paths.now c.loop-opens.folder (IsOneOf (names_of c.args.setting.paths.now (utf8_name c.in-Some-2.name)))
+    (may_read_included g.F.Folder c.args.setting.paths.now c.loop-opens.folder c.args.setting.tool c.args.source.file c.args.source.ahead
+    c.loop-opens.source.ahead c.next.new.self.ahead c.in-Some.line (reverse c.loop-opens.opens.items) _ (state_of c.loop-opens.reading) _ c.in-Some-2.name
+    c.loop-opens.invariant.lines (rw c.loop-opens.invariant.file at (rw c.in-Some.is at c.in_ok-line.ensures.line))
+    (c.every_text_has_lines.ensures c.args.source.file c.next.new.self.ahead) (rw c.in-Some-2.is at c.in_ok-name.ensures.steps)
+    (may_read_of_after g.F.Folder c.loop-opens.invariant.reads (λ files. IsReached c.args.setting.paths.now files (IsIncluded c.args.setting.paths.now c.args.source.file c.args.source.ahead)) c.requires.may)))
+
 pub read_file-requires : goal.read_file-requires
 read_file-requires g t c =
+    let names = names_of c.args.setting.paths.now (utf8_name c.in-Some-2.name) in
+    let reached = may_read_included g.F.Folder c.args.setting.paths.now c.loop-opens.folder c.args.setting.tool c.args.source.file c.args.source.ahead
+    c.loop-opens.source.ahead c.next.new.self.ahead c.in-Some.line (reverse c.loop-opens.opens.items) _ (state_of c.loop-opens.reading) _ c.in-Some-2.name
+    c.loop-opens.invariant.lines (rw c.loop-opens.invariant.file at (rw c.in-Some.is at c.in_ok-line.ensures.line))
+    (c.every_text_has_lines.ensures c.args.source.file c.next.new.self.ahead) (rw c.in-Some-2.is at c.in_ok-name.ensures.steps)
+    (may_read_of_after g.F.Folder c.loop-opens.invariant.reads (λ files. IsReached c.args.setting.paths.now files (IsIncluded c.args.setting.paths.now c.args.source.file c.args.source.ahead)) c.requires.may) in
+    let may : MayReadOf g.F.Folder c.open_included.new.folder (λ files. IsReached c.args.setting.paths.now files (IsIncluded c.args.setting.paths.now c.over-included.result.file c.over-included.result.ahead)) =
+    subst (λ (source : Source). MayReadOf g.F.Folder c.open_included.new.folder (λ files. IsReached c.args.setting.paths.now files (IsIncluded c.args.setting.paths.now source.file source.ahead))) (sym c.over-included.ensures)
+    (may_read_of_after g.F.Folder c.in_ok-text.ensures.reads (λ files. IsReached c.args.setting.paths.now files (IsIncluded c.args.setting.paths.now c.len-file.result (joined 1 c.in_ok-text.text)))
+    (may_read_inside g.F.Folder c.args.setting.paths.now c.loop-opens.folder names c.in_ok-text.text c.len-file.result
+    (λ files told. included_under files c.args.setting.paths.now c.args.levels c.in-Some-2.name c.in-Some.line.mark _ _ c.in_ok-text.text
+    (at_some _ files told _ (rw c.as_slice.ensures at c.in_ok-text.ensures.opened))) reached)) in
     let smaller : c.args.levels - 1 < c.args.levels = omega (arith, c.in_ok-text.ensures.deep) in
     let inside : c.over-included.result.file < length c.open_included.new.reading.files = omega (arith, ap (λ (s : Source). s.file) c.over-included.ensures, c.len-file.ensures, c.in_ok-text.ensures.more) in
     let same = steps_files c.args.setting.tool c.in-Some.line (reverse c.loop-opens.opens.items) (state_of c.loop-opens.reading) c.in_ok-name.field-0 (reverse c.step.new.opens.items) (state_of c.step.new.reading) c.in_ok-name.ensures.steps in
@@ -80,6 +109,8 @@ loop-opens-preserved g t c = record {
         _ _ (rw w.in_default-2.is at c.in_ok-name.ensures.steps))
   ];
   file = c.next.ensures.file ∙ c.loop-opens.invariant.file;
+  lines = lines_go_on c.args.source.file c.args.source.ahead c.loop-opens.source.ahead c.in-Some.line c.next.new.self.ahead
+      c.loop-opens.invariant.lines (rw c.loop-opens.invariant.file at (rw c.in-Some.is at c.in_ok-line.ensures.line));
   reads = elim c.match-branch-4.branch [
     | in-Some-2+in_ok-text+in_ok-read_file w ↦ rw w.folder-is (reads_on g.F.Folder _ _ _ _ _ _
         (reads_on g.F.Folder _ _ _ _ _ ⊥ c.loop-opens.invariant.reads w.in_ok-text.ensures.reads (λ never. absurd never))

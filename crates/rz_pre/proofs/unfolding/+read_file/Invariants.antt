@@ -6,6 +6,7 @@ use Rattle.rz_pre.specs.Placed.{AreOpenIn, IsPlaced}
 use Rattle.rz_pre.specs.Program.{IncludedGoes}
 use Rattle.rz_pre.specs.Reading.{state_of}
 use Rattle.rz_pre.proofs.Going.{LinesLead}
+use Rattle.rz_pre.proofs.Reaching.{AreLinesOf}
 use Rattle.rz_pre.proofs.unfolding.+read_file.Given as goal
 
 abbrev pub decreases-read_file : goal.decreases-read_file
@@ -17,6 +18,7 @@ invariant-loop-opens g l = record {
       → LinesLead (IncludedGoes l.setting.tool files l.setting.paths.now l.levels) l.setting.tool l.fn.source.file l.fn.source.ahead (state_of l.fn.reading)
       l.source.ahead (reverse l.opens.items) (state_of l.reading);
   file : l.source.file ≡ l.fn.source.file;
+  lines : AreLinesOf l.fn.source.file l.fn.source.ahead l.source.ahead;
   reads : OnlyReads g.F.Folder l.fn.folder l.folder ⊥;
   placed : IsPlaced l.reading;
   lexed : IsLexedReading l.fn.reading → IsLexedReading l.reading;

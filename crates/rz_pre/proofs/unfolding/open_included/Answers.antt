@@ -1,4 +1,5 @@
-use Rattle.std.proofs.Common.{Some}
+use Rattle.std.proofs.Common.{ℕ, List, Some, sym, subst}
+use Rattle.rz_folder.specs.MayRead.{IsOneOf, MayRead}
 use Rattle.rz_folder_paths.specs.Names.{missing_file, names_of, utf8_name}
 use Rattle.rz_pre.specs.Program.{Enters, Opens}
 use Rattle.rz_pre.specs.Reading.{state_of, together, with_state}
@@ -6,6 +7,9 @@ use Rattle.rz_core.proofs.Stops.{yields_so}
 use Rattle.rz_pre.proofs.Going.{at_some, enters_from}
 use Rattle.rz_folder_paths.proofs.Found.{if_some}
 use Rattle.rz_pre.proofs.unfolding.open_included.Goals as goal
+
+pub open_file-requires-clause-may : goal.open_file-requires-clause-may
+open_file-requires-clause-may g c = subst (λ (names : List (List ℕ)). MayRead g.F.Folder c.args.folder.now (IsOneOf names)) (sym c.in_ok-names.ensures) c.requires.may
 
 pub returns-clause-opened : goal.returns-clause-opened
 returns-clause-opened g c = if_some (g.F.Folder.files c.args.folder.now) _ (λ files told.

@@ -12,9 +12,9 @@ use Rattle.rz_pre.proofs.unfolding.read_all.Goals as goal
 pub returns-clause-read : goal.returns-clause-read
 returns-clause-read g c = if_some (g.F.Folder.files c.args.folder.now) _ (λ files told.
     subst (λ (s : State). Yields (with_state alone (state_of c.read_names.new.reading) c.read_names.result) (NamesGo c.args.setting.tool files c.args.setting.paths.now c.args.names.now s))
-    (starts c.args.reading.now (live_in (rows_of c.define_all.new.macros)) c.args.defs.now c.requires c.in_ok-define_all.ensures)
+    (starts c.args.reading.now (live_in (rows_of c.define_all.new.macros)) c.args.defs.now c.requires.fresh c.in_ok-define_all.ensures)
     (at_some _ files told _ c.read_names.ensures.read))
 
 pub returns-clause-lexed : goal.returns-clause-lexed
 returns-clause-lexed g c = λ lexed. c.read_names.ensures.lexed (start_lexed c.args.defs.now (record { live = live_in (rows_of c.define_all.new.macros); tokens = c.args.reading.now.tokens; files = c.args.reading.now.files }) lexed
-    (starts c.args.reading.now (live_in (rows_of c.define_all.new.macros)) c.args.defs.now c.requires c.in_ok-define_all.ensures))
+    (starts c.args.reading.now (live_in (rows_of c.define_all.new.macros)) c.args.defs.now c.requires.fresh c.in_ok-define_all.ensures))

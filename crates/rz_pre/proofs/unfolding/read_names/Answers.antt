@@ -2,11 +2,20 @@ use Rattle.std.proofs.Common.{◌+◌, ◌∙◌, List, drop, subst, arith, refl
 use Rattle.std.proofs.lemmas.List.{at_drop_all}
 use Rattle.std.proofs.lemmas.Option.{slice_get_within}
 use Rattle.std.proofs.lemmas.Result.{err_from_is_err_and}
+use Rattle.rz_folder.proofs.Allowed.{may_read_of_after}
 use Rattle.rz_folder.proofs.Reading.{reads_on}
+use Rattle.rz_folder.specs.MayRead.{IsOneOf}
+use Rattle.rz_pre.specs.Reached.{IsReached}
 use Rattle.rz_pre.specs.Reading.{state_of}
 use Rattle.rz_pre.proofs.Going.{at_some, left_in_named, on_named, NamesLead}
+use Rattle.rz_pre.proofs.Reaching.{may_read_words}
 use Rattle.rz_folder_paths.proofs.Found.{drop_at, if_some}
 use Rattle.rz_pre.proofs.unfolding.read_names.Goals as goal
+
+pub read_named-requires-clause-may : goal.read_named-requires-clause-may
+read_named-requires-clause-may g c =
+    may_read_words g.F.Folder c.args.setting.paths.now c.loop-k.folder c.args.names.now c.loop-k.k c.at.result.now c.at.ensures
+    (may_read_of_after g.F.Folder c.loop-k.invariant.reads (λ files. IsReached c.args.setting.paths.now files (IsOneOf c.args.names.now)) c.requires.may)
 
 pub returns-in_err-read_named-clause-read : goal.returns-in_err-read_named-clause-read
 returns-in_err-read_named-clause-read g c = if_some (g.F.Folder.files c.args.folder.now) _ (λ files told.

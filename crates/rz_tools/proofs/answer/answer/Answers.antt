@@ -4,14 +4,21 @@ use Rattle.std.specs.Prelude.{IfOk, IfSome}
 use Rattle.std.specs.String.{string_bytes}
 use Rattle.rz_tools_answer.specs.Answer.{Answer}
 use Rattle.rz_tools_answer.specs.declared.outcome.Outcome.TheVariants.{Done, Usage}
-use Rattle.rz_tools_args.specs.Held.{asked}
+use Rattle.rz_tools_args.specs.Held.{asked, items_of}
 use Rattle.rz_tools_args.specs.declared.name.CommandName.TheVariants as names
 use Rattle.rz_tools.specs.Again.{HoldsFile}
 use Rattle.rz_tools.specs.DeRez.{derez_asked, DeRezAsked}
 use Rattle.rz_tools.specs.Reply.{outcome_of}
 use Rattle.rz_tools.specs.Strings.{strings_asked, StringsAsked}
 use Rattle.rz_tools.proofs.Planned.{as_command, as_misused, held_asked}
+use Rattle.rz_folder.proofs.Allowed.{may_read_fewer}
+use Rattle.rz_tools.specs.Asked.{CommandAsks, WordsAsk}
 use Rattle.rz_tools.proofs.answer.answer.Goals as goal
+
+pub answer_command-requires-clause-may : goal.answer_command-requires-clause-may
+answer_command-requires-clause-may g c =
+    may_read_fewer g.F.Folder (WordsAsk (map string_bytes c.args.words.now)) c.requires (CommandAsks c.in-Ok.command.name (items_of c.in-Ok.command))
+    (λ files told name is. (asked c.in-Ok.command, c.in-Ok.ensures.command, is))
 
 pub answer_command-requires-clause-lexed : goal.answer_command-requires-clause-lexed
 answer_command-requires-clause-lexed g c =

@@ -1,4 +1,4 @@
-use Rattle.std.proofs.Common.{◌≡◌, ℕ, List, [], rules, sym, ap, subst, ◌∙◌}
+use Rattle.std.proofs.Common.{◌≡◌, ℕ, List, [], rules, sym, ap, subst, ◌∙◌, refl}
 use Rattle.std.specs.FinMap as finite
 use Rattle.std.specs.Prelude.{IfOk, IfSome}
 use Rattle.rz_core.specs.declared.stop.Halt.TheVariants.{ReadFault}
@@ -18,23 +18,61 @@ use Rattle.rz_tools.specs.Held.{derez, restring, rez, strings}
 use Rattle.rz_tools.specs.Restring.{restring_asked, RestringAsked}
 use Rattle.rz_tools.specs.Strings.{strings_asked, StringsAsked}
 use Rattle.rz_tools.specs.Rez.{rez_asked, RezAsked}
-use Rattle.rz_tools_output.specs.Bridge.{bridge, bridge_asked}
-use Rattle.rz_tools_output.specs.Det.{det, det_asked}
+use Rattle.rz_tools_output.specs.Bridge.{bridge, bridge_asked, BridgeAsks, BridgeAsked}
+use Rattle.rz_tools_output.specs.Det.{det, det_asked, DetAsked}
 use Rattle.rz_tools.proofs.Planned.{as_bridge, as_derez, as_det, as_held, as_named, as_planned, as_restring, as_rez, as_sample, as_strings, plan_named}
 use Rattle.rz_tools.proofs.Replied.{plan_end, plan_held, plan_no_usage, plan_sound}
+use Rattle.rz_folder.specs.MayRead.{MayRead, MayReadOf}
+use Rattle.rz_tools_args.specs.declared.name.CommandName.{CommandName}
+use Rattle.rz_tools.specs.Asked.{CommandAsks, DeRezAsks, RestringAsks, RezAsks, StringsAsk}
+use Rattle.rz_folder.proofs.Allowed.{may_read_these}
 use Rattle.rz_tools.proofs.answer.answer_command.Goals as goal
 
-pub plan_rez-plan-requires : goal.plan_rez-plan-requires
-plan_rez-plan-requires g c = subst HaveLexedTexts (sym (ap (λ (a : RezAsked). a.defs) c.in_ok-words-in-Rez.ensures)) c.requires.lexed
+pub plan_rez-plan-requires-clause-may : goal.plan_rez-plan-requires-clause-may
+plan_rez-plan-requires-clause-may g c =
+    subst (λ (a : RezAsked). MayReadOf g.F.Folder c.args.folder.now (RezAsks a)) (sym c.in_ok-words-in-Rez.ensures)
+    (subst (λ (name : CommandName). MayReadOf g.F.Folder c.args.folder.now (CommandAsks name (items_of c.args.command))) c.in-Rez.is c.requires.may)
 
-pub answer_derez-requires : goal.answer_derez-requires
-answer_derez-requires g c = subst HaveLexedTexts (sym (ap (λ (a : DeRezAsked). a.types.defs) c.in_ok-words-in-DeRez.ensures)) c.requires.lexed
+pub answer_derez-requires-clause-may : goal.answer_derez-requires-clause-may
+answer_derez-requires-clause-may g c =
+    subst (λ (a : DeRezAsked). MayReadOf g.F.Folder c.args.folder.now (DeRezAsks a)) (sym c.in_ok-words-in-DeRez.ensures)
+    (subst (λ (name : CommandName). MayReadOf g.F.Folder c.args.folder.now (CommandAsks name (items_of c.args.command))) c.in-DeRez.is c.requires.may)
 
-pub plan_strings-plan-requires : goal.plan_strings-plan-requires
-plan_strings-plan-requires g c = subst HaveLexedTexts (sym (ap (λ (a : StringsAsked). a.types.defs) c.in_ok-words-in-Strings.ensures)) c.requires.lexed
+pub plan_strings-plan-requires-clause-may : goal.plan_strings-plan-requires-clause-may
+plan_strings-plan-requires-clause-may g c =
+    subst (λ (a : StringsAsked). MayReadOf g.F.Folder c.args.folder.now (StringsAsk a)) (sym c.in_ok-words-in-Strings.ensures)
+    (subst (λ (name : CommandName). MayReadOf g.F.Folder c.args.folder.now (CommandAsks name (items_of c.args.command))) c.in-Strings.is c.requires.may)
 
-pub plan_restring-plan-requires : goal.plan_restring-plan-requires
-plan_restring-plan-requires g c = subst HaveLexedTexts (sym (ap (λ (a : RestringAsked). a.types.defs) c.in_ok-words-in-Restring.ensures)) c.requires.lexed
+pub plan_restring-plan-requires-clause-may : goal.plan_restring-plan-requires-clause-may
+plan_restring-plan-requires-clause-may g c =
+    subst (λ (a : RestringAsked). MayReadOf g.F.Folder c.args.folder.now (RestringAsks a)) (sym c.in_ok-words-in-Restring.ensures)
+    (subst (λ (name : CommandName). MayReadOf g.F.Folder c.args.folder.now (CommandAsks name (items_of c.args.command))) c.in-Restring.is c.requires.may)
+
+pub plan_bridge-plan-requires : goal.plan_bridge-plan-requires
+plan_bridge-plan-requires g c =
+    subst (λ (a : BridgeAsked). MayRead g.F.Folder c.args.folder.now (BridgeAsks a)) (sym c.in_ok-words-in-Bridge.ensures)
+    (may_read_these g.F.Folder (CommandAsks names.Bridge (items_of c.args.command))
+    (subst (λ (name : CommandName). MayReadOf g.F.Folder c.args.folder.now (CommandAsks name (items_of c.args.command))) c.in-Bridge.is c.requires.may)
+    (BridgeAsks (bridge_asked (items_of c.args.command))) (λ files told name is. is))
+
+pub plan_det-plan-requires : goal.plan_det-plan-requires
+plan_det-plan-requires g c =
+    subst (λ (a : DetAsked). g.F.Folder.may_read c.args.folder.now a.file) (sym c.in_ok-words-in-Det.ensures)
+    (may_read_these g.F.Folder (CommandAsks names.Det (items_of c.args.command))
+    (subst (λ (name : CommandName). MayReadOf g.F.Folder c.args.folder.now (CommandAsks name (items_of c.args.command))) c.in-Det.is c.requires.may)
+    (λ name. name ≡ (det_asked (items_of c.args.command)).file) (λ files told name is. is) (det_asked (items_of c.args.command)).file refl)
+
+pub plan_rez-plan-requires-clause-lexed : goal.plan_rez-plan-requires-clause-lexed
+plan_rez-plan-requires-clause-lexed g c = subst HaveLexedTexts (sym (ap (λ (a : RezAsked). a.defs) c.in_ok-words-in-Rez.ensures)) c.requires.lexed
+
+pub answer_derez-requires-clause-lexed : goal.answer_derez-requires-clause-lexed
+answer_derez-requires-clause-lexed g c = subst HaveLexedTexts (sym (ap (λ (a : DeRezAsked). a.types.defs) c.in_ok-words-in-DeRez.ensures)) c.requires.lexed
+
+pub plan_strings-plan-requires-clause-lexed : goal.plan_strings-plan-requires-clause-lexed
+plan_strings-plan-requires-clause-lexed g c = subst HaveLexedTexts (sym (ap (λ (a : StringsAsked). a.types.defs) c.in_ok-words-in-Strings.ensures)) c.requires.lexed
+
+pub plan_restring-plan-requires-clause-lexed : goal.plan_restring-plan-requires-clause-lexed
+plan_restring-plan-requires-clause-lexed g c = subst HaveLexedTexts (sym (ap (λ (a : RestringAsked). a.types.defs) c.in_ok-words-in-Restring.ensures)) c.requires.lexed
 
 -- Plans.
 

@@ -1,4 +1,4 @@
-use Rattle.std.proofs.Common.{Option, subst}
+use Rattle.std.proofs.Common.{Option, subst, ◌≡◌, inl, inr, refl}
 use Rattle.std.specs.FinMap as map
 use Rattle.std.specs.Prelude.{IfOk, IfSome}
 use Rattle.std.specs.String.{string_bytes}
@@ -9,7 +9,19 @@ use Rattle.rz_tools.specs.DeRez.{HasText}
 use Rattle.rz_tools.specs.Types.{TypesAre}
 use Rattle.rz_core.specs.Stop.{seen, Yields}
 use Rattle.rz_tools.proofs.Sourced.{then_made, then_stopped}
+use Rattle.rz_folder.proofs.Allowed.{may_read_fewer, may_read_these}
+use Rattle.rz_tools.specs.Asked.{DeRezAsks, TypesAsk}
 use Rattle.rz_tools.proofs.derez.read_and_show.Goals as goal
+
+pub compile_types-requires-clause-may : goal.compile_types-requires-clause-may
+compile_types-requires-clause-may g c =
+    let asked = derez c.args.words in
+    may_read_fewer g.F.Folder (DeRezAsks asked) c.requires.may (TypesAsk asked.types) (λ files told name is. inl is)
+
+pub show_under-requires-clause-may : goal.show_under-requires-clause-may
+show_under-requires-clause-may g c =
+    let asked = derez c.args.words in
+    c.in-Ok.ensures.reads.allowed asked.file (may_read_these g.F.Folder (DeRezAsks asked) c.requires.may (λ name. name ≡ asked.file) (λ files told name is. inr is) asked.file refl)
 
 pub returns-in-Ok-clause-text : goal.returns-in-Ok-clause-text
 returns-in-Ok-clause-text g c text is =

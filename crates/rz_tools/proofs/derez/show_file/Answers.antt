@@ -1,7 +1,10 @@
-use Rattle.std.proofs.Common.{refl}
+use Rattle.std.proofs.Common.{refl, ℕ, List, sym, subst}
 use Rattle.rz_tools.specs.Held.{derez}
 use Rattle.rz_tools.proofs.Showing.{held_there, text_stopped, text_told}
 use Rattle.rz_tools.proofs.derez.show_file.Goals as goal
+
+pub read_fork-made-requires-clause-may : goal.read_fork-made-requires-clause-may
+read_fork-made-requires-clause-may g c = subst (λ (name : List ℕ). g.F.Folder.may_read c.args.folder.now name) (sym c.as_str.ensures.value) (c.requires.may)
 
 pub returns-in-Ok-clause-text : goal.returns-in-Ok-clause-text
 returns-in-Ok-clause-text g c moment compiled same_files same_warnings same_known text is =

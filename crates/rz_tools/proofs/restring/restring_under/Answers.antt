@@ -12,7 +12,7 @@ use Rattle.rz_tools.proofs.restring.restring_under.Goals as goal
 pub halt_beside-made-requires-clause-warnings : goal.halt_beside-made-requires-clause-warnings
 halt_beside-made-requires-clause-warnings g c =
     let more : length c.push.new.self ≡ length c.args.compiled.files + 1 = ap (λ (l : List (List ℕ)). length l) c.in-Ok.ensures.ok ∙ length_push c.args.compiled.files c.as_str.result.now in
-    warnings_more (length c.args.compiled.files) _ c.args.compiled.work.warnings (omega (arith, more)) c.requires
+    warnings_more (length c.args.compiled.files) _ c.args.compiled.work.warnings (omega (arith, more)) c.requires.warnings
 
 pub returns-clause-made : goal.returns-clause-made
 returns-clause-made g c =

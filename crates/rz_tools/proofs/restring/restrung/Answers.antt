@@ -1,4 +1,4 @@
-use Rattle.std.proofs.Common.{◌≡◌, ℕ, List, Ok, Option, subst}
+use Rattle.std.proofs.Common.{◌≡◌, ℕ, List, Ok, Option, subst, sym, inl, inr, refl}
 use Rattle.std.specs.Prelude.{IfSome}
 use Rattle.std.specs.FinMap as map
 use Rattle.rz_core.specs.Answers.{Then}
@@ -10,6 +10,12 @@ use Rattle.rz_tools.specs.Held.{restring}
 use Rattle.rz_tools.specs.Restring.{HasCatalogueFile, IsChangedBy}
 use Rattle.rz_types_table.specs.TypeTable.{table_of}
 use Rattle.rz_tools.proofs.restring.restrung.Goals as goal
+
+pub read_held-requires : goal.read_held-requires
+read_held-requires g c = subst (λ (name : List ℕ). g.F.Folder.may_read c.args.folder.now name) (sym c.as_str.ensures.value) (c.requires _ (inl refl))
+
+pub restrung_by-requires-clause-may : goal.restrung_by-requires-clause-may
+restrung_by-requires-clause-may g c = c.in-Ok.ensures.reads.allowed _ (c.requires _ (inr refl))
 
 pub returns-in-Ok-clause-output : goal.returns-in-Ok-clause-output
 returns-in-Ok-clause-output g c =

@@ -1,4 +1,4 @@
-use Rattle.std.proofs.Common.{Ok, Err, subst}
+use Rattle.std.proofs.Common.{Ok, Err, subst, inr}
 use Rattle.std.specs.Prelude.{IfSome}
 use Rattle.rz_core.specs.Stop.{Yields}
 use Rattle.rz_pre.specs.Program.{State}
@@ -11,6 +11,9 @@ use Rattle.rz_tools.specs.Sources.{Compiled, HasWork}
 use Rattle.rz_tools.proofs.Compiling.{work_stopped, work_written}
 use Rattle.rz_tools.proofs.rez.compile_behind.Goals as goal
 use Rattle.rz_types_table.specs.TypeTable.{table_of}
+
+pub compile_program-requires-clause-may : goal.compile_program-requires-clause-may
+compile_program-requires-clause-may g c = λ name is. c.requires.may name (inr (inr is))
 
 pub returns-in-Ok-compile_program-clause-made : goal.returns-in-Ok-compile_program-clause-made
 returns-in-Ok-compile_program-clause-made g c =

@@ -1,4 +1,4 @@
-use Rattle.std.proofs.Common.{◌≡◌, length, Err, sym, subst}
+use Rattle.std.proofs.Common.{◌≡◌, length, Err, sym, subst, inl, inr, refl}
 use Rattle.std.specs.Prelude.{IfSome}
 use Rattle.rz_core.specs.declared.stop.Halt.{Halt}
 use Rattle.rz_folder.proofs.Reading.{reads_as}
@@ -13,9 +13,17 @@ use Rattle.rz_tools_output.specs.Base.{base_of, begun_of}
 use Rattle.rz_tools.specs.Rez.{IsMadeBehind, IsMadeUnder}
 use Rattle.rz_tools.proofs.Compiling.{still_told}
 use Rattle.rz_tools.proofs.Sourced.{begun_made, not_begun, unsaid_read, unsaid_sayable}
+use Rattle.rz_folder.proofs.Allowed.{may_read_after}
+use Rattle.rz_tools.specs.Asked.{RezAsksAfter}
 use Rattle.rz_tools.proofs.rez.compile_from_base.Goals as goal
 use Rattle.rz_types_table.specs.TypeTable.{table_of}
 use Rattle.rz_tools_output.specs.declared.base.Beginning.{Beginning}
+
+pub read_base-requires : goal.read_base-requires
+read_base-requires g c = λ appends. c.requires.may _ (inr (inl (appends, refl)))
+
+pub compile_behind-requires-clause-may : goal.compile_behind-requires-clause-may
+compile_behind-requires-clause-may g c = may_read_after g.F.Folder c.in-Ok.ensures.reads (RezAsksAfter (rez c.args.words.now) c.args.program.tokens) c.requires.may
 
 pub returns-in-Ok-clause-made : goal.returns-in-Ok-clause-made
 returns-in-Ok-clause-made g c =

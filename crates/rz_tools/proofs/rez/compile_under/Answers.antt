@@ -1,4 +1,4 @@
-use Rattle.std.proofs.Common.{length, Err, sym, subst}
+use Rattle.std.proofs.Common.{length, Err, sym, subst, inl}
 use Rattle.std.specs.Prelude.{IfSome}
 use Rattle.rz_core.specs.declared.stop.Halt.{Halt}
 use Rattle.rz_folder.proofs.Reading.{reads_as}
@@ -12,10 +12,18 @@ use Rattle.rz_tools_answer.specs.declared.made.Made.{Made}
 use Rattle.rz_tools.specs.Rez.{IsMadeOf, IsMadeUnder}
 use Rattle.rz_tools.proofs.Compiling.{still_told}
 use Rattle.rz_tools.proofs.Sourced.{begun_made, not_begun, unsaid_read, unsaid_sayable}
+use Rattle.rz_folder.proofs.Allowed.{may_read_after}
+use Rattle.rz_tools.specs.Asked.{RezAsksAfter}
 use Rattle.rz_tools.proofs.rez.compile_under.Goals as goal
 use Rattle.rz_tools_tmpl.specs.Templates.{TypesOf}
 use Rattle.rz_types_table.specs.TypeTable.{table_of}
 use Rattle.rz_types_table.specs.declared.table.TypeTable.{TypeTable}
+
+pub read_templates-requires : goal.read_templates-requires
+read_templates-requires g c = λ name is. c.requires.may name (inl is)
+
+pub compile_from_base-requires-clause-may : goal.compile_from_base-requires-clause-may
+compile_from_base-requires-clause-may g c = may_read_after g.F.Folder c.in-Ok.ensures.reads (RezAsksAfter (rez c.args.words.now) c.args.program.tokens) c.requires.may
 
 pub returns-in-Ok-clause-made : goal.returns-in-Ok-clause-made
 returns-in-Ok-clause-made g c =

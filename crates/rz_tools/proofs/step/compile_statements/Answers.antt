@@ -1,4 +1,4 @@
-use Rattle.std.proofs.Common.{List, subst}
+use Rattle.std.proofs.Common.{List, subst, map}
 use Rattle.std.specs.declared.option.Option.{Option}
 use Rattle.rz_folder.proofs.Reading.{reads_on}
 use Rattle.rz_lex.specs.Lexeme.{AreLexed}
@@ -7,7 +7,21 @@ use Rattle.rz_lex.specs.declared.token.Token.{Token}
 use Rattle.rz_stmt.specs.Next.{BeginsWith}
 use Rattle.rz_tools_work.specs.Held.{work_of}
 use Rattle.rz_tools.proofs.Stepping.{leads_on, leads_to_stop, lexed_parts, within_parts}
+use Rattle.rz_folder.proofs.Allowed.{may_read_after}
+use Rattle.rz_folder_paths.specs.Names.{LooksFor}
+use Rattle.rz_folder_paths.proofs.Looking.{may_look_fewer}
+use Rattle.rz_tools_work.specs.ToolWords.{numbered}
+use Rattle.rz_tools.specs.Asked.{AnyAsks, ParsedAsk}
+use Rattle.rz_tools.proofs.Asking.{any_here, any_later}
 use Rattle.rz_tools.proofs.step.compile_statements.Goals as goal
+
+pub step-requires-clause-may : goal.step-requires-clause-may
+step-requires-clause-may g c =
+    may_look_fewer g.F.Folder c.args.paths.now (AnyAsks c.args.setting.tool c.args.tokens) (ParsedAsk c.args.setting.tool (map (numbered c.args.setting.tool) c.in-Some.statement))
+    (may_read_after g.F.Folder c.loop-reader.invariant.reads (LooksFor c.args.paths.now (AnyAsks c.args.setting.tool c.args.tokens)) c.requires.may)
+    (λ own asks. c.loop-reader.invariant.asks own
+    (any_here c.all_tokens_are_statements.ensures c.args.setting.tool c.loop-reader.reader c.next_statement.new.reader c.in-Some.statement
+    (λ statements are. subst (λ (o : Option (List Token)). BeginsWith o statements c.next_statement.new.reader) c.in-Some.is (c.in_ok-statement.ensures.first statements are)) own asks))
 
 pub step-requires-clause-lexed : goal.step-requires-clause-lexed
 step-requires-clause-lexed g c =
@@ -23,6 +37,9 @@ loop-reader-preserved g c =
           (g.F.Folder.files c.args.folder.now) (g.F.Folder.files c.loop-reader.folder) c.loop-reader.invariant.reads.unchanged c.loop-reader.invariant.leads
           (work_of c.step.new.work) c.in-Ok.ensures.stepped;
       reads = reads_on g.F.Folder _ _ _ _ _ ⊥ c.loop-reader.invariant.reads c.in-Ok.ensures.reads (λ never. absurd never);
+      asks = λ own asks. c.loop-reader.invariant.asks own
+          (any_later c.all_tokens_are_statements.ensures c.one_cutting.ensures c.args.setting.tool c.loop-reader.reader c.next_statement.new.reader c.in-Some.statement
+          (λ statements are. subst (λ (o : Option (List Token)). BeginsWith o statements c.next_statement.new.reader) c.in-Some.is (c.in_ok-statement.ensures.first statements are)) own asks);
       lexed = (lexed_parts c.in-Some.statement c.next_statement.new.reader (subst AreLexed front.0 c.loop-reader.invariant.lexed)).1;
       within = λ files within. (within_parts files c.in-Some.statement c.next_statement.new.reader (subst (AreWithin files) front.0 (c.loop-reader.invariant.within files within))).1;
       warned = λ files within are.

@@ -1,4 +1,4 @@
-use Rattle.std.proofs.Common.{List, subst, ◌∙◌}
+use Rattle.std.proofs.Common.{List, subst, ◌∙◌, sym}
 use Rattle.std.specs.Prelude.{IfSome}
 use Rattle.rz_core.specs.Stop.{Yields}
 use Rattle.rz_lex.specs.declared.token.Token.{Token}
@@ -7,7 +7,15 @@ use Rattle.rz_tools_work.specs.Held.{work_of}
 use Rattle.rz_tools.specs.Step.{Steps, with_work}
 use Rattle.rz_tools_work.proofs.Numbered.{still_lexed, still_within}
 use Rattle.rz_tools.proofs.Stepping.{whole_span}
+use Rattle.rz_folder.specs.MayRead.{MayRead}
+use Rattle.rz_folder_paths.specs.Names.{LooksFor}
+use Rattle.rz_tools.specs.Asked.{ParsedAsk}
 use Rattle.rz_tools.proofs.step.step.Goals as goal
+
+pub step_at-requires-clause-may : goal.step_at-requires-clause-may
+step_at-requires-clause-may g c =
+    subst (λ (ts : List Token). MayRead g.F.Folder c.args.folder.now (LooksFor c.args.paths.now (ParsedAsk c.args.setting.tool ts)))
+    (sym (whole_span c.number_tool_words-tokens.result c.len.result c.len.ensures ∙ c.number_tool_words-tokens.ensures)) c.requires.may
 
 pub step_at-requires-clause-lexed : goal.step_at-requires-clause-lexed
 step_at-requires-clause-lexed g c =

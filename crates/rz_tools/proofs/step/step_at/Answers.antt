@@ -3,7 +3,7 @@ use Rattle.std.proofs.lemmas.Option.{IfSome_then}
 use Rattle.rz_stmt_items.specs.Compile.{compile_of}
 use Rattle.rz_stmt_lists.specs.Lists.{list_of}
 use Rattle.rz_stmt.specs.Constants.{declare_of}
-use Rattle.rz_stmt.specs.Grammar.{statement_of, Compiles, Data, Declares, Empty, IsPlacedStatement, IsShapedStatement, Lists}
+use Rattle.rz_stmt.specs.Grammar.{statement_of, Compiles, Data, Declares, Empty, IsPlacedStatement, IsShapedStatement, Lists, Statement}
 use Rattle.rz_stmt.specs.Raw.{raw_of}
 use Rattle.rz_tools_values.specs.Around.{around}
 use Rattle.rz_core.specs.Answers.{Then}
@@ -18,8 +18,25 @@ use Rattle.rz_tools_work.specs.Work.{declared, with_list}
 use Rattle.rz_tools.proofs.Planned.{always}
 use Rattle.rz_tools.proofs.Resources.{put_of, put_one}
 use Rattle.rz_tools.proofs.Stepping.{did, done_so, first_mark, listed, stopped, within_at}
+use Rattle.rz_folder_paths.proofs.Looking.{may_look_fewer}
+use Rattle.rz_tools_resource.specs.Asked.{ItemsAsk}
+use Rattle.rz_tools_values.specs.Asked.{TextsAsk}
+use Rattle.rz_tools_work.specs.Asked.{ListAsks}
+use Rattle.rz_tools.specs.Asked.{ParsedAsk, StatementAsks}
 use Rattle.rz_tools.proofs.step.step_at.Goals as goal
 use Rattle.rz_tools.specs.Step.{tokens_at, IsListBehind}
+
+pub resource_of-made-requires : goal.resource_of-made-requires
+resource_of-made-requires g c = may_look_fewer g.F.Folder c.args.paths.now (ParsedAsk c.args.setting.tool (tokens_at c.args.tokens c.args.span)) (TextsAsk (raw_of c.in-Raw.raw).texts) c.requires.may
+    (λ own asks. (statement_of c.in-Ok.stmt, c.in-Ok.ensures.parsed, subst (λ (s : Statement). StatementAsks s own) c.in-Raw.ensures asks))
+
+pub list_step-ended-requires : goal.list_step-ended-requires
+list_step-ended-requires g c = may_look_fewer g.F.Folder c.args.paths.now (ParsedAsk c.args.setting.tool (tokens_at c.args.tokens c.args.span)) (ListAsks (list_of c.in-List.stmt)) c.requires.may
+    (λ own asks. (statement_of c.in-Ok.stmt, c.in-Ok.ensures.parsed, subst (λ (s : Statement). StatementAsks s own) c.in-List.ensures asks))
+
+pub resource_of_items-made-requires : goal.resource_of_items-made-requires
+resource_of_items-made-requires g c = may_look_fewer g.F.Folder c.args.paths.now (ParsedAsk c.args.setting.tool (tokens_at c.args.tokens c.args.span)) (ItemsAsk (compile_of c.in-Compile.stmt).items) c.requires.may
+    (λ own asks. (statement_of c.in-Ok.stmt, c.in-Ok.ensures.parsed, subst (λ (s : Statement). StatementAsks s own) c.in-Compile.ensures asks))
 
 pub returns-in-Empty-clause-stepped : goal.returns-in-Empty-clause-stepped
 returns-in-Empty-clause-stepped g c = always (g.F.Folder.files c.args.folder.now) _ (λ files.

@@ -1,4 +1,4 @@
-use Rattle.std.proofs.Common.{Option, subst}
+use Rattle.std.proofs.Common.{Option, subst, ◌≡◌, inl, inr, refl}
 use Rattle.std.specs.Prelude.{IfOk, IfSome}
 use Rattle.std.specs.FinMap as map
 use Rattle.std.specs.String.{string_bytes}
@@ -10,7 +10,19 @@ use Rattle.rz_tools.specs.Held.{compiled_of, strings}
 use Rattle.rz_tools.specs.Strings.{HasStrings}
 use Rattle.rz_tools.specs.Types.{TypesAre}
 use Rattle.rz_tools.proofs.Sourced.{then_made, then_stopped}
+use Rattle.rz_folder.proofs.Allowed.{may_read_fewer, may_read_these}
+use Rattle.rz_tools.specs.Asked.{StringsAsk, TypesAsk}
 use Rattle.rz_tools.proofs.strings.list_fork.Goals as goal
+
+pub compile_types-requires-clause-may : goal.compile_types-requires-clause-may
+compile_types-requires-clause-may g c =
+    let asked = strings c.args.words.now in
+    may_read_fewer g.F.Folder (StringsAsk asked) c.requires.may (TypesAsk asked.types) (λ files told name is. inl is)
+
+pub list_under-requires-clause-may : goal.list_under-requires-clause-may
+list_under-requires-clause-may g c =
+    let asked = strings c.args.words.now in
+    c.in-Ok.ensures.reads.allowed asked.file (may_read_these g.F.Folder (StringsAsk asked) c.requires.may (λ name. name ≡ asked.file) (λ files told name is. inr is) asked.file refl)
 
 pub returns-in-Ok-clause-made : goal.returns-in-Ok-clause-made
 returns-in-Ok-clause-made g c =

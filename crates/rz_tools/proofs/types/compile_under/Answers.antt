@@ -13,12 +13,16 @@ use Rattle.rz_tools_answer.specs.Made.{IsSayable}
 use Rattle.rz_tools_answer.specs.declared.made.Failing.{Failing}
 use Rattle.rz_tools.proofs.Compiling.{still_told}
 use Rattle.rz_tools.proofs.Sourced.{begun_made, not_begun, unsaid_read, unsaid_sayable}
+use Rattle.rz_tools.proofs.Asking.{none_asked}
 use Rattle.rz_tools.proofs.types.compile_under.Goals as goal
 use Rattle.rz_tools_tmpl.specs.Templates.{TypesOf}
 use Rattle.rz_tools_values.specs.Around.{around}
 use Rattle.rz_tools_work.specs.Work.{begun, Work}
 use Rattle.rz_types_table.specs.TypeTable.{table_of}
 use Rattle.rz_types_table.specs.declared.table.TypeTable.{TypeTable}
+
+pub compile_program-requires-clause-may : goal.compile_program-requires-clause-may
+compile_program-requires-clause-may g c = λ name asks. absurd (none_asked c.new-paths.result c.args.program.tokens name asks)
 
 pub returns-in_ok-start-in-Ok-clause-compiled : goal.returns-in_ok-start-in-Ok-clause-compiled
 returns-in_ok-start-in-Ok-clause-compiled g c =

@@ -8,4 +8,5 @@ returns-in-Failed g c = record {
   carried = rw c.say_write_fault-in-Failed.ensures.outcome (write_failed (answer_of c.args.plan) _ _ c.requires.well_formed c.in-Failed.ensures.told c.in-Failed.ensures.nothing
       (c.in-Failed.ensures.cause refl) refl _ c.as_slice-in-Failed.ensures c.say_write_fault-in-Failed.ensures.says);
   ended = inr c.say_write_fault-in-Failed.ensures.outcome;
+  quiet = λ done. refl;
 }

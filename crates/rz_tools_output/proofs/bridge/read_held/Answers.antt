@@ -1,9 +1,14 @@
-use Rattle.std.proofs.Common.{ap, ◌∙◌}
+use Rattle.std.proofs.Common.{ap, ◌∙◌, ℕ, List, sym, subst}
 use Rattle.std.proofs.lemmas.Result.{err_from_is_err_and}
 use Rattle.rz_bridge_files.specs.Contents.{form_or}
 use Rattle.rz_tools_output.specs.Bridge.{bridge}
 use Rattle.rz_tools_output.proofs.Bridging.{held, not_held}
+use Rattle.rz_folder.specs.MayRead.{MayRead}
+use Rattle.rz_bridge_form.specs.DataFile.{IsDataFile}
 use Rattle.rz_tools_output.proofs.bridge.read_held.Goals as goal
+
+pub read_beside-requires : goal.read_beside-requires
+read_beside-requires g c = subst (λ (header : List ℕ). MayRead g.F.Folder c.args.folder.now (IsDataFile header)) (sym c.as_str.ensures.value) c.requires.may
 
 pub returns-in_err-file_in-in-Ok-clause-file : goal.returns-in_err-file_in-in-Ok-clause-file
 returns-in_err-file_in-in-Ok-clause-file g c =

@@ -1,6 +1,10 @@
 use Rattle.rz_tools_output.specs.Det.{det}
 use Rattle.rz_tools_output.proofs.Breaking.{breaks_read}
+use Rattle.std.proofs.Common.{ℕ, List, sym, subst}
 use Rattle.rz_tools_output.proofs.det.read_breaks.Goals as goal
+
+pub read-requires : goal.read-requires
+read-requires g c = subst (λ (name : List ℕ). g.F.Folder.may_read c.args.folder.now name) (sym c.as_str-name.ensures.value) (c.requires)
 
 pub returns-in-Bytes-clause-text : goal.returns-in-Bytes-clause-text
 returns-in-Bytes-clause-text g c =

@@ -1,15 +1,47 @@
 use Rattle.std.proofs.Common.{◌≡◌, List, [], ◌∷◌, ◌++◌, Ok, Err, sym, ap, subst, ◌∙◌, append_assoc}
 use Rattle.std.proofs.lemmas.List.{map-append, nil_from_length}
+use Rattle.rz_folder.proofs.Allowed.{may_read_after}
 use Rattle.rz_folder.proofs.Reading.{reads_on}
+use Rattle.rz_folder_paths.specs.Names.{LooksFor}
+use Rattle.rz_types_fields.specs.Text.{plain_parts}
 use Rattle.rz_stmt_items.specs.Item.{plain_item, plain_items}
 use Rattle.rz_stmt_items.specs.Places.{AreItemsWithin}
 use Rattle.rz_stmt_items.specs.declared.item.Item.{Item}
 use Rattle.rz_folder_paths.proofs.Found.{if_some}
+use Rattle.rz_folder_paths.proofs.Looking.{may_look_fewer}
 use Rattle.rz_pre.proofs.Going.{at_some}
+use Rattle.rz_tools_resource.specs.Asked.{ItemAsks, ItemsAsk}
+use Rattle.rz_tools_values.specs.Asked.{TextsAsk}
+use Rattle.rz_tools_resource.proofs.Asking.{item_asks, list_asks, named_asks, text_asks}
 use Rattle.rz_tools_resource.specs.Items.{item_given, item_read, items_given, items_read}
 use Rattle.rz_core.proofs.Stops.{halt_so}
 use Rattle.rz_tools_resource.proofs.Reading.{all_made, list_read, list_within, named_read, named_within, one_fault, one_made, within_more, Leads}
 use Rattle.rz_tools_resource.proofs.items.+items.Goals as goal
+
+-- What an item asks for.
+
+pub read_items-read_item-requires : goal.read_items-read_item-requires
+read_items-read_item-requires g t c =
+    let loop = c.loop-item in
+    may_look_fewer g.F.Folder c.args.paths.now (ItemsAsk (plain_items c.args.items)) (ItemAsks (plain_item c.in-Some.item))
+    (may_read_after g.F.Folder loop.invariant.reads (LooksFor c.args.paths.now (ItemsAsk (plain_items c.args.items))) c.requires)
+    (λ own asks. subst (λ (l : List Item). ItemsAsk (plain_items l) own) (sym (loop.invariant.rest ∙ ap (λ (l : List Item). loop.yielded ++ l) c.in-Some.ensures.steps.0))
+    (item_asks loop.yielded c.in-Some.item c.next.new.self.rest.items own asks))
+
+pub read_item-read_texts-requires : goal.read_item-read_texts-requires
+read_item-read_texts-requires g t c =
+    may_look_fewer g.F.Folder c.args.paths.now (ItemAsks (plain_item c.args.item)) (TextsAsk (plain_parts c.in-Text.texts)) c.requires
+    (text_asks c.args.item c.in-Text.texts c.in-Text.place c.in-Text.is)
+
+pub read_item-read_items-requires : goal.read_item-read_items-requires
+read_item-read_items-requires g t c =
+    may_look_fewer g.F.Folder c.args.paths.now (ItemAsks (plain_item c.args.item)) (ItemsAsk (plain_items c.in-List.items)) c.requires
+    (list_asks c.args.item c.in-List.items c.in-List.place c.in-List.is)
+
+pub read_item-read_items-requires-2 : goal.read_item-read_items-requires-2
+read_item-read_items-requires-2 g t c =
+    may_look_fewer g.F.Folder c.args.paths.now (ItemAsks (plain_item c.args.item)) (ItemsAsk (plain_items c.in-Named.items)) c.requires
+    (named_asks c.args.item c.in-Named.name c.in-Named.items c.in-Named.place c.in-Named.is)
 
 pub read_items-loop-item-preserved : goal.read_items-loop-item-preserved
 read_items-loop-item-preserved g t c =

@@ -12,7 +12,12 @@ use Rattle.rz_tools_values.proofs.Calls.{reads_first}
 use Rattle.rz_tools_work.specs.Include.{fork_included}
 use Rattle.rz_tools_work.proofs.Calls.{halted_refuses, halted_unread, went_halt, went_on}
 use Rattle.rz_tools_work.proofs.Included.{of_the_file}
+use Rattle.rz_folder.specs.MayRead.{IsOneOf, MayRead}
+use Rattle.rz_folder_paths.specs.Names.{names_of, utf8_name}
 use Rattle.rz_tools_work.proofs.include.include_resources.Goals as goal
+
+pub file_of_name-requires : goal.file_of_name-requires
+file_of_name-requires g c = subst (λ (own : List ℕ). MayRead g.F.Folder c.args.folder.now (IsOneOf (names_of c.args.paths.now (utf8_name own)))) (sym c.as_slice.ensures) c.requires
 
 pub returns-in-Ok-clause-included : goal.returns-in-Ok-clause-included
 returns-in-Ok-clause-included g c =

@@ -1,8 +1,8 @@
-use Rattle.std.proofs.Common.{◌≡◌, IfSome, sym, subst}
+use Rattle.std.proofs.Common.{◌≡◌, IfSome, sym, subst, refl}
 use Rattle.rz_core.specs.Message.{IsNameable}
 use Rattle.rz_stmt_lists.specs.Change.{change_of}
 use Rattle.rz_stmt_lists.specs.Delete.{delete_of}
-use Rattle.rz_stmt_lists.specs.Lists.{list_of}
+use Rattle.rz_stmt_lists.specs.Lists.{list_of, Includes, Reads}
 use Rattle.rz_stmt_lists.specs.declared.lists.ListStmt.{ListStmt}
 use Rattle.rz_core.specs.Stop.{IsReadFault, left, Yields}
 use Rattle.rz_folder_paths.proofs.Found.{if_some}
@@ -11,7 +11,25 @@ use Rattle.rz_tools_work.specs.Change.{list_changing, list_deleting}
 use Rattle.rz_tools_work.specs.Lists.{list_after}
 use Rattle.rz_tools_values.proofs.Calls.{reads_nothing}
 use Rattle.rz_tools_work.proofs.Calls.{halted_refuses, halted_unread, went_as}
+use Rattle.rz_folder.specs.MayRead.{MayRead}
+use Rattle.rz_folder_paths.specs.Names.{LooksFor}
+use Rattle.rz_folder_paths.proofs.Looking.{may_look}
+use Rattle.rz_stmt_lists.specs.Include.{include_of}
+use Rattle.rz_stmt_lists.specs.Read.{read_of}
+use Rattle.rz_tools_work.specs.Asked.{ListAsks}
 use Rattle.rz_tools_work.proofs.lists.list_step.Goals as goal
+
+pub include_resources-requires : goal.include_resources-requires
+include_resources-requires g c =
+    may_look g.F.Folder c.args.paths.now (ListAsks (Includes (include_of c.in-Include.stmt)))
+    (subst (λ (stmt : ListStmt). MayRead g.F.Folder c.args.folder.now (LooksFor c.args.paths.now (ListAsks (list_of stmt)))) c.in-Include.is c.requires)
+    (include_of c.in-Include.stmt).file refl
+
+pub read_resource-requires : goal.read_resource-requires
+read_resource-requires g c =
+    may_look g.F.Folder c.args.paths.now (ListAsks (Reads (read_of c.in-Read.stmt)))
+    (subst (λ (stmt : ListStmt). MayRead g.F.Folder c.args.folder.now (LooksFor c.args.paths.now (ListAsks (list_of stmt)))) c.in-Read.is c.requires)
+    (read_of c.in-Read.stmt).file refl
 
 pub returns-in-Include-clause-stepped : goal.returns-in-Include-clause-stepped
 returns-in-Include-clause-stepped g c =

@@ -9,7 +9,12 @@ use Rattle.rz_folder_paths.proofs.Found.{if_some}
 use Rattle.rz_tools_values.specs.Head.{facts_of}
 use Rattle.rz_tools_work.specs.Read.{with_file}
 use Rattle.rz_tools_values.proofs.Calls.{reads_nothing, refuses_so, stop_unread, yields_on, yields_stop}
+use Rattle.rz_folder.specs.MayRead.{IsOneOf, MayRead}
+use Rattle.rz_folder_paths.specs.Names.{names_of, utf8_name}
 use Rattle.rz_tools_work.proofs.read.resource_read.Goals as goal
+
+pub with_file-requires-clause-may : goal.with_file-requires-clause-may
+with_file-requires-clause-may g c = subst (λ (own : List ℕ). MayRead g.F.Folder c.args.folder.now (IsOneOf (names_of c.args.paths.now (utf8_name own)))) (sym c.as_slice.ensures) c.requires
 
 pub returns-in-Ok-clause-read : goal.returns-in-Ok-clause-read
 returns-in-Ok-clause-read g c =

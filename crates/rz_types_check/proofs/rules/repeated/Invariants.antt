@@ -6,4 +6,4 @@ use Rattle.rz_types_check.proofs.rules.repeated.Given as goal
 
 abbrev pub invariant-loop-case : goal.invariant-loop-case
 invariant-loop-case l =
-    first_in repeats (map (λ name. name.now) l.before.items) (case_names (plain_cases (drop l.case-index l.cases))) ≡ repeated (case_names (plain_cases l.cases))
+    first_in repeats (map (λ name. name.now) l.before.list.items) (case_names (plain_cases (drop l.case-index l.cases))) ≡ repeated (case_names (plain_cases l.cases))

@@ -11,7 +11,7 @@ invariant-walk_fields-loop-field l = record {
 
 abbrev pub invariant-walk_cases-loop-case : goal.invariant-walk_cases-loop-case
 invariant-walk_cases-loop-case l = record {
-  met : cases_met (scope_of l.fn.walk) l.position l.keys.items (met_of l.walk) (plain_cases (drop l.case-index l.cases))
+  met : cases_met (scope_of l.fn.walk) l.position l.keys.list.items (met_of l.walk) (plain_cases (drop l.case-index l.cases))
       ≡ cases_met (scope_of l.fn.walk) l.position [] (met_of l.fn.walk) (plain_cases l.cases);
   scope : scope_of l.walk ≡ scope_of l.fn.walk;
 }

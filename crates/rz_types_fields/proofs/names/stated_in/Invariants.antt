@@ -1,6 +1,6 @@
 use Rattle.std.proofs.Common.{◌≡◌, drop}
 use Rattle.rz_types_fields.specs.Field.{plain_body}
-use Rattle.rz_types_fields.specs.Known.{stated_in}
+use Rattle.rz_types_fields.specs.Front.{stated_in}
 use Rattle.rz_expr.specs.NameKey.{key_of}
 use Rattle.rz_types_fields.proofs.names.stated_in.Given as goal
 

@@ -8,7 +8,8 @@ use Rattle.rz_types_fields.specs.Passed.{met_inside, nothing_passed, outside}
 use Rattle.rz_types_fields.specs.Sees.{marked}
 use Rattle.rz_unlay.specs.Came.{line_at, line_in}
 use Rattle.rz_unlay.specs.Cursor.{body_found, ended}
-use Rattle.rz_types_fields.specs.Known.{known, met, names_inside}
+use Rattle.rz_types_fields.specs.Front.{names_inside}
+use Rattle.rz_types_fields.specs.Known.{known, met}
 use Rattle.rz_unlay.specs.Pieces.{Found}
 use Rattle.rz_unlay_pieces.specs.Few.{few}
 use Rattle.rz_unlay.specs.Few.{line_count}

@@ -4,7 +4,7 @@ use Rattle.rz_tmpl_entries.proofs.Shown.{has_room, shows_count, shows_end, shows
 use Rattle.rz_tmpl_entries.proofs.bodies.Bodies.take.Goals as goal
 
 pub enter-requires : goal.enter-requires
-enter-requires c = has_room c.args.self.now c.in-Start.counted (ap (fault_of c.args.self.now) (sym c.in-Start.is) ∙ c.requires.sound) c.requires.few
+enter-requires c = has_room c.args.self.now c.in-Start.form (ap (fault_of c.args.self.now) (sym c.in-Start.is) ∙ c.requires.sound) c.requires.few
 
 pub returns-in-One : goal.returns-in-One
 returns-in-One c = λ place next shows is.
@@ -15,7 +15,7 @@ returns-in-Count c = λ place next shows is. shows_count place c.in-Count.field-
 
 pub returns-in-Start : goal.returns-in-Start
 returns-in-Start c = λ place next shows is.
-    shows_start place c.in-Start.counted next c.args.self.now c.enter.new.self shows (ap (behind place) (sym c.in-Start.is) ∙ is) c.enter.ensures.waiting c.enter.ensures.valued c.enter.ensures.outside
+    shows_start place c.in-Start.form next c.args.self.now c.enter.new.self shows (ap (behind place) (sym c.in-Start.is) ∙ is) c.enter.ensures.waiting c.enter.ensures.valued c.enter.ensures.outside
 
 pub returns-in-End : goal.returns-in-End
 returns-in-End c = λ place next shows is.

@@ -14,7 +14,8 @@ use Rattle.rz_unlay_pieces.specs.Came.{met_of, step_of}
 use Rattle.rz_unlay.specs.Cursor.{body_found, count_known, field_found, goes_on, has_keys, most_rows, rows_by, rows_until, until_of, ReadsRow}
 use Rattle.rz_unlay_pieces.specs.Seen.{met_counted, met_in_rows}
 use Rattle.rz_unlay_pieces.specs.Pieces.{claim_count, Step}
-use Rattle.rz_types_fields.specs.Known.{known, met, names_inside, which_of}
+use Rattle.rz_types_fields.specs.Front.{names_inside}
+use Rattle.rz_types_fields.specs.Known.{known, met, which_of}
 use Rattle.rz_types_fields.specs.Passed.{met_behind, met_inside}
 use Rattle.rz_types_fields.specs.RowLabels.{also_rows}
 use Rattle.rz_types_fields.specs.Sees.{marked, Late}

@@ -1,0 +1,14 @@
+use Rattle.std.proofs.Common.{sym, ◌∙◌}
+use Rattle.rz_types.specs.Rules.{has_other_place}
+use Rattle.rz_types_check.proofs.KeysAlike.{none_there, place_is}
+use Rattle.rz_types_check.proofs.keys.has_other_place.Goals as goal
+
+pub returns-in-Some : goal.returns-in-Some
+returns-in-Some c =
+    let first = rw c.deref.ensures.value at c.in-Some.ensures.value in
+    c.differ.ensures ∙ sym (place_is c.args.key.now c.args.before.now.list.items c.in-Some.first.now c.args.before.now.alike (sym first))
+
+pub returns-in-None : goal.returns-in-None
+returns-in-None c =
+    let none = rw c.deref.ensures.value at c.in-None.ensures.value in
+    sym (none_there (has_other_place c.args.key.now) c.args.before.now.list.items (sym none))
