@@ -3,6 +3,8 @@ pub mod Symbols
 pub mod RowKeys
 pub mod RowPlaces
 pub mod Noting
+pub mod Positions
+pub mod Fronts
 pub mod Arithmetic
 pub mod Appending
 pub mod Bodies

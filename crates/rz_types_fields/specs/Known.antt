@@ -2,6 +2,7 @@
 -- notes give them, and which names are met after them.
 use Rattle.std.specs.Prelude.{◌≡◌, ℕ, ℤ, pos, Bool, ◌&&◌, ◌||◌, not, if◌then◌else◌, List, [], ◌∷◌, ◌++◌, Option, Some, None, option_map}
 use Rattle.std.specs.Option.{is_some}
+use Rattle.rz_core.specs.Lists.{or_else}
 use Rattle.rz_expr.specs.Environment.{count_key, row_key, Environment, Key}
 use Rattle.rz_expr.specs.NameKey.{key_of}
 use Rattle.rz_types_fields.specs.Field.{plain_body, PlainBody}
@@ -85,6 +86,14 @@ pub record Adds (values : Key → Option ℤ → Option ℤ) (mets : Key → Boo
   pub grew : new ≡ old ++ more
   pub values_are : (key : Key) (before : Option ℤ) → noted before more key ≡ values key before
   pub mets_are : (key : Key) (before : Bool) → met_noted before more key ≡ mets key before
+
+-- by these keys have no value, and aren't met
+abbrev pub Hides : (Key → Bool) → List Note → List Note → Type 0
+Hides gives old new = Adds (λ key before. if gives key then None else before) (λ key before. not (gives key) && before) old new
+
+-- by these keys have values that are told
+abbrev pub Tells : (Key → Option ℤ) → List Note → List Note → Type 0
+Tells stated old new = Adds (λ key before. or_else (stated key) before) (λ key before. before) old new
 
 -- by those of the front of a body its own names hide those outside
 abbrev pub IsFront : Option RowOf → PlainBody → List Note → List Note → Type 0

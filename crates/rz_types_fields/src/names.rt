@@ -1,16 +1,16 @@
 //! Notes of what is known of names: the numbers of rows, the places of labels, and the names that a body hides. They stand in a
 //! list, in `notes`, of which the newest that speaks of a name counts.
 
-ghost use Rattle.std.specs.Prelude.{◌≡◌, ◌&&◌, ◌+◌, Bool, ℤ, Option, None, OnOk, if◌then◌else◌, not};
+ghost use Rattle.std.specs.Prelude.{◌≡◌, OnOk, if◌then◌else◌};
 ghost use Rattle.std.specs.Str.{str_to_ascii_lowercase};
-ghost use Rattle.rz_core.specs.Lists.{or_else};
-ghost use Rattle.rz_expr.specs.Environment.{place_in_key, Key};
+ghost use Rattle.rz_expr.specs.Environment.{place_in_key};
 ghost use Rattle.rz_expr.specs.NameKey.{key_of};
 ghost use Rattle.rz_types_fields.specs.Field.{plain_array, plain_body, plain_field};
 ghost use Rattle.rz_types_fields.specs.Front.{stated_by, stated_in, stated_value};
-ghost use Rattle.rz_types_fields.specs.Known.{said, speaks, which_of, Adds, AreRowsNoted, IsFront};
+ghost use Rattle.rz_types_fields.specs.Known.{said, speaks, which_of, Adds, AreRowsNoted, Hides, IsFront, Tells};
 ghost use Rattle.rz_types_fields.specs.Passed.{declares, gives_count, gives_key};
 ghost use Rattle.rz_types_fields.specs.RowLabels.{is_row, label_count, label_index, labels_count, row_number, row_value};
+ghost use Rattle.rz_types_fields.specs.Solve.{is_same_key};
 
 use crate::name_key::{counts_rows, gives_rows, is_label, is_same_key, stands_at};
 use crate::notes::Notes;
@@ -130,7 +130,7 @@ fn note_number<'a>(which: Option<InRow<'a>>, notes: &mut Notes<'a>) -> Result<()
 
 /// Notes that the names of a body have no value.
 fn hide_names<'a>(fields: &'a [Field], notes: &mut Notes<'a>) -> Result<(), NoMemory>
-    ensures { OnOk result (Adds (λ key before. if declares (plain_body fields.now) key then None else before) (λ key before. not (declares (plain_body fields.now) key) && before) notes.old.items notes.new.items) }
+    ensures { OnOk result (Hides (declares (plain_body fields.now)) notes.old.items notes.new.items) }
 {
     for field in fields {
         hide_field(field, notes)?;
@@ -140,34 +140,42 @@ fn hide_names<'a>(fields: &'a [Field], notes: &mut Notes<'a>) -> Result<(), NoMe
 
 /// Notes that the names that a field gives have no value.
 fn hide_field<'a>(field: &'a Field, notes: &mut Notes<'a>) -> Result<(), NoMemory>
-    ensures { OnOk result (Adds (λ key before. if gives_key (plain_field field.now) key then None else before) (λ key before. not (gives_key (plain_field field.now) key) && before) notes.old.items notes.new.items) }
+    ensures { OnOk result (Hides (gives_key (plain_field field.now)) notes.old.items notes.new.items) }
 {
     match field {
         Field::Array(array) => hide_array(array, notes),
-        Field::Label(name) => notes.push(Note::Hidden(Key::Place(name))),
+        Field::Label(name) => hide(Key::Place(name), notes),
         _ => Ok(()),
     }
 }
 
 fn hide_array<'a>(array: &'a ArrayField, notes: &mut Notes<'a>) -> Result<(), NoMemory>
-    ensures { OnOk result (Adds (λ key before. if gives_key (plain_array array.now) key then None else before) (λ key before. not (gives_key (plain_array array.now) key) && before) notes.old.items notes.new.items) }
+    ensures { OnOk result (Hides (gives_key (plain_array array.now)) notes.old.items notes.new.items) }
 {
     hide_count(&array.name, notes)?;
-    notes.push(Note::Coming(array.row.as_slice()))
+    notes.push(Note::Coming(array.row.as_slice()))?;
+    Ok(())
 }
 
 fn hide_count<'a>(name: &'a Option<Word>, notes: &mut Notes<'a>) -> Result<(), NoMemory>
-    ensures { OnOk result (Adds (λ key before. if gives_count name.now key then None else before) (λ key before. not (gives_count name.now key) && before) notes.old.items notes.new.items) }
+    ensures { OnOk result (Hides (gives_count name.now) notes.old.items notes.new.items) }
 {
     match name {
-        Some(name) => notes.push(Note::Hidden(Key::Count(name))),
+        Some(name) => hide(Key::Count(name), notes),
         None => Ok(()),
     }
 }
 
+fn hide<'a>(key: Key<'a>, notes: &mut Notes<'a>) -> Result<(), NoMemory>
+    ensures { OnOk result (Hides (is_same_key (key_of key.entry)) notes.old.items notes.new.items) }
+{
+    notes.push(Note::Hidden(key))?;
+    Ok(())
+}
+
 /// Notes the numbers of rows that a body states, the first one last.
 fn tell_counts<'a>(fields: &'a [Field], notes: &mut Notes<'a>) -> Result<(), NoMemory>
-    ensures { OnOk result (Adds (λ key before. or_else (stated_in (plain_body fields.now) key) before) (λ key before. before) notes.old.items notes.new.items) }
+    ensures { OnOk result (Tells (stated_in (plain_body fields.now)) notes.old.items notes.new.items) }
 {
     for later in 0..fields.len() {
         tell_count(&fields[fields.len() - 1 - later], notes)?;
@@ -177,7 +185,7 @@ fn tell_counts<'a>(fields: &'a [Field], notes: &mut Notes<'a>) -> Result<(), NoM
 
 /// Notes the number of rows that a field states.
 fn tell_count<'a>(field: &'a Field, notes: &mut Notes<'a>) -> Result<(), NoMemory>
-    ensures { OnOk result (Adds (λ key before. or_else (stated_by (plain_field field.now) key) before) (λ key before. before) notes.old.items notes.new.items) }
+    ensures { OnOk result (Tells (stated_by (plain_field field.now)) notes.old.items notes.new.items) }
 {
     match field {
         Field::Array(array) => tell_stated(&array.name, array.count, notes),
@@ -190,12 +198,12 @@ fn tell_stated<'a>(
     count: Option<i32>,
     notes: &mut Notes<'a>,
 ) -> Result<(), NoMemory>
-    ensures { OnOk result (Adds (λ key before. or_else (stated_value name.now count key) before) (λ key before. before) notes.old.items notes.new.items) }
+    ensures { OnOk result (Tells (stated_value name.now count) notes.old.items notes.new.items) }
 {
-    match (name, count) {
-        (Some(name), Some(count)) => notes.push(Note::Told(name, i64::from(count))),
-        _ => Ok(()),
+    if let (Some(name), Some(count)) = (name, count) {
+        notes.push(Note::Told(name, i64::from(count)))?;
     }
+    Ok(())
 }
 
 /// Notes that an array has so many rows of these fields, and that the labels directly in them have these places, those of each
