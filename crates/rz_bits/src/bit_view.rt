@@ -1,7 +1,7 @@
 //! The bits of bytes, read in place from any bit on, by place or one number after another. What they are is in
 //! `specs/Bits` and `specs/View`.
 
-ghost use Rattle.std.specs.Prelude.{◌≡◌, ◌+◌, ◌*◌, ◌^◌, ◌==◌, ◌<◌, ◌≤◌, length, take, drop, IfOk, IfSome, IfNone};
+ghost use Rattle.std.specs.Prelude.{◌≡◌, ◌+◌, ◌*◌, ◌^◌, ◌==◌, ◌<◌, ◌≤◌, ◌%◌, length, take, drop, IfOk, IfSome, IfNone, None, Some};
 ghost use Rattle.rz_bits.specs.Bits.{bits_of, front_bytes, number_bits, number_of};
 
 use rz_core::{Bytes, NoMemory};
@@ -107,6 +107,23 @@ impl<'a> BitView<'a> {
         Ok(Some(shifted_bytes(alloc, self.bytes, place, count)?))
     }
 
+    /// So many bytes from a place on, in bits, lent. `None` exactly where the place is within a byte, or where so many
+    /// bytes are not there.
+    #[tactic(auto, using(crate::proofs::Windows::bits_length))]
+    pub fn lent(&self, place: u32, count: u32) -> Option<&[u8]>
+        ensures bytes { IfSome result (λ bytes. Some bytes.now ≡ bytes_at (seen self.now) place count) }
+        ensures within { IfSome result (λ bytes. place + 8 * count ≤ length (seen self.now)) }
+        ensures missing { IfNone result (place % 8 ≡ 0 → bytes_at (seen self.now) place count ≡ None) }
+    {
+        if place % 8 != 0 {
+            return None;
+        }
+        if u64::from(place) + 8 * u64::from(count) > u64::from(self.len()) {
+            return None;
+        }
+        Some(bytes_in(self.bytes, place / 8, count))
+    }
+
     /// Whether so many bits from a place on are all 0.
     #[tactic(auto, using(crate::proofs::Windows::bits_length))]
     pub fn are_zero(&self, place: u32, count: u32) -> bool
@@ -146,14 +163,19 @@ pub(crate) fn number_in(bytes: &[u8], place: u32, width: u8) -> u32
 }
 
 /// Bytes that are there, where the place is that of a whole byte.
+fn bytes_in(bytes: &[u8], first: u32, count: u32) -> &[u8]
+    requires { first + count ≤ length bytes.now }
+    ensures { result.now ≡ front_bytes count (drop (8 * first) (bits_of bytes.now)) }
+{
+    &bytes[first as usize..first as usize + count as usize]
+}
+
+/// A copy of bytes that are there, where the place is that of a whole byte.
 fn whole_bytes(alloc: Global, bytes: &[u8], first: u32, count: u32) -> Result<Bytes, NoMemory>
     requires { first + count ≤ length bytes.now }
     ensures { IfOk result (λ copy. copy ≡ front_bytes count (drop (8 * first) (bits_of bytes.now))) }
 {
-    Bytes::of(
-        alloc,
-        &bytes[first as usize..first as usize + count as usize],
-    )
+    Bytes::of(alloc, bytes_in(bytes, first, count))
 }
 
 /// Bytes that are there, from any place on.

@@ -101,7 +101,7 @@ mutual
       let size : place + 2 + length xs ≡ end = omega arith in
       let zero_on = unpacked_behind (known ++ 144 ∷ []) (place + 2) xs in
       let run_on = unpacked_behind (known ++ replicate (count - 1) (last_of known)) (place + 2) xs in
-      let none_on = if length known == 0 then Err (fault 446 place count) else run_on in
+      let none_on : Read = if length known == 0 then Err (fault 446 place count) else run_on in
       by_test (run_behind known place (count ∷ xs) ≡ after front byte end (marked (count ∷ xs))) (count == 0)
       (λ is.
       ap (λ (t : Bool). if t then zero_on else none_on) is

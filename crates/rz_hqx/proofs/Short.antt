@@ -29,16 +29,15 @@ few_alone (suc count) byte =
 many_of : (count : ℕ) → nat_lt count 4 ≡ false → 4 ≤ count
 many_of count many = grind (arith, nat_tests)
 
+abbrev long : ℕ → ℕ → Code
+long byte count = record { byte = byte; counts = count ∷ [] }
+
 few_piece : (byte count : ℕ) → length (piece byte count) ≤ 2 * count
 few_piece byte count = by_count (nat_lt count 4) (many_of count)
   where
-    long : Code
-    long = record { byte = byte; counts = count ∷ [] }
-
-    by_count : (t : Bool) → (t ≡ false → 4 ≤ count) → length (flat_map stored (if t then replicate count (alone byte) else long ∷ [])) ≤ 2 * count
-    unfolding long
+    by_count : (t : Bool) → (t ≡ false → 4 ≤ count) → length (flat_map stored (if t then replicate count (alone byte) else long byte count ∷ [])) ≤ 2 * count
     by_count true many = few_alone count byte
-    by_count false many = omega (arith, many (λ i. false), length-append (stored long) [], length-append (literal byte) (144 ∷ count ∷ []), few_literal byte)
+    by_count false many = omega (arith, many (λ i. false), length-append (stored (long byte count)) [], length-append (literal byte) (144 ∷ count ∷ []), few_literal byte)
 
 few_next : (t : Bool) (count size : ℕ) (on own off : List ℕ) → length on ≤ 2 * (count + 1 + size) → length own ≤ 2 * count → length off ≤ 2 * (1 + size)
     → length (if t then on else own ++ off) ≤ 2 * (count + suc size)
@@ -51,13 +50,13 @@ few_behind (x ∷ xs) byte count =
     few_next ((x == byte) && nat_lt count 255) count (length xs) (packed_behind byte (count + 1) xs) (piece byte count) (packed_behind x 1 xs)
     (few_behind xs byte (count + 1)) (few_piece byte count) (few_behind xs x 1)
 
+none_packed : length (packed []) ≤ 0
+unfolding packed
+none_packed = omega arith
+
 few_packed : (bytes : List ℕ) → length (packed bytes) ≤ 2 * length bytes
-few_packed [] = none
-  where
-    none : length (packed []) ≤ 0
-    unfolding packed
-    none = omega arith
-few_packed (x ∷ xs) = omega (arith, few_behind xs x 1, ap length (begins x xs))
+few_packed [] = omega (arith, none_packed)
+few_packed (x ∷ xs) = omega (arith, few_behind xs x 1, ap (length {A = ℕ}) (begins x xs))
 
 few_sixes : (bytes : List ℕ) → length (sixes bytes) ≤ 2 * length bytes + 2
 few_sixes [] = omega arith

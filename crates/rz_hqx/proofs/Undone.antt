@@ -22,8 +22,8 @@ end_of true = 144 ∷ []
 end_of false = []
 
 -- the bytes are what they are cut into, and no count is 0
-record Whole (bytes : List ℕ) (cut : Cut) : Type 0 where
-  pub bytes : bytes ≡ counted cut.counts ++ (flat_map stored cut.codes ++ end_of cut.torn)
+record Whole (all : List ℕ) (cut : Cut) : Type 0 where
+  pub bytes : all ≡ counted cut.counts ++ (flat_map stored cut.codes ++ end_of cut.torn)
   pub counts : AllByRecursion (λ count. count ≢ 0) cut.counts
   pub codes : AllByRecursion IsCode cut.codes
 
@@ -69,8 +69,8 @@ settled : (counts : List ℕ) (codes : List Code) (torn : Bool) (coded bytes : L
 settled (count ∷ counts) codes torn coded bytes cause whole is = absurd cc
 settled [] codes true coded bytes cause whole is = absurd cc
 settled [] codes false coded bytes cause whole is =
-    let made : bytes ≡ flat_map meant codes = cc in
-    record { codes = codes; are = whole.codes; coded = whole.bytes ∙ append-nil (flat_map stored codes); bytes = made }
+    let told : bytes ≡ flat_map meant codes = cc in
+    record { codes = codes; are = whole.codes; made = whole.bytes ∙ append-nil (flat_map stored codes); told = told }
 
 -- what codes are read as they mean
 pub coding_read : (coded bytes : List ℕ) → unpacked coded ≡ Ok bytes → IsCoding coded bytes
@@ -189,7 +189,7 @@ meant_run run =
 all_runs : (runs : List Run) → AllByRecursion IsCode (flat_map run_codes runs)
 all_runs [] = tt
 all_runs (run ∷ runs) =
-    all_append IsCode (run_codes run) (flat_map run_codes runs) (all_counts run.byte (replicate (run.count / 255) 255 ++ run.count % 255 ∷ [])) (all_runs runs)
+    all_append IsCode (run_codes run) (flat_map run_codes runs) (all_counts run.byte (replicate (run.count / 255) 255 ++ (run.count % 255) ∷ [])) (all_runs runs)
 
 meant_runs : (runs : List Run) → flat_map meant (flat_map run_codes runs) ≡ flat_map spelled runs
 meant_runs [] = refl

@@ -1,7 +1,7 @@
 -- Bytes are written run by run.
-use Rattle.std.proofs.Common.{◌≡◌, ℕ, suc, ◌+◌, ◌/◌, ◌%◌, ◌<◌, ◌≤◌, ◌==◌, ◌&&◌, nat_lt, if◌then◌else◌, Bool, true, false, List, [], ◌∷◌, ◌++◌, replicate, refl, sym, ap, ◌∙◌, arith, append_assoc}
+use Rattle.std.proofs.Common.{◌≡◌, ℕ, suc, ◌+◌, ◌-◌, ◌/◌, ◌%◌, ◌<◌, ◌≤◌, ◌==◌, ◌&&◌, nat_lt, if◌then◌else◌, Bool, List, [], ◌∷◌, ◌++◌, length, take, drop, get_or, replicate, refl, sym, ap, ◌∙◌, arith}
 use Rattle.std.proofs.lemmas.Bool.{eq-eqb, eqb-true, ltb-true, ltb-false}
-use Rattle.std.proofs.lemmas.List.{append-nil}
+use Rattle.std.proofs.lemmas.List.{append-nil, take_all}
 use Rattle.std.proofs.lemmas.List.Concat.{flat_map-append}
 use Rattle.std.specs.List.{flat_map}
 use Rattle.rz_core.proofs.Tests.{by_test, same_sym}
@@ -61,7 +61,7 @@ one_piece byte count most =
     let bound : count < 255 = ltb-true count 255 below in
     let none : count / 255 ≡ 0 = omega arith in
     let all : count % 255 ≡ count = omega arith in
-    ap (λ (q : ℕ). flat_map stored (flat_map (equal_codes byte) (replicate q 255 ++ count % 255 ∷ []))) none
+    ap (λ (q : ℕ). flat_map stored (flat_map (equal_codes byte) (replicate q 255 ++ (count % 255) ∷ []))) none
     ∙ ap (λ (r : ℕ). flat_map stored (equal_codes byte r ++ [])) all
     ∙ ap (flat_map stored) (append-nil (equal_codes byte count)))
     (λ above.
@@ -81,7 +81,7 @@ long_run byte count runs =
     let more : (255 + count) / 255 ≡ suc (count / 255) = omega arith in
     let same : (255 + count) % 255 ≡ count % 255 = omega arith in
     let later = written (run byte count ∷ runs) in
-    ap (λ (q : ℕ). flat_map stored (flat_map (equal_codes byte) (replicate q 255 ++ (255 + count) % 255 ∷ []) ++ flat_map run_codes runs)) more
+    ap (λ (q : ℕ). flat_map stored (flat_map (equal_codes byte) (replicate q 255 ++ ((255 + count) % 255) ∷ []) ++ flat_map run_codes runs)) more
     ∙ ap (λ (r : ℕ). flat_map stored (flat_map (equal_codes byte) (replicate (suc (count / 255)) 255 ++ r ∷ []) ++ flat_map run_codes runs)) same
     ∙ ap (λ (l : List ℕ). l ++ later) (sym (append-nil (stored own)))
 
@@ -133,3 +133,17 @@ pieces (x ∷ xs) byte count most =
 pub begins : (x : ℕ) (xs : List ℕ) → packed_behind x 1 xs ≡ packed (x ∷ xs)
 unfolding packed
 begins x xs = pieces xs x 1 (omega arith)
+
+pub none_written : (bytes : List ℕ) → length bytes < 1 → [] ≡ packed bytes
+unfolding packed
+none_written [] none = refl
+none_written (x ∷ xs) none = absurd (omega arith)
+
+pub all_written : (bytes out : List ℕ) → 1 ≤ length bytes → out ≡ [] → out ++ packed_behind (get_or bytes 0 0) 1 (take (length bytes - 1) (drop 1 bytes)) ≡ packed bytes
+all_written [] out some none = absurd (omega arith)
+all_written (x ∷ xs) out some none =
+    let left : suc (length xs) - 1 ≡ length xs = omega arith in
+    ap (λ (o : List ℕ). o ++ packed_behind x 1 (take (suc (length xs) - 1) xs)) none
+    ∙ ap (λ (n : ℕ). packed_behind x 1 (take n xs)) left
+    ∙ ap (packed_behind x 1) (take_all (length xs) xs (omega arith))
+    ∙ begins x xs

@@ -54,7 +54,7 @@ equal_codes byte count =
 
 -- a run: 255 of its bytes as often as they go, and then the others
 abbrev pub run_codes : Run → List Code
-run_codes run = flat_map (equal_codes run.byte) (replicate (run.count / 255) 255 ++ run.count % 255 ∷ [])
+run_codes run = flat_map (equal_codes run.byte) (replicate (run.count / 255) 255 ++ (run.count % 255) ∷ [])
 
 -- the one coding of bytes
 unfoldable pub packed : List ℕ → List ℕ
@@ -95,9 +95,9 @@ unpacked coded =
     let cut = cut_of coded in
     unless_fault (or_else (run_at_start cut.counts) (broken cut.torn (fault 445 (length coded - 1) 1))) (flat_map meant cut.codes)
 
--- these bytes stand for those: the ones are codes, and the others what the codes mean
+-- the first bytes are codes, and the others are what the codes mean
 pub record IsCoding (coded bytes : List ℕ) : Type 0 where
   pub codes : List Code
   pub are : AllByRecursion IsCode codes
-  pub coded : coded ≡ flat_map stored codes
-  pub bytes : bytes ≡ flat_map meant codes
+  pub made : coded ≡ flat_map stored codes
+  pub told : bytes ≡ flat_map meant codes

@@ -123,7 +123,7 @@ impl Line {
     }
 
     /// Writes a byte as it is shown between such quote marks.
-    fn shown(&mut self, byte: u8, quote: u8)
+    pub fn shown(&mut self, byte: u8, quote: u8)
         ensures { self.new ≡ cut (self.old ++ shown_byte quote byte) }
     {
         if byte < 0x20 || byte > 0x7E {

@@ -23,8 +23,8 @@ none_left (suc left) = false
 -- the fault of an entry at a place after which so many more lists may be open, in a list or in none
 abbrev pub place_fault : (left : ℕ) (outermost : Bool) → Place → Entry → Option ℕ
 place_fault left outermost (at items) entry = entry_fault (four (none_left left) outermost (waits false items) (has_value items)) entry
-place_fault zero outermost (inside before counted place) entry = None
-place_fault (suc left) outermost (inside before counted place) entry = place_fault left false place entry
+place_fault zero outermost (inside before form place) entry = None
+place_fault (suc left) outermost (inside before form place) entry = place_fault left false place entry
 
 abbrev pub Kept : ℕ → Bool → Place → Entry → Place → Type 0
 Kept left outermost p e q = is_place_kept left q ≡ (is_place_kept left p && is_none (place_fault left outermost p e))
@@ -44,7 +44,7 @@ waits_append w (count less rest) b = waits_append true rest b
 waits_append w (list Counted row rest) b = waits_append false rest b
 waits_append w (list Uncounted row rest) b = waits_append w rest b
 
-pub behind_waits : (counted : ListForm) (w : Bool) (row rest : Items) → waits w (list counted row rest) ≡ waits (waits_behind counted w) rest
+pub behind_waits : (form : ListForm) (w : Bool) (row rest : Items) → waits w (list form row rest) ≡ waits (waits_behind form w) rest
 behind_waits Counted w row rest = refl
 behind_waits Uncounted w row rest = refl
 
@@ -53,11 +53,11 @@ kept_append left w none b = refl
 kept_append left w (one plain rest) b = kept_append left w rest b
 kept_append left true (count less rest) b = refl
 kept_append left false (count less rest) b = kept_append left true rest b
-kept_append zero w (list counted row rest) b = refl
-kept_append (suc left) w (list counted row rest) b =
-    ap (λ t. may_start counted w && (is_kept left false row && (not (waits false row) && (has_value row && t)))) (kept_append (suc left) (waits_behind counted w) rest b
-    ∙ ap (λ v. is_kept (suc left) (waits_behind counted w) rest && is_kept (suc left) v b) (sym (behind_waits counted w row rest)))
-    ∙ five (may_start counted w) (is_kept left false row) (not (waits false row)) (has_value row) (is_kept (suc left) (waits_behind counted w) rest) (is_kept (suc left) (waits w (list counted row rest)) b)
+kept_append zero w (list form row rest) b = refl
+kept_append (suc left) w (list form row rest) b =
+    ap (λ t. may_start form w && (is_kept left false row && (not (waits false row) && (has_value row && t)))) (kept_append (suc left) (waits_behind form w) rest b
+    ∙ ap (λ v. is_kept (suc left) (waits_behind form w) rest && is_kept (suc left) v b) (sym (behind_waits form w row rest)))
+    ∙ five (may_start form w) (is_kept left false row) (not (waits false row)) (has_value row) (is_kept (suc left) (waits_behind form w) rest) (is_kept (suc left) (waits w (list form row rest)) b)
   where
     five : (a b c d e f : Bool) → (a && (b && (c && (d && (e && f))))) ≡ ((a && (b && (c && (d && e)))) && f)
     five true true true true e f = refl
@@ -77,26 +77,26 @@ count_more left items less = kept_append left false items (count less none) ∙ 
     turn true = refl
     turn false = refl
 
-start_more : (left : ℕ) (outermost : Bool) (items : Items) (counted : ListForm) → Kept left outermost (at items) (Start counted) (inside items counted (at none))
-start_more zero outermost items counted = turn (is_kept zero false items) (may_start counted (waits false items))
+start_more : (left : ℕ) (outermost : Bool) (items : Items) (form : ListForm) → Kept left outermost (at items) (Start form) (inside items form (at none))
+start_more zero outermost items form = turn (is_kept zero false items) (may_start form (waits false items))
   where
     turn : (k m : Bool) → false ≡ (k && is_none {T = ℕ} (if not m then Some 454 else if true then Some 456 else None))
     turn true true = refl
     turn true false = refl
     turn false m = refl
-start_more (suc left) outermost items counted = ap (λ t. is_kept (suc left) false items && t) (turn (may_start counted (waits false items)))
+start_more (suc left) outermost items form = ap (λ t. is_kept (suc left) false items && t) (turn (may_start form (waits false items)))
   where
     turn : (m : Bool) → (m && true) ≡ is_none {T = ℕ} (if not m then Some 454 else if false then Some 456 else None)
     turn true = refl
     turn false = refl
 
-end_more : (left : ℕ) (before : Items) (counted : ListForm) (items : Items)
-    → is_kept (suc left) false (append before (list counted items none))
-    ≡ ((is_kept (suc left) false before && (may_start counted (waits false before) && is_kept left false items))
+end_more : (left : ℕ) (before : Items) (form : ListForm) (items : Items)
+    → is_kept (suc left) false (append before (list form items none))
+    ≡ ((is_kept (suc left) false before && (may_start form (waits false before) && is_kept left false items))
     && is_none {T = ℕ} (if waits false items then Some 454 else if not (has_value items) then Some 455 else None))
-end_more left before counted items =
-    kept_append (suc left) false before (list counted items none)
-    ∙ turn (is_kept (suc left) false before) (may_start counted (waits false before)) (is_kept left false items) (waits false items) (has_value items)
+end_more left before form items =
+    kept_append (suc left) false before (list form items none)
+    ∙ turn (is_kept (suc left) false before) (may_start form (waits false before)) (is_kept left false items) (waits false items) (has_value items)
   where
     turn : (a m k w h : Bool) → (a && (m && (k && (not w && (h && true))))) ≡ ((a && (m && k)) && is_none {T = ℕ} (if w then Some 454 else if not h then Some 455 else None))
     turn false m k w h = refl
@@ -110,21 +110,21 @@ some_same : {A : Type 0} (x y : A) → Some x ≡ Some y → x ≡ y
 some_same x y is = cc
 
 -- within an open list
-deeper : (left : ℕ) (outermost : Bool) (before : Items) (counted : ListForm) (place next : Place) (e : Entry)
-    → ((left : ℕ) → Kept left false place e next) → Kept left outermost (inside before counted place) e (inside before counted next)
-deeper zero outermost before counted place next e inner = refl
-deeper (suc left) outermost before counted place next e inner =
-    ap (λ t. is_kept (suc left) false before && (may_start counted (waits false before) && t)) (inner left)
-    ∙ three (is_kept (suc left) false before) (may_start counted (waits false before)) (is_place_kept left place) (is_none (place_fault left false place e))
+deeper : (left : ℕ) (outermost : Bool) (before : Items) (form : ListForm) (place next : Place) (e : Entry)
+    → ((left : ℕ) → Kept left false place e next) → Kept left outermost (inside before form place) e (inside before form next)
+deeper zero outermost before form place next e inner = refl
+deeper (suc left) outermost before form place next e inner =
+    ap (λ t. is_kept (suc left) false before && (may_start form (waits false before) && t)) (inner left)
+    ∙ three (is_kept (suc left) false before) (may_start form (waits false before)) (is_place_kept left place) (is_none (place_fault left false place e))
   where
     three : (a b c d : Bool) → (a && (b && (c && d))) ≡ ((a && (b && c)) && d)
     three true true c d = refl
     three true false c d = refl
     three false b c d = refl
 
-mapped : (before : Items) (counted : ListForm) (o : Option Place) (q : Place) → option_map (inside before counted) o ≡ Some q → (next : Place) × (o ≡ Some next) × (inside before counted next ≡ q)
-mapped before counted None q is = absurd cc
-mapped before counted (Some next) q is = (next, refl, some_same (inside before counted next) q is)
+mapped : (before : Items) (form : ListForm) (o : Option Place) (q : Place) → option_map (inside before form) o ≡ Some q → (next : Place) × (o ≡ Some next) × (inside before form next ≡ q)
+mapped before form None q is = absurd cc
+mapped before form (Some next) q is = (next, refl, some_same (inside before form next) q is)
 
 pub kept_behind : (left : ℕ) (outermost : Bool) (p : Place) (e : Entry) (q : Place) → behind p e ≡ Some q → Kept left outermost p e q
 kept_behind left outermost (at items) (One plain) q is = subst_is (some_same (at (append items (one plain none))) q is) (one_more left items plain)
@@ -132,26 +132,26 @@ kept_behind left outermost (at items) (One plain) q is = subst_is (some_same (at
     subst_is : at (append items (one plain none)) ≡ q → Kept left outermost (at items) (One plain) (at (append items (one plain none))) → Kept left outermost (at items) (One plain) q
     subst_is same kept = ap (is_place_kept left) (sym same) ∙ kept
 kept_behind left outermost (at items) (Count less) q is = ap (is_place_kept left) (sym (some_same (at (append items (count less none))) q is)) ∙ count_more left items less
-kept_behind left outermost (at items) (Start counted) q is = ap (is_place_kept left) (sym (some_same (inside items counted (at none)) q is)) ∙ start_more left outermost items counted
+kept_behind left outermost (at items) (Start form) q is = ap (is_place_kept left) (sym (some_same (inside items form (at none)) q is)) ∙ start_more left outermost items form
 kept_behind left outermost (at items) End q is = absurd cc
-kept_behind left outermost (inside before counted place) (One plain) q is =
-    let found = mapped before counted (behind place (One plain)) q is in
-    ap (is_place_kept left) (sym found.2) ∙ deeper left outermost before counted place found.0 (One plain) (λ l. kept_behind l false place (One plain) found.0 found.1)
-kept_behind left outermost (inside before counted place) (Count less) q is =
-    let found = mapped before counted (behind place (Count less)) q is in
-    ap (is_place_kept left) (sym found.2) ∙ deeper left outermost before counted place found.0 (Count less) (λ l. kept_behind l false place (Count less) found.0 found.1)
-kept_behind left outermost (inside before counted place) (Start other) q is =
-    let found = mapped before counted (behind place (Start other)) q is in
-    ap (is_place_kept left) (sym found.2) ∙ deeper left outermost before counted place found.0 (Start other) (λ l. kept_behind l false place (Start other) found.0 found.1)
-kept_behind zero outermost (inside before counted (at items)) End q is =
-    ap (is_place_kept zero) (sym (some_same (at (append before (list counted items none))) q is))
-    ∙ kept_append zero false before (list counted items none) ∙ and_false (is_kept zero false before)
+kept_behind left outermost (inside before form place) (One plain) q is =
+    let found = mapped before form (behind place (One plain)) q is in
+    ap (is_place_kept left) (sym found.2) ∙ deeper left outermost before form place found.0 (One plain) (λ l. kept_behind l false place (One plain) found.0 found.1)
+kept_behind left outermost (inside before form place) (Count less) q is =
+    let found = mapped before form (behind place (Count less)) q is in
+    ap (is_place_kept left) (sym found.2) ∙ deeper left outermost before form place found.0 (Count less) (λ l. kept_behind l false place (Count less) found.0 found.1)
+kept_behind left outermost (inside before form place) (Start other) q is =
+    let found = mapped before form (behind place (Start other)) q is in
+    ap (is_place_kept left) (sym found.2) ∙ deeper left outermost before form place found.0 (Start other) (λ l. kept_behind l false place (Start other) found.0 found.1)
+kept_behind zero outermost (inside before form (at items)) End q is =
+    ap (is_place_kept zero) (sym (some_same (at (append before (list form items none))) q is))
+    ∙ kept_append zero false before (list form items none) ∙ and_false (is_kept zero false before)
   where
     and_false : (a : Bool) → (a && false) ≡ false
     and_false true = refl
     and_false false = refl
-kept_behind (suc left) outermost (inside before counted (at items)) End q is =
-    ap (is_place_kept (suc left)) (sym (some_same (at (append before (list counted items none))) q is)) ∙ end_more left before counted items
-kept_behind left outermost (inside before counted (inside more other place)) End q is =
-    let found = mapped before counted (behind (inside more other place) End) q is in
-    ap (is_place_kept left) (sym found.2) ∙ deeper left outermost before counted (inside more other place) found.0 End (λ l. kept_behind l false (inside more other place) End found.0 found.1)
+kept_behind (suc left) outermost (inside before form (at items)) End q is =
+    ap (is_place_kept (suc left)) (sym (some_same (at (append before (list form items none))) q is)) ∙ end_more left before form items
+kept_behind left outermost (inside before form (inside more other place)) End q is =
+    let found = mapped before form (behind (inside more other place) End) q is in
+    ap (is_place_kept left) (sym found.2) ∙ deeper left outermost before form (inside more other place) found.0 End (λ l. kept_behind l false (inside more other place) End found.0 found.1)

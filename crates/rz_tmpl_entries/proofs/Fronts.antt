@@ -56,7 +56,7 @@ not_open full w valued is = absurd cc
 
 pub closed : (place : Place) → fault_behind place [] ≡ None → (items : Items) × (place ≡ at items) × (waits false items ≡ false)
 closed (at items) is = (items, refl, not_waiting (0 == most_open) (waits false items) (has_value items) is)
-closed (inside before counted place) is =
+closed (inside before form place) is =
     let full = suc (length (waiting_outside place)) == most_open in
     not_open full (waits false (innermost place)) (has_value (innermost place))
     (ap (λ (t : Bool). end_fault (four full t (waits false (innermost place)) (has_value (innermost place)))) (sym (not_none (length (waiting_outside place)))) ∙ is)

@@ -23,19 +23,19 @@ some_same x y is = cc
 
 innermost_with : (p : Place) (items : Items) → innermost (with p items) ≡ append (innermost p) items
 innermost_with (at more) items = refl
-innermost_with (inside before counted place) items = innermost_with place items
+innermost_with (inside before form place) items = innermost_with place items
 
 outside_with : (p : Place) (items : Items) → waiting_outside (with p items) ≡ waiting_outside p
 outside_with (at more) items = refl
-outside_with (inside before counted place) items = ap (λ (l : List Bool). waits_behind counted (waits false before) ∷ l) (outside_with place items)
+outside_with (inside before form place) items = ap (λ (l : List Bool). waits_behind form (waits false before) ∷ l) (outside_with place items)
 
-innermost_opened : (p : Place) (counted : ListForm) → innermost (opened p counted) ≡ none
-innermost_opened (at more) counted = refl
-innermost_opened (inside before other place) counted = innermost_opened place counted
+innermost_opened : (p : Place) (form : ListForm) → innermost (opened p form) ≡ none
+innermost_opened (at more) form = refl
+innermost_opened (inside before other place) form = innermost_opened place form
 
-outside_opened : (p : Place) (counted : ListForm) → waiting_outside (opened p counted) ≡ waiting_outside p ++ waits_behind counted (waits false (innermost p)) ∷ []
-outside_opened (at more) counted = refl
-outside_opened (inside before other place) counted = ap (λ (l : List Bool). waits_behind other (waits false before) ∷ l) (outside_opened place counted)
+outside_opened : (p : Place) (form : ListForm) → waiting_outside (opened p form) ≡ waiting_outside p ++ waits_behind form (waits false (innermost p)) ∷ []
+outside_opened (at more) form = refl
+outside_opened (inside before other place) form = ap (λ (l : List Bool). waits_behind other (waits false before) ∷ l) (outside_opened place form)
 
 value_append : (a b : Items) → has_value (append a b) ≡ (has_value a || has_value b)
 value_append none b = refl
@@ -45,7 +45,7 @@ value_append (one plain rest) b = ap (λ (t : Bool). takes plain || t) (value_ap
     either true y z = refl
     either false y z = refl
 value_append (count less rest) b = value_append rest b
-value_append (list counted row rest) b = refl
+value_append (list form row rest) b = refl
 
 or_false : (a : Bool) → (a || false) ≡ a
 or_false true = refl
@@ -58,19 +58,19 @@ or_true false = refl
 -- a place in a list, as what stands before that list and what stands in it
 record InList (place : Place) : Type 0 where
   pub outer : Place
-  pub counted : ListForm
+  pub form : ListForm
   pub row : Items
-  pub is : place ≡ with (opened outer counted) row
+  pub is : place ≡ with (opened outer form) row
 
-in_list : (before : Items) (counted : ListForm) (place : Place) → InList (inside before counted place)
-in_list before counted (at items) = record { outer = at before; counted = counted; row = items; is = refl }
-in_list before counted (inside more other place) =
+in_list : (before : Items) (form : ListForm) (place : Place) → InList (inside before form place)
+in_list before form (at items) = record { outer = at before; form = form; row = items; is = refl }
+in_list before form (inside more other place) =
     let found = in_list more other place in
-    record { outer = inside before counted found.outer; counted = found.counted; row = found.row; is = ap (inside before counted) found.is }
+    record { outer = inside before form found.outer; form = found.form; row = found.row; is = ap (inside before form) found.is }
 
-ended : (before : Items) (counted : ListForm) (place : Place) → (found : InList (inside before counted place))
-    → behind (inside before counted place) End ≡ Some (with found.outer (list found.counted found.row none))
-ended before counted place found = ap (λ (p : Place). behind p End) found.is ∙ end_step found.outer found.counted found.row
+ended : (before : Items) (form : ListForm) (place : Place) → (found : InList (inside before form place))
+    → behind (inside before form place) End ≡ Some (with found.outer (list found.form found.row none))
+ended before form place found = ap (λ (p : Place). behind p End) found.is ∙ end_step found.outer found.form found.row
 
 -- Entries.
 
@@ -78,46 +78,46 @@ entries_append : (a b : Items) → entries_of (append a b) ≡ entries_of a ++ e
 entries_append none b = refl
 entries_append (one plain rest) b = ap (λ (l : List Entry). One plain ∷ l) (entries_append rest b)
 entries_append (count less rest) b = ap (λ (l : List Entry). Count less ∷ l) (entries_append rest b)
-entries_append (list counted row rest) b =
-    ap (λ (l : List Entry). Start counted ∷ (entries_of row ++ End ∷ l)) (entries_append rest b)
-    ∙ ap (λ (l : List Entry). Start counted ∷ l) (sym (append_assoc (entries_of row) (End ∷ entries_of rest) (entries_of b)))
+entries_append (list form row rest) b =
+    ap (λ (l : List Entry). Start form ∷ (entries_of row ++ End ∷ l)) (entries_append rest b)
+    ∙ ap (λ (l : List Entry). Start form ∷ l) (sym (append_assoc (entries_of row) (End ∷ entries_of rest) (entries_of b)))
 
 entries_with : (p : Place) (items : Items) → entries_before (with p items) ≡ entries_before p ++ entries_of items
 entries_with (at more) items = entries_append more items
-entries_with (inside before counted place) items =
-    ap (λ (l : List Entry). entries_of before ++ Start counted ∷ l) (entries_with place items)
-    ∙ sym (append_assoc (entries_of before) (Start counted ∷ entries_before place) (entries_of items))
+entries_with (inside before form place) items =
+    ap (λ (l : List Entry). entries_of before ++ Start form ∷ l) (entries_with place items)
+    ∙ sym (append_assoc (entries_of before) (Start form ∷ entries_before place) (entries_of items))
 
-entries_opened : (p : Place) (counted : ListForm) → entries_before (opened p counted) ≡ entries_before p ++ Start counted ∷ []
-entries_opened (at more) counted = refl
-entries_opened (inside before other place) counted =
-    ap (λ (l : List Entry). entries_of before ++ Start other ∷ l) (entries_opened place counted)
-    ∙ sym (append_assoc (entries_of before) (Start other ∷ entries_before place) (Start counted ∷ []))
+entries_opened : (p : Place) (form : ListForm) → entries_before (opened p form) ≡ entries_before p ++ Start form ∷ []
+entries_opened (at more) form = refl
+entries_opened (inside before other place) form =
+    ap (λ (l : List Entry). entries_of before ++ Start other ∷ l) (entries_opened place form)
+    ∙ sym (append_assoc (entries_of before) (Start other ∷ entries_before place) (Start form ∷ []))
 
 -- the entries before the place after an entry
 pub one_more : (place : Place) (entry : Entry) (next : Place) → behind place entry ≡ Some next → entries_before next ≡ entries_before place ++ entry ∷ []
 one_more place (One plain) next is = ap entries_before (sym (some_same _ _ (sym (plain_step place plain) ∙ is))) ∙ entries_with place (one plain none)
 one_more place (Count less) next is = ap entries_before (sym (some_same _ _ (sym (count_step place less) ∙ is))) ∙ entries_with place (count less none)
-one_more place (Start counted) next is = ap entries_before (sym (some_same _ _ (sym (start_step place counted) ∙ is))) ∙ entries_opened place counted
+one_more place (Start form) next is = ap entries_before (sym (some_same _ _ (sym (start_step place form) ∙ is))) ∙ entries_opened place form
 one_more (at items) End next is = absurd cc
-one_more (inside before counted place) End next is =
-    let found = in_list before counted place in
-    ap entries_before (sym (some_same _ _ (sym (ended before counted place found) ∙ is)))
-    ∙ entries_with found.outer (list found.counted found.row none)
+one_more (inside before form place) End next is =
+    let found = in_list before form place in
+    ap entries_before (sym (some_same _ _ (sym (ended before form place found) ∙ is)))
+    ∙ entries_with found.outer (list found.form found.row none)
     ∙ sym
-    (ap (λ (l : List Entry). l ++ End ∷ []) (ap entries_before found.is ∙ entries_with (opened found.outer found.counted) found.row ∙ ap (λ (l : List Entry). l ++ entries_of found.row) (entries_opened found.outer found.counted))
-    ∙ append_assoc (entries_before found.outer ++ Start found.counted ∷ []) (entries_of found.row) (End ∷ [])
-    ∙ append_assoc (entries_before found.outer) (Start found.counted ∷ []) (entries_of found.row ++ End ∷ []))
+    (ap (λ (l : List Entry). l ++ End ∷ []) (ap entries_before found.is ∙ entries_with (opened found.outer found.form) found.row ∙ ap (λ (l : List Entry). l ++ entries_of found.row) (entries_opened found.outer found.form))
+    ∙ append_assoc (entries_before found.outer ++ Start found.form ∷ []) (entries_of found.row) (End ∷ [])
+    ∙ append_assoc (entries_before found.outer) (Start found.form ∷ []) (entries_of found.row ++ End ∷ []))
 
 -- after an entry without a fault there is a place
 pub place_behind : (full waiting valued : Bool) (place : Place) (entry : Entry) → entry_fault (four full (length (waiting_outside place) == 0) waiting valued) entry ≡ None
     → (next : Place) × (behind place entry ≡ Some next)
 place_behind full waiting valued place (One plain) sound = (with place (one plain none), plain_step place plain)
 place_behind full waiting valued place (Count less) sound = (with place (count less none), count_step place less)
-place_behind full waiting valued place (Start counted) sound = (opened place counted, start_step place counted)
+place_behind full waiting valued place (Start form) sound = (opened place form, start_step place form)
 place_behind full waiting valued (at items) End sound = absurd cc
-place_behind full waiting valued (inside before counted place) End sound =
-    let found = in_list before counted place in (with found.outer (list found.counted found.row none), ended before counted place found)
+place_behind full waiting valued (inside before form place) End sound =
+    let found = in_list before form place in (with found.outer (list found.form found.row none), ended before form place found)
 
 -- Faults.
 
@@ -149,31 +149,31 @@ fault_is zero true (at items) entry kept = refl
 fault_is zero false (at items) entry kept = refl
 fault_is (suc left) true (at items) entry kept = ap (λ (full : Bool). entry_fault (four full true (waits false items) (has_value items)) entry) (sym (not_all left))
 fault_is (suc left) false (at items) entry kept = ap (λ (full : Bool). entry_fault (four full false (waits false items) (has_value items)) entry) (sym (not_all left))
-fault_is zero outermost (inside before counted place) entry kept = never kept
-fault_is (suc left) outermost (inside before counted place) entry kept =
+fault_is zero outermost (inside before form place) entry kept = never kept
+fault_is (suc left) outermost (inside before form place) entry kept =
     let n = length (waiting_outside place) in
-    fault_is left false place entry (back (may_start counted (waits false before)) _ (back (is_kept (suc left) false before) _ kept))
+    fault_is left false place entry (back (may_start form (waits false before)) _ (back (is_kept (suc left) false before) _ kept))
     ∙ ap (λ (full : Bool). entry_fault (four full false (waits false (innermost place)) (has_value (innermost place))) entry) (sym (same_suc n left))
     ∙ ap (λ (outer : Bool). entry_fault (four (suc n == suc left) outer (waits false (innermost place)) (has_value (innermost place))) entry) (sym (ap (λ (t : Bool). outermost && t) (not_none n) ∙ and_false outermost))
 
 -- no more lists are open than may be
 pub few_open : (left : ℕ) (place : Place) → is_place_kept left place ≡ true → length (waiting_outside place) ≤ left
 few_open left (at items) kept = omega arith
-few_open zero (inside before counted place) kept = never kept
-few_open (suc left) (inside before counted place) kept =
-    omega (arith, few_open left place (back (may_start counted (waits false before)) _ (back (is_kept (suc left) false before) _ kept)))
+few_open zero (inside before form place) kept = never kept
+few_open (suc left) (inside before form place) kept =
+    omega (arith, few_open left place (back (may_start form (waits false before)) _ (back (is_kept (suc left) false before) _ kept)))
 
-not_full : (full outermost waiting valued : Bool) (counted : ListForm) → entry_fault (four full outermost waiting valued) (Start counted) ≡ None → full ≡ false
+not_full : (full outermost waiting valued : Bool) (form : ListForm) → entry_fault (four full outermost waiting valued) (Start form) ≡ None → full ≡ false
 not_full true outermost true valued Counted is = absurd cc
 not_full true outermost false valued Counted is = absurd cc
 not_full true outermost waiting valued Uncounted is = absurd cc
-not_full false outermost waiting valued counted is = refl
+not_full false outermost waiting valued form is = refl
 
 -- after a list that may begin there is room
-pub has_room : (bodies : Bodies) (counted : ListForm) → fault_of bodies (Start counted) ≡ None → length bodies.outside.items ≤ 60 → length bodies.outside.items < 60
-has_room bodies counted sound few =
+pub has_room : (bodies : Bodies) (form : ListForm) → fault_of bodies (Start form) ≡ None → length bodies.outside.items ≤ 60 → length bodies.outside.items < 60
+has_room bodies form sound few =
     let n = length bodies.outside.items in
-    let other : (n == 60) ≡ false = not_full (n == 60) (n == 0) bodies.waiting bodies.valued counted sound in grind (arith, nat_tests)
+    let other : (n == 60) ≡ false = not_full (n == 60) (n == 0) bodies.waiting bodies.valued form sound in grind (arith, nat_tests)
 
 -- What is kept.
 
@@ -197,14 +197,14 @@ shows_count place less next old new shows is waiting valued outside =
       outside = outside ∙ shows.outside ∙ sym (outside_with place (count less none));
     }
 
-pub shows_start : (place : Place) (counted : ListForm) (next : Place) (old new : Bodies) → Shows place old → behind place (Start counted) ≡ Some next
-    → new.waiting ≡ false → new.valued ≡ false → new.outside.items ≡ old.outside.items ++ waits_behind counted old.waiting ∷ [] → Shows next new
-shows_start place counted next old new shows is waiting valued outside =
-    subst (λ (p : Place). Shows p new) (some_same _ _ (sym (start_step place counted) ∙ is)) record {
-      waiting = waiting ∙ sym (ap (waits false) (innermost_opened place counted));
-      valued = valued ∙ sym (ap has_value (innermost_opened place counted));
-      outside = outside ∙ ap (λ (l : List Bool). l ++ waits_behind counted old.waiting ∷ []) shows.outside
-          ∙ ap (λ (w : Bool). waiting_outside place ++ waits_behind counted w ∷ []) shows.waiting ∙ sym (outside_opened place counted);
+pub shows_start : (place : Place) (form : ListForm) (next : Place) (old new : Bodies) → Shows place old → behind place (Start form) ≡ Some next
+    → new.waiting ≡ false → new.valued ≡ false → new.outside.items ≡ old.outside.items ++ waits_behind form old.waiting ∷ [] → Shows next new
+shows_start place form next old new shows is waiting valued outside =
+    subst (λ (p : Place). Shows p new) (some_same _ _ (sym (start_step place form) ∙ is)) record {
+      waiting = waiting ∙ sym (ap (waits false) (innermost_opened place form));
+      valued = valued ∙ sym (ap has_value (innermost_opened place form));
+      outside = outside ∙ ap (λ (l : List Bool). l ++ waits_behind form old.waiting ∷ []) shows.outside
+          ∙ ap (λ (w : Bool). waiting_outside place ++ waits_behind form w ∷ []) shows.waiting ∙ sym (outside_opened place form);
     }
 
 last_same : (xs ys : List Bool) (x y : Bool) → xs ++ x ∷ [] ≡ ys ++ y ∷ [] → (xs ≡ ys) × (x ≡ y)
@@ -218,15 +218,15 @@ last_same (a ∷ xs) (b ∷ ys) x y is = let deep = last_same xs ys x y cc in le
 pub shows_end : (place next : Place) (old new : Bodies) → Shows place old → behind place End ≡ Some next
     → (0 < length old.outside.items → old.outside.items ≡ new.outside.items ++ new.waiting ∷ []) → new.valued ≡ true → Shows next new
 shows_end (at items) next old new shows is outside valued = absurd cc
-shows_end (inside before counted place) next old new shows is outside valued =
-    let found = in_list before counted place in
+shows_end (inside before form place) next old new shows is outside valued =
+    let found = in_list before form place in
     let some : 0 < length old.outside.items = omega (arith, ap (length {A = Bool}) shows.outside) in
-    let parts = last_same new.outside.items (waiting_outside found.outer) new.waiting (waits_behind found.counted (waits false (innermost found.outer)))
-    (sym (outside some) ∙ shows.outside ∙ ap waiting_outside found.is ∙ outside_with (opened found.outer found.counted) found.row ∙ outside_opened found.outer found.counted) in
-    let more : Items = list found.counted found.row none in
-    subst (λ (p : Place). Shows p new) (some_same _ _ (sym (ended before counted place found) ∙ is)) record {
+    let parts = last_same new.outside.items (waiting_outside found.outer) new.waiting (waits_behind found.form (waits false (innermost found.outer)))
+    (sym (outside some) ∙ shows.outside ∙ ap waiting_outside found.is ∙ outside_with (opened found.outer found.form) found.row ∙ outside_opened found.outer found.form) in
+    let more : Items = list found.form found.row none in
+    subst (λ (p : Place). Shows p new) (some_same _ _ (sym (ended before form place found) ∙ is)) record {
       waiting = parts.1
-          ∙ sym (ap (waits false) (innermost_with found.outer more) ∙ waits_append false (innermost found.outer) more ∙ behind_waits found.counted (waits false (innermost found.outer)) found.row none);
+          ∙ sym (ap (waits false) (innermost_with found.outer more) ∙ waits_append false (innermost found.outer) more ∙ behind_waits found.form (waits false (innermost found.outer)) found.row none);
       valued = valued ∙ sym (ap has_value (innermost_with found.outer more) ∙ value_append (innermost found.outer) more ∙ or_true (has_value (innermost found.outer)));
       outside = parts.0 ∙ sym (outside_with found.outer more);
     }

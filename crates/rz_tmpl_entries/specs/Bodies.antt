@@ -28,7 +28,7 @@ behind (at items) (Count form) = Some (at (append items (count form none)))
 behind (at items) (Start form) = Some (inside items form (at none))
 behind (at items) End = None
 behind (inside before form place) (One plain) = option_map (inside before form) (behind place (One plain))
-behind (inside before form place) (Count form) = option_map (inside before form) (behind place (Count form))
+behind (inside before form place) (Count less) = option_map (inside before form) (behind place (Count less))
 behind (inside before form place) (Start other) = option_map (inside before form) (behind place (Start other))
 behind (inside before form place) End = close before form place (behind place End)
 

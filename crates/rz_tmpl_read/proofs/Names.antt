@@ -84,7 +84,7 @@ pub next_in : (left k : ℕ) (items : Items) → is_kept left true items ≡ tru
 next_in left k none kept ends = no_more ends
 next_in left k (one entry rest) kept ends = next_in left k rest kept ends
 next_in left k (count less rest) kept ends = no kept
-next_in zero k (list counted row rest) kept ends = no kept
+next_in zero k (list form row rest) kept ends = no kept
 next_in (suc left) k (list Counted row rest) kept ends = record { low = omega arith; high = omega arith }
 next_in (suc left) k (list Uncounted row rest) kept ends =
     let deep = next_in (suc left) (k + lists_of row) rest (listed left Uncounted true row rest kept).others ends in

@@ -40,7 +40,7 @@ module _ (known : Facts) (bytes : List ℕ) (small : AreSmall bytes) where
       ahead_given left k rest names _ r mid late_mid after late_after kept ends others
       ∙ ap (λ (x : List Tree). Some (pos (rows_ahead rest x))) (sym (others_are (takes entry) value row r shape whole))
   ahead_given left k (count less rest) names passed row at late after late_after kept ends is = no kept
-  ahead_given zero k (list counted inner rest) names passed row at late after late_after kept ends is = no kept
+  ahead_given zero k (list form inner rest) names passed row at late after late_after kept ends is = no kept
   ahead_given (suc left) k (list Counted inner rest) names passed row at late after late_after kept ends (value, r, mid, late_mid, whole, (rows, some, stated, counted, are, lines), others) =
       counted ∙ ap (λ (n : ℕ). Some (pos n)) (sym (rows_are value rows row r some whole))
   ahead_given (suc left) k (list Uncounted inner rest) names passed row at late after late_after kept ends (value, r, mid, late_mid, whole, (rows, some, stated, counted, are, lines), others) =

@@ -29,6 +29,7 @@ use Rattle.rz_tools.proofs.EveryText.{has_file_text}
 use Rattle.rz_tools_output.specs.Base.{attributes_asked, base_held, base_of, limited, or_empty, Base}
 use Rattle.rz_tools_output.specs.Bridge.{bridge_asked, bridged, BridgeAsked, one, two, AreWrites, Bridges, HasBeside, IsRead, IsWrittenAs}
 use Rattle.rz_tools_output.specs.Det.{breaks_of, det_asked, told}
+use Rattle.rz_tools_output.specs.List.{listed_of}
 use Rattle.rz_catalog.specs.Apply.{Applied}
 use Rattle.rz_catalog.specs.Catalogue.{IsCatalogue}
 use Rattle.rz_catalog_entries.specs.declared.entry.Entry.{Entry}
@@ -203,6 +204,7 @@ module _ (name : (form : Form) (path : List ℕ) (file : MacFile) → Has (Named
           let made = has_bridged data_file (bridge_asked items) files in
           (bridged made.0, (made.0, made.1, refl))
       has_answer names.Det items files moment places = let asked = det_asked items in (told (breaks_of asked (finite.get files asked.file)), refl)
+      has_answer names.List items files moment places = let asked = det_asked items in (told (listed_of asked (finite.get files asked.file)), refl)
       has_answer names.Strings items files moment places =
           let made = has_lists moment (strings_asked items) files in
           (or_refused shown made.0, (made.0, made.1, refl))

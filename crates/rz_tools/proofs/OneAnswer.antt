@@ -321,6 +321,7 @@ module _ (cutting : OneCutting) (statement_law : OneStatement) (matching : OneMa
     one_to names.Bridge items files moment a b is also =
         is.2 ∙ ap bridged (once_bridges named data_file (bridge_asked items) files is.0 also.0 is.1 also.1) ∙ sym also.2
     one_to names.Det items files moment a b is also = is ∙ sym also
+    one_to names.List items files moment a b is also = is ∙ sym also
     one_to names.Strings items files moment a b is also =
         is.2 ∙ ap (or_refused shown) (once_lists moment (strings_asked items) files is.0 also.0 is.1 also.1) ∙ sym also.2
     one_to names.Restring items files moment a b is also =

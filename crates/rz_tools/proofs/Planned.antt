@@ -18,6 +18,7 @@ use Rattle.rz_tools.specs.Sample.{AnswersSample}
 use Rattle.rz_tools.specs.Strings.{AnswersStrings, StringsAsked}
 use Rattle.rz_tools_output.specs.Bridge.{AnswersBridge, BridgeAsked}
 use Rattle.rz_tools_output.specs.Det.{AnswersDet, DetAsked}
+use Rattle.rz_tools_output.specs.List.{AnswersList}
 use Rattle.rz_tools_args.specs.declared.name.CommandName.{CommandName}
 use Rattle.rz_tools_answer.specs.Answer.{misused, Answer, Answered, Making}
 use Rattle.rz_tools_answer.specs.declared.made.Failing.{Failing}
@@ -134,6 +135,11 @@ module _ {E : Type 0} (before : Option Files) (result : Result Reply E) (asked o
       → IfSome before (λ files. IfSome (finite.get files other.file) (λ bytes. IfOk result (λ reply. outcome_of reply ≡ Done → HoldsFile other.from bytes)))
   as_held held =
       subst (λ (a : DeRezAsked). IfSome before (λ files. IfSome (finite.get files a.file) (λ bytes. IfOk result (λ reply. outcome_of reply ≡ Done → HoldsFile a.from bytes)))) same held
+
+-- and what `list` is asked for
+pub as_list : {E : Type 0} (before : Option Files) (result : Result Reply E) (asked other : DetAsked) → asked ≡ other
+    → IfSome before (λ files. IfOk result (λ reply. EachAnswer reply (AnswersList asked files))) → IfSome before (λ files. IfOk result (λ reply. EachAnswer reply (AnswersList other files)))
+as_list before result asked other same answers = subst (λ (a : DetAsked). IfSome before (λ files. IfOk result (λ reply. EachAnswer reply (AnswersList a files)))) same answers
 
 -- a plan that is there whatever the files hold
 pub as_planned : (name other : CommandName) (items : List Item) (moment : Moment) → name ≡ other → (before : Option Files) (plan : Plan)

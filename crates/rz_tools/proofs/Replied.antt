@@ -1,5 +1,6 @@
 -- What is to be carried out, from what a command makes or is stopped by.
-use Rattle.std.proofs.Common.{◌≡◌, ◌⊎◌, inl, inr, ℕ, List, Option, Some, None, Ok, Err, refl, sym, ap, subst, ◌∙◌}
+use Rattle.std.proofs.Common.{◌≡◌, ◌⊎◌, inl, inr, ℕ, List, [], Option, Some, None, Ok, Err, refl, sym, ap, subst, ◌∙◌}
+use Rattle.std.specs.FinMap as finite
 use Rattle.std.specs.Prelude.{IfOk, IfSome}
 use Rattle.std.specs.declared.result.Result.{Result}
 use Rattle.rz_core.specs.Stop.{seen}
@@ -18,7 +19,12 @@ use Rattle.rz_tools_answer.specs.declared.outcome.Outcome.{Outcome}
 use Rattle.rz_tools_answer.specs.declared.outcome.Outcome.TheVariants.{Done, Usage, Refused, ReadFault, WriteFault, NoMemory}
 use Rattle.rz_tools_answer.specs.declared.plan.Plan.{Plan}
 use Rattle.rz_tools_answer.specs.World.{SaysText, World}
+use Rattle.rz_list.specs.Held.{text_of}
+use Rattle.rz_list.specs.declared.text.FileText.{FileText}
 use Rattle.rz_tools_answer.proofs.Said.{is_out}
+use Rattle.rz_tools_answer.proofs.Warnings.{no_lines}
+use Rattle.rz_tools_output.specs.Det.{told, DetAsked}
+use Rattle.rz_tools_output.specs.List.{listed_of, AnswersList}
 use Rattle.rz_tools_text.specs.Put.{IsTextOf}
 use Rattle.rz_tools.specs.Held.{making_with}
 use Rattle.rz_tools.specs.Reply.{outcome_of, EachAnswer, IsReply, IsSound, IsText}
@@ -123,10 +129,12 @@ held_too (Some files) entry P Q held = by (entry files) held
 pub well_formed : (reply : Reply) → IsSound reply → (answer : Answer) → IsReply reply answer → IsWellFormed answer
 well_formed (replies.Plan plan) sound answer is = subst IsWellFormed (sym is) sound.0
 well_formed (replies.Text fork) sound answer (text, is, so) = subst IsWellFormed (sym so) sound.1
+well_formed (replies.List text) sound answer is = subst IsWellFormed (sym is) no_lines
 
 pub outcome_so : (reply : Reply) (answer : Answer) → IsReply reply answer → answer.outcome ≡ outcome_of reply
 outcome_so (replies.Plan plan) answer is = ap (λ (a : Answer). a.outcome) is
 outcome_so (replies.Text fork) answer (text, is, so) = ap (λ (a : Answer). a.outcome) so
+outcome_so (replies.List text) answer is = ap (λ (a : Answer). a.outcome) is
 
 -- each of them answers the words, so this one does
 pub answers_so : (P : Files → Answer → Type 0) (reply : Reply) (answer : Answer) → IsReply reply answer → (before : Option Files)
@@ -172,3 +180,24 @@ module _ (reply : Reply) (fork : ForkShown) (same : reply ≡ replies.Text fork)
       by (Ok puts.Done) is = inl is
       by (Ok puts.Failed) is = inr (inl is)
       by (Err refused) is = inr (inr (is, tt))
+
+-- the same where that is the text of a file
+module _ (reply : Reply) (file : FileText) (same : reply ≡ replies.List file) (result : Outcome) where
+  abbrev Listed : Answer
+  Listed = shown (record { bytes = text_of file; said = [] })
+
+  pub list_replied : (before after : World) → CarriesOut Listed before after result → (done : Answer) × IsReply reply done × CarriesOut done before after result
+  list_replied before after carried = (Listed, subst (λ (r : Reply). IsReply r Listed) (sym same) refl, carried)
+
+  pub list_ended : (put : Put) → result ≡ end_of (Ok put) → (result ≡ outcome_of reply) ⊎ (result ≡ WriteFault) ⊎ ((result ≡ NoMemory) × IsText reply)
+  list_ended put is = subst (λ (r : Reply). (result ≡ outcome_of r) ⊎ (result ≡ WriteFault) ⊎ ((result ≡ NoMemory) × IsText r)) (sym same) (by put is)
+    where
+      by : (p : Put) → result ≡ end_of (Ok p) → (result ≡ Done) ⊎ (result ≡ WriteFault) ⊎ ((result ≡ NoMemory) × IsText (replies.List file))
+      by puts.Done is = inl is
+      by puts.Failed is = inr (inl is)
+
+-- the text of a file is the answer to `list`, where the folder tells its files
+pub list_told : (asked : DetAsked) (file : FileText) (before : Option Files) → IfSome before (λ files. listed_of asked (finite.get files asked.file) ≡ Ok (text_of file))
+    → IfSome before (λ files. EachAnswer (replies.List file) (AnswersList asked files))
+list_told asked file None is = tt
+list_told asked file (Some files) is = λ answer same. same ∙ ap told (sym is)

@@ -90,6 +90,7 @@ CommandAsks names.Rez items = RezAsks (rez_asked items)
 CommandAsks names.DeRez items = DeRezAsks (derez_asked items)
 CommandAsks names.Bridge items = λ files. BridgeAsks (bridge_asked items)
 CommandAsks names.Det items = λ files name. name ≡ (det_asked items).file
+CommandAsks names.List items = λ files name. name ≡ (det_asked items).file
 CommandAsks names.Strings items = StringsAsk (strings_asked items)
 CommandAsks names.Restring items = RestringAsks (restring_asked items)
 CommandAsks names.Sample items = λ files name. ⊥

@@ -8,6 +8,7 @@ use Rattle.rz_tools_args.specs.declared.name.CommandName.TheVariants as names
 use Rattle.rz_tools_answer.specs.Answer.{misused, shown, Answer}
 use Rattle.rz_tools_output.specs.Bridge.{bridge_asked, AnswersBridge}
 use Rattle.rz_tools_output.specs.Det.{det_asked, AnswersDet}
+use Rattle.rz_tools_output.specs.List.{AnswersList}
 use Rattle.rz_tools.specs.DeRez.{derez_asked, AnswersDeRez}
 use Rattle.rz_tools_answer.specs.Help.{help_text, version_text}
 use Rattle.rz_tools.specs.Restring.{restring_asked, AnswersRestring}
@@ -21,6 +22,7 @@ AnswersItems names.Rez items files moment answer = AnswersRez (rez_asked items) 
 AnswersItems names.DeRez items files moment answer = AnswersDeRez (derez_asked items) files moment answer
 AnswersItems names.Bridge items files moment answer = AnswersBridge (bridge_asked items) files answer
 AnswersItems names.Det items files moment answer = AnswersDet (det_asked items) files answer
+AnswersItems names.List items files moment answer = AnswersList (det_asked items) files answer
 AnswersItems names.Strings items files moment answer = AnswersStrings (strings_asked items) files moment answer
 AnswersItems names.Restring items files moment answer = AnswersRestring (restring_asked items) files moment answer
 AnswersItems names.Sample items files moment answer = AnswersSample (places_of items) moment answer

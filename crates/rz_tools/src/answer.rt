@@ -21,6 +21,7 @@ ghost use Rattle.rz_tools_args.specs.Syntax.{syntax_of};
 ghost use Rattle.rz_tools_args.specs.declared.name.CommandName.TheVariants.{DeRez, Strings};
 
 use crate::derez::{DeRezWords, answer_derez};
+use crate::list::answer_list;
 use crate::reply::{Reply, planned};
 use crate::restring::{RestringWords, plan_restring};
 use crate::rez::{RezWords, plan_rez};
@@ -108,6 +109,14 @@ fn answer_command<F: Folder>(
             let plan = plan_det(alloc, folder, &words);
             drop(words);
             planned(plan)
+        }
+        CommandName::List => {
+            let words = DetWords::of(alloc, &command);
+            drop(command);
+            let words = words?;
+            let reply = answer_list(alloc, folder, &words);
+            drop(words);
+            reply
         }
         CommandName::Strings => {
             let words = StringsWords::of(alloc, command)?;

@@ -15,6 +15,7 @@ mod answer;
 mod beside;
 mod derez;
 mod laws;
+mod list;
 mod listed;
 mod program;
 mod reply;

@@ -1,5 +1,5 @@
-//! What is to be carried out, and the call that does it: an answer that is held whole, or the text of a fork, which is put
-//! line by line. Which answers it stands for is in `specs/Reply`.
+//! What is to be carried out, and the call that does it: an answer that is held whole, or the text of a fork or of a file,
+//! which is put line by line. Which answers it stands for is in `specs/Reply`.
 
 ghost use Rattle.std.specs.Prelude.{◌≡◌, ◌⊎◌};
 ghost use Rattle.rz_core.specs.Stop.{seen};
@@ -10,6 +10,7 @@ ghost use Rattle.rz_tools_answer.specs.World.{Runs};
 
 use rz_core::{Bytes, Halt};
 use rz_folder::{Folder, Sink};
+use rz_list::FileText;
 use rz_tools_answer::{Outcome, Plan, carry_out, say_end};
 use rz_tools_text::{ForkText, every_list_is_shown};
 use std::alloc::Global;
@@ -31,11 +32,13 @@ pub enum Reply {
     Plan(Plan),
     /// The text of a fork, which is put line by line.
     Text(ForkShown),
+    /// What a file holds, which is put piece by piece.
+    List(FileText),
 }
 
 impl Reply {
-    /// Carries it out: a plan as [`carry_out`] does; of a fork the text is put line by line, and then what is to be
-    /// said is said, after it the line of what went wrong. NoMemory comes only for the text of a fork, and before all of it
+    /// Carries it out: a plan as [`carry_out`] does; of a fork or a file the text is put line by line, and then what is to
+    /// be said is said, after it the line of what went wrong. NoMemory comes only for the text of a fork, and before all of it
     /// is put: what `err` does changes no outcome.
     pub fn carry_out<F: Folder, O: Sink, E: Sink>(
         self,
@@ -56,6 +59,10 @@ impl Reply {
             Reply::Text(shown) => {
                 let put = shown.text.put(alloc, out);
                 say_end(put, shown.said.as_slice(), err)
+            }
+            Reply::List(text) => {
+                let put = text.put(out);
+                say_end(Ok(put), &[], err)
             }
         }
     }

@@ -38,10 +38,11 @@ fn explanation() -> &'static [u8]
 rez compiles the sources into one resource fork. derez writes the resources of a fork as
 text to standard output; the files after the fork declare types. bridge writes a file in
 another form. det prints a line for each rule that a fork breaks, and last how many there
-are. strings prints the texts of a fork's resources as a catalogue, and restring puts the
-texts of a catalogue in their place, both under types as derez has them. sample compiles a
-source of its own with COUNT resources, 1 to 5000, shows them as text and compiles the text
-again; it prints COUNT and how many bytes the fork, the text and the second fork have. The
+are. list prints what the Finder keeps of a file, and a line for each resource of its fork.
+strings prints the texts of a fork's resources as a catalogue, and restring puts the texts
+of a catalogue in their place, both under types as derez has them. sample compiles a source
+of its own with COUNT resources, 1 to 5000, shows them as text and compiles the text again;
+it prints COUNT and how many bytes the fork, the text and the second fork have. The
 arguments of each command stand in any order:
   -o NAME         the file to write; of rez and restring Rez.Out if none is named
   -a              rez starts from the file that has this name, and adds to it

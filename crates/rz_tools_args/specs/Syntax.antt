@@ -39,7 +39,7 @@ pub record Syntax : Type 0 where
 
 -- the commands, in the order in which help tells them
 abbrev pub commands : List CommandName
-commands = names.Rez ∷ names.DeRez ∷ names.Bridge ∷ names.Det ∷ names.Strings ∷ names.Restring ∷ names.Sample ∷ names.Help ∷ names.Version ∷ []
+commands = names.Rez ∷ names.DeRez ∷ names.Bridge ∷ names.Det ∷ names.List ∷ names.Strings ∷ names.Restring ∷ names.Sample ∷ names.Help ∷ names.Version ∷ []
 
 abbrev pub syntax_of : CommandName → Syntax
 syntax_of names.Rez = record {
@@ -79,6 +79,14 @@ syntax_of names.Det = record {
   places = places.Exactly 1;
   needs = [];
   usage = codes "det FORK [-from FORM]\n";
+}
+syntax_of names.List = record {
+  name = codes "list";
+  flags = (codes "-from", flags.From) ∷ [];
+  switches = [];
+  places = places.Exactly 1;
+  needs = [];
+  usage = codes "list FILE [-from FORM]\n";
 }
 syntax_of names.Strings = record {
   name = codes "strings";

@@ -11,6 +11,8 @@ pub enum CommandName {
     Bridge,
     /// `det`.
     Det,
+    /// `list`.
+    List,
     /// `strings`.
     Strings,
     /// `restring`.

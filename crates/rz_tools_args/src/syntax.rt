@@ -70,11 +70,12 @@ pub struct Syntax {
 }
 
 /// The commands, in the order in which help tells them.
-pub const COMMANDS: [CommandName; 9] = [
+pub const COMMANDS: [CommandName; 10] = [
     CommandName::Rez,
     CommandName::DeRez,
     CommandName::Bridge,
     CommandName::Det,
+    CommandName::List,
     CommandName::Strings,
     CommandName::Restring,
     CommandName::Sample,
@@ -151,6 +152,14 @@ pub fn syntax_of(command: CommandName) -> Syntax
             places: Places::Exactly(1),
             needs: &[],
             usage: "det FORK [-from FORM]\n",
+        },
+        CommandName::List => Syntax {
+            name: "list",
+            flags: &[("-from", Flag::From)],
+            switches: &[],
+            places: Places::Exactly(1),
+            needs: &[],
+            usage: "list FILE [-from FORM]\n",
         },
         CommandName::Strings => Syntax {
             name: "strings",

@@ -3,3 +3,4 @@ pub mod Output
 pub mod Halted
 pub mod Bridge
 pub mod Det
+pub mod List

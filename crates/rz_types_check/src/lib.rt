@@ -8,6 +8,7 @@
 //! How names are looked up is in `name_list`.
 #![tactic(auto)]
 
+mod folded;
 mod keys;
 mod name_list;
 mod named;

@@ -1,29 +1,28 @@
 //! Names in order, each of which is found at once. What is held beside them is in `specs/Firsts`.
 
-ghost use Rattle.std.specs.Prelude.{◌≡◌, ◌++◌, [], ◌∷◌, IfOk, OnErr, OnOk, map, take};
-ghost use Rattle.std.specs.Str.{str_to_ascii_lowercase};
+ghost use Rattle.std.specs.Prelude.{◌≡◌, ◌++◌, [], ◌∷◌, OnErr, OnOk, map, take};
 ghost use Rattle.rz_types.specs.Walk.{is_among};
 ghost use Rattle.rz_types_check.specs.Firsts.{first_at, stands_at, AreFound};
 
+use crate::folded::Folded;
 use rz_core::{NoMemory, Word};
 use std::alloc::Global;
 use std::collections::HashMap;
 
-/// By the lower case of names the positions where they stood first. A name may have been cut off since, so what stands
-/// there now is compared.
-pub type Firsts = HashMap<Vec<u8>, usize>;
+/// By names the positions where they stood first. A name may have been cut off since, so what stands there now is compared.
+pub type Firsts<'a> = HashMap<Folded<'a>, usize>;
 
 /// Names in order. Whether a name is one of them, in whatever case, is told in constant time on average.
 #[derive(Drop)]
 pub struct NameList<'a> {
     /// In order.
     pub list: Vec<&'a Word>,
-    firsts: Firsts,
-    ghost found: { AreFound firsts (map (λ name. name.now) list.items) },
+    firsts: Firsts<'a>,
+    ghost found: { AreFound (λ key. key.0.now.bytes) firsts (map (λ name. name.now) list.items) },
 }
 
 impl<'a> NameList<'a> {
-    ghost use Rattle.std.specs.Prelude.{◌≡◌, ◌++◌, [], ◌∷◌, IfOk, OnOk, map, take};
+    ghost use Rattle.std.specs.Prelude.{◌≡◌, ◌++◌, [], ◌∷◌, OnOk, map, take};
     ghost use Rattle.rz_types.specs.Walk.{is_among};
 
     /// No names.
@@ -40,8 +39,7 @@ impl<'a> NameList<'a> {
     pub fn push(&mut self, name: &'a Word) -> Result<(), NoMemory>
         ensures { OnOk result (map (λ one. one.now) self.new.list.items ≡ map (λ one. one.now) self.old.list.items ++ name.now ∷ []) }
     {
-        let key = lower_name(*self.list.allocator(), name)?;
-        note(&mut self.firsts, &self.list, name, key)?;
+        note(&mut self.firsts, &self.list, name)?;
         self.list.push(name)?;
         Ok(())
     }
@@ -54,26 +52,18 @@ impl<'a> NameList<'a> {
     }
 
     /// Whether a name is one of these, in whatever case.
-    pub fn has(&self, name: &Word) -> Result<bool, NoMemory>
-        ensures { IfOk result (λ has. has ≡ is_among name.now.bytes (map (λ one. one.now) self.now.list.items)) }
+    pub fn has(&self, name: &Word) -> bool
+        ensures { result ≡ is_among name.now.bytes (map (λ one. one.now) self.now.list.items) }
     {
-        let key = lower_name(*self.list.allocator(), name)?;
-        Ok(stands(&self.firsts, &self.list, name, &key))
+        stands(&self.firsts, &self.list, name)
     }
 }
 
-/// The bytes of a name in lower case.
-fn lower_name(alloc: Global, name: &Word) -> Result<Vec<u8>, NoMemory>
-    ensures { IfOk result (λ lower. lower.items ≡ str_to_ascii_lowercase name.now.bytes) }
+/// Whether a name stands among these at the position that is held for it.
+fn stands(firsts: &Firsts<'_>, list: &[&Word], name: &Word) -> bool
+    ensures { result ≡ stands_at (map (λ one. one.now) list.now) name.now.bytes (first_at (λ key. key.0.now.bytes) firsts.now (record { 0 = name })) }
 {
-    Ok(name.bytes.as_slice().to_ascii_lowercase(alloc)?)
-}
-
-/// Whether a name stands among these where its key says.
-fn stands(firsts: &Firsts, list: &[&Word], name: &Word, key: &Vec<u8>) -> bool
-    ensures { result ≡ stands_at (map (λ one. one.now) list.now) (str_to_ascii_lowercase name.now.bytes) (first_at firsts.now key.now) }
-{
-    match firsts.get(key) {
+    match firsts.get(&Folded(name)) {
         Some(first) => is_at(list, *first, name),
         None => false,
     }
@@ -81,7 +71,7 @@ fn stands(firsts: &Firsts, list: &[&Word], name: &Word, key: &Vec<u8>) -> bool
 
 /// Whether a name stands at a position.
 fn is_at(list: &[&Word], position: usize, name: &Word) -> bool
-    ensures { result ≡ stands_at (map (λ one. one.now) list.now) (str_to_ascii_lowercase name.now.bytes) (Some position) }
+    ensures { result ≡ stands_at (map (λ one. one.now) list.now) name.now.bytes (Some position) }
 {
     match list.get(position) {
         Some(one) => one.is(name.bytes.as_slice()),
@@ -89,20 +79,14 @@ fn is_at(list: &[&Word], position: usize, name: &Word) -> bool
     }
 }
 
-/// Notes where a name stands first that is appended to these; the key is the name in lower case.
-fn note(
-    firsts: &mut Firsts,
-    list: &[&Word],
-    name: &Word,
-    key: Vec<u8>,
-) -> Result<(), NoMemory>
-    requires { key.items ≡ str_to_ascii_lowercase name.now.bytes }
-    ensures ok { OnOk result (AreFound firsts.old (map (λ one. one.now) list.now) → AreFound firsts.new (map (λ one. one.now) list.now ++ name.now ∷ [])) }
-    ensures err { OnErr result (AreFound firsts.old (map (λ one. one.now) list.now) → AreFound firsts.new (map (λ one. one.now) list.now)) }
+/// Notes where a name stands first that is appended to these.
+fn note<'a>(firsts: &mut Firsts<'a>, list: &[&Word], name: &'a Word) -> Result<(), NoMemory>
+    ensures ok { OnOk result (AreFound (λ key. key.0.now.bytes) firsts.old (map (λ one. one.now) list.now) → AreFound (λ key. key.0.now.bytes) firsts.new (map (λ one. one.now) list.now ++ name.now ∷ [])) }
+    ensures err { OnErr result (AreFound (λ key. key.0.now.bytes) firsts.old (map (λ one. one.now) list.now) → AreFound (λ key. key.0.now.bytes) firsts.new (map (λ one. one.now) list.now)) }
 {
-    if stands(firsts, list, name, &key) {
+    if stands(firsts, list, name) {
         return Ok(());
     }
-    firsts.insert(key, list.len())?;
+    firsts.insert(Folded(name), list.len())?;
     Ok(())
 }

@@ -107,7 +107,7 @@ fn label_twice(
 ) -> Result<Option<TypeFault>, NoMemory>
     ensures { IfOk result (λ fault. fault ≡ label_twice position (map (λ name. name.now) before.now.list.items) name.now) }
 {
-    if before.has(name)? {
+    if before.has(name) {
         Ok(Some(name_fault(alloc, 230, position, name)?))
     } else {
         Ok(None)
@@ -126,7 +126,7 @@ fn array_twice(
     let Some(name) = name else {
         return Ok(None);
     };
-    if before.has(name)? {
+    if before.has(name) {
         Ok(Some(name_fault(alloc, 231, position, name)?))
     } else {
         Ok(None)
@@ -176,7 +176,7 @@ fn repeated<'a>(alloc: Global, cases: &'a [Case]) -> Result<Option<&'a Word>, No
 {
     let mut before = NameList::new(alloc);
     for case in cases {
-        if before.has(&case.name)? {
+        if before.has(&case.name) {
             return Ok(Some(&case.name));
         }
         before.push(&case.name)?;

@@ -154,6 +154,9 @@ pub fn read_bytes<E: Env>(
     if count > u64::from(view.len()) {
         return Ok(None);
     }
+    if let Some(raw) = view.lent(at, count as u32) {
+        return read_stored(alloc, facts, env, field, size, raw);
+    }
     match view.bytes(alloc, at, count as u32)? {
         Some(raw) => read_stored(alloc, facts, env, field, size, raw.as_slice()),
         None => Ok(None),

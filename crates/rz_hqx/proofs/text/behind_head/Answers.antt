@@ -1,9 +1,9 @@
-use Rattle.std.proofs.Common.{◌∙◌, sym}
+use Rattle.std.proofs.Common.{◌∙◌, sym, arith}
 use Rattle.rz_hqx.proofs.Spoken.{begins, head_found}
 use Rattle.rz_hqx.proofs.text.behind_head.Goals as goal
 
-pub loop-rest-init-so_far : goal.loop-rest-init-so_far
-loop-rest-init-so_far c = begins c.args.bytes.now
+pub loop-rest-init : goal.loop-rest-init
+loop-rest-init c = record { so_far = begins c.args.bytes.now; within = omega arith }
 
 pub returns-then-starts_with-clause-bytes : goal.returns-then-starts_with-clause-bytes
 returns-then-starts_with-clause-bytes c =

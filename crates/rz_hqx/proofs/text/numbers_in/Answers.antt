@@ -5,10 +5,20 @@ use Rattle.rz_bridge.specs.Faults.{fault}
 use Rattle.rz_bridge.specs.declared.fault.BridgeFault.{BridgeFault}
 use Rattle.rz_hqx.specs.Letters.{number_of}
 use Rattle.rz_hqx.specs.Text.{is_blank, numbers_in}
-use Rattle.rz_hqx.proofs.Numbered.{numbers_behind}
+use Rattle.rz_hqx.proofs.Numbered.{numbers_are, numbers_behind}
 use Rattle.rz_hqx.proofs.Steps.{blank_more, letter_more, letter_bad, all_push}
 use Rattle.rz_hqx.proofs.text.numbers_in.Goals as goal
 use Rattle.rz_hqx.proofs.text.numbers_in.Goals.{then-not-is_blank+in-Some+in_ok-push, else-not-is_blank}
+
+pub loop-byte-init : goal.loop-byte-init
+loop-byte-init c =
+    let none = c.in_ok-out.ensures in
+    record {
+      so_far = ap (λ (out : List ℕ). numbers_behind out c.args.place c.args.body.now) none ∙ numbers_are c.args.body.now c.args.place;
+      at = omega arith;
+      small = subst (AllByRecursion (λ n. n < 64)) (sym none) tt;
+      few = omega (arith, ap (length {A = ℕ}) none);
+    }
 
 pub returns-in_default-clause-numbers : goal.returns-in_default-clause-numbers
 returns-in_default-clause-numbers c =

@@ -20,7 +20,7 @@ use Rattle.rz_tools.specs.Strings.{strings_asked, StringsAsked}
 use Rattle.rz_tools.specs.Rez.{rez_asked, RezAsked}
 use Rattle.rz_tools_output.specs.Bridge.{bridge, bridge_asked, BridgeAsks, BridgeAsked}
 use Rattle.rz_tools_output.specs.Det.{det, det_asked, DetAsked}
-use Rattle.rz_tools.proofs.Planned.{as_bridge, as_derez, as_det, as_held, as_named, as_planned, as_restring, as_rez, as_sample, as_strings, plan_named}
+use Rattle.rz_tools.proofs.Planned.{as_bridge, as_derez, as_det, as_held, as_list, as_named, as_planned, as_restring, as_rez, as_sample, as_strings, plan_named}
 use Rattle.rz_tools.proofs.Replied.{plan_end, plan_held, plan_no_usage, plan_sound}
 use Rattle.rz_folder.specs.MayRead.{MayRead, MayReadOf}
 use Rattle.rz_tools_args.specs.declared.name.CommandName.{CommandName}
@@ -60,6 +60,13 @@ plan_det-plan-requires g c =
     subst (λ (a : DetAsked). g.F.Folder.may_read c.args.folder.now a.file) (sym c.in_ok-words-in-Det.ensures)
     (may_read_these g.F.Folder (CommandAsks names.Det (items_of c.args.command))
     (subst (λ (name : CommandName). MayReadOf g.F.Folder c.args.folder.now (CommandAsks name (items_of c.args.command))) c.in-Det.is c.requires.may)
+    (λ name. name ≡ (det_asked (items_of c.args.command)).file) (λ files told name is. is) (det_asked (items_of c.args.command)).file refl)
+
+pub answer_list-reply-requires : goal.answer_list-reply-requires
+answer_list-reply-requires g c =
+    subst (λ (a : DetAsked). g.F.Folder.may_read c.args.folder.now a.file) (sym c.in_ok-words-in-List.ensures)
+    (may_read_these g.F.Folder (CommandAsks names.List (items_of c.args.command))
+    (subst (λ (name : CommandName). MayReadOf g.F.Folder c.args.folder.now (CommandAsks name (items_of c.args.command))) c.in-List.is c.requires.may)
     (λ name. name ≡ (det_asked (items_of c.args.command)).file) (λ files told name is. is) (det_asked (items_of c.args.command)).file refl)
 
 pub plan_rez-plan-requires-clause-lexed : goal.plan_rez-plan-requires-clause-lexed
@@ -185,6 +192,12 @@ returns-in_ok-words-in-DeRez-clause-answered g c =
     as_named c.args.command.name names.DeRez (items_of c.args.command) c.args.moment c.in-DeRez.is (g.F.Folder.files c.args.folder.now) c.answer_derez.result
     (as_derez (g.F.Folder.files c.args.folder.now) c.answer_derez.result (derez c.in_ok-words-in-DeRez.words) (derez_asked (items_of c.args.command)) c.in_ok-words-in-DeRez.ensures
     c.args.moment c.answer_derez.ensures.answered)
+
+pub returns-in_ok-words-in-List-clause-answered : goal.returns-in_ok-words-in-List-clause-answered
+returns-in_ok-words-in-List-clause-answered g c =
+    as_named c.args.command.name names.List (items_of c.args.command) c.args.moment c.in-List.is (g.F.Folder.files c.args.folder.now) c.answer_list-reply.result
+    (as_list (g.F.Folder.files c.args.folder.now) c.answer_list-reply.result (det c.in_ok-words-in-List.words) (det_asked (items_of c.args.command)) c.in_ok-words-in-List.ensures
+    c.answer_list-reply.ensures.answered)
 
 pub returns-in_ok-words-in-DeRez-clause-held : goal.returns-in_ok-words-in-DeRez-clause-held
 returns-in_ok-words-in-DeRez-clause-held g c is =

@@ -1,9 +1,10 @@
-use Rattle.std.proofs.Common.{refl, subst}
+use Rattle.std.proofs.Common.{[], Ok, refl, subst}
+use Rattle.rz_list.specs.Held.{text_of}
 use Rattle.rz_tools_text.specs.Chosen.{chosen}
 use Rattle.rz_tools_text.specs.Held.{known_of}
 use Rattle.rz_tools.specs.Held.{making_with}
 use Rattle.rz_tools.specs.Reply.{IsSound}
-use Rattle.rz_tools.proofs.Replied.{text_ended, text_ends, text_replied}
+use Rattle.rz_tools.proofs.Replied.{list_ended, list_replied, text_ended, text_ends, text_replied}
 use Rattle.rz_tools.proofs.reply.Reply.carry_out.Goals as goal
 
 pub returns-in-Text-clause-carried : goal.returns-in-Text-clause-carried
@@ -17,3 +18,12 @@ returns-in-Text-clause-carried g c =
 
 pub returns-in-Text-clause-ended : goal.returns-in-Text-clause-ended
 returns-in-Text-clause-ended g c = text_ended c.args.self c.in-Text.shown c.in-Text.is c.say_end.result c.put-put.result c.say_end.ensures.outcome
+
+pub returns-in-List-clause-carried : goal.returns-in-List-clause-carried
+returns-in-List-clause-carried g c =
+    list_replied c.args.self c.in-List.text c.in-List.is c.say_end-in-List.result _ _
+    (text_ends (record { bytes = text_of c.in-List.text; said = [] }) _ _ refl refl (Ok c.put-put-in-List.result) _ _ refl c.say_end-in-List.ensures.outcome
+    c.put-put-in-List.ensures.told (λ failed. c.put-put-in-List.ensures.cause (cc failed)) c.say_end-in-List.ensures.says)
+
+pub returns-in-List-clause-ended : goal.returns-in-List-clause-ended
+returns-in-List-clause-ended g c = list_ended c.args.self c.in-List.text c.in-List.is c.say_end-in-List.result c.put-put-in-List.result c.say_end-in-List.ensures.outcome

@@ -1,0 +1,4 @@
+pub mod Putting
+pub mod Sizes
+pub mod Parted
+pub mod Dates

@@ -1,0 +1,212 @@
+-- What is written on one line fits there.
+use Rattle.std.proofs.Common.{◌≡◌, ℕ, zero, suc, ◌+◌, ◌-◌, ◌*◌, ◌/◌, ◌%◌, ◌^◌, ◌<◌, ◌≤◌, ℤ, pos, negsuc, Bool, true, false, if◌then◌else◌, List, [], ◌∷◌, ◌++◌, length, arith, length-append, sym, ap, ◌∙◌}
+use Rattle.std.specs.Prelude.{nat_le, nat_lt, ◌==◌, ◌||◌, codes, FitsSigned}
+use Rattle.std.specs.Int.{w16}
+use Rattle.std.specs.List.{flat_map}
+use Rattle.std.proofs.lemmas.Fmt.{length-decimal-le}
+use Rattle.std.proofs.lemmas.Int.{ints}
+use Rattle.rz_bridge.specs.declared.file.MacFile.{MacFile}
+use Rattle.rz_bridge_form.specs.declared.form.Form.{Form}
+use Rattle.rz_bridge_form.specs.declared.form.Form.TheVariants.{Raw, AppleDouble, AppleSingle, MacBinary, BinHex}
+use Rattle.rz_core.proofs.Tests.{by_test}
+use Rattle.rz_core.specs.Decimal.{decimal_of, signed_of}
+use Rattle.rz_core.specs.Numbers.{be, length-be_4}
+use Rattle.rz_core.specs.Quoted.{literal_text, quoted, shown_byte}
+use Rattle.rz_core.specs.declared.resource.Resource.{Resource}
+use Rattle.rz_lex.specs.Spelled.{digits_of}
+use Rattle.rz_words.specs.Attribute.{bit_of, setting_word}
+use Rattle.rz_words.specs.declared.attribute.Attribute.{Attribute}
+use Rattle.rz_words.specs.declared.attribute.Attribute.TheVariants.{Changed, Locked, Preload, Protected, Purgeable, SystemHeap}
+use Rattle.rz_show_lines.specs.Head.{attr_written, word_written}
+use Rattle.rz_show_lines.specs.Print.{signed_written}
+use Rattle.rz_show_lines.specs.Written.{a_word, line_text}
+use Rattle.rz_show_lines.proofs.ShortTokens.{negative_short, positive_short, quoted_short, size, size_both, size_one}
+use Rattle.rz_show_lines.proofs.Writes.{signed_is}
+use Rattle.rz_list.proofs.Dates.{date_size}
+use Rattle.rz_list.specs.Date.{date_told}
+use Rattle.rz_list.specs.Parts.{after_name, carried_rest, finder_rest, fork_fact, lock_fact, resource_end, resource_front}
+use Rattle.rz_list.specs.Text.{data_fact, date_facts, fact}
+
+-- Values.
+
+number_size : (n : ℕ) → n < 2 ^ 64 → length (decimal_of n) ≤ 20
+unfolding decimal_of
+number_size n small = length-decimal-le 20 n (omega arith) (omega (arith, small)) small
+
+type_size : (code : ℕ) → length (literal_text code) ≤ 22
+type_size code = omega (arith, quoted_short 39 (be 4 code), length-be_4 code)
+
+pub shown_size : (bytes : List ℕ) → length bytes ≤ 64 → length (flat_map (shown_byte 34) bytes) ≤ 512
+shown_size bytes few = omega (arith, quoted_short 34 bytes, length-append (flat_map (shown_byte 34) bytes) (34 ∷ []))
+
+-- Facts.
+
+fact_size : (word value : List ℕ) → length (fact word value) ≡ length word + length value + 2
+unfolding fact
+fact_size word value = simp length-append (omega arith)
+
+finder_size : (file : MacFile) → length (finder_rest file) ≤ 80
+unfolding finder_rest
+finder_size file =
+    let kind = fact (codes "type") (literal_text file.finder.kind.code) in
+    let creator = fact (codes "creator") (literal_text file.finder.creator.code) in
+    let flags = fact (codes "flags") (codes "0x" ++ digits_of 16 4 file.finder.flags) in
+    omega (
+      arith,
+      length-append (codes "\"\n" ++ kind ++ creator) flags,
+      length-append (codes "\"\n" ++ kind) creator,
+      length-append (codes "\"\n") kind,
+      fact_size (codes "type") (literal_text file.finder.kind.code),
+      fact_size (codes "creator") (literal_text file.finder.creator.code),
+      fact_size (codes "flags") (codes "0x" ++ digits_of 16 4 file.finder.flags),
+      type_size file.finder.kind.code,
+      type_size file.finder.creator.code,
+    )
+
+lock_size : (file : MacFile) → length (lock_fact file) ≤ 20
+unfolding lock_fact
+lock_size file = by_test (length (fact (codes "locked") (if file.locked then codes "true" else codes "false")) ≤ 20) file.locked
+    (λ h. rw h (omega (arith, fact_size (codes "locked") (codes "true"))))
+    (λ h. rw h (omega (arith, fact_size (codes "locked") (codes "false"))))
+
+dates_size : (file : MacFile) → file.created < 2 ^ 32 → file.modified < 2 ^ 32 → length (date_facts file) ≤ 80
+unfolding date_facts
+dates_size file created modified =
+    omega (
+      arith,
+      length-append (fact (codes "created") (date_told file.created)) (fact (codes "modified") (date_told file.modified)),
+      fact_size (codes "created") (date_told file.created),
+      fact_size (codes "modified") (date_told file.modified),
+      date_size file.created created,
+      date_size file.modified modified,
+    )
+
+data_size : (file : MacFile) → length file.data_fork < 2 ^ 64 → length (data_fact file) ≤ 30
+unfolding data_fact
+data_size file small = omega (arith, fact_size (codes "data") (decimal_of (length file.data_fork)), number_size (length file.data_fork) small)
+
+fork_size : (file : MacFile) → length file.res_fork < 2 ^ 64 → length (fork_fact file) ≤ 30
+unfolding fork_fact
+fork_size file small = omega (arith, fact_size (codes "fork") (decimal_of (length file.res_fork)), number_size (length file.res_fork) small)
+
+-- the numbers of a file as the code holds them
+pub record HasNumbers (file : MacFile) : Type 0 where
+  pub created : file.created < 2 ^ 32
+  pub modified : file.modified < 2 ^ 32
+  pub data_fork : length file.data_fork < 2 ^ 64
+  pub res_fork : length file.res_fork < 2 ^ 64
+
+carried_size : (form : Form) (file : MacFile) → HasNumbers file → length (carried_rest form file) ≤ 220
+carried_size Raw file has = omega arith
+carried_size AppleDouble file has = omega (arith, length-append (finder_rest file) (date_facts file), finder_size file, dates_size file has.created has.modified)
+carried_size AppleSingle file has =
+    omega (
+      arith,
+      length-append (finder_rest file ++ date_facts file) (data_fact file),
+      length-append (finder_rest file) (date_facts file),
+      finder_size file,
+      dates_size file has.created has.modified,
+      data_size file has.data_fork,
+    )
+carried_size MacBinary file has =
+    omega (
+      arith,
+      length-append (finder_rest file ++ lock_fact file ++ date_facts file) (data_fact file),
+      length-append (finder_rest file ++ lock_fact file) (date_facts file),
+      length-append (finder_rest file) (lock_fact file),
+      finder_size file,
+      lock_size file,
+      dates_size file has.created has.modified,
+      data_size file has.data_fork,
+    )
+carried_size BinHex file has = omega (arith, length-append (finder_rest file) (data_fact file), finder_size file, data_size file has.data_fork)
+
+pub after_name_size : (form : Form) (file : MacFile) → HasNumbers file → length (after_name form file) ≤ 512
+after_name_size form file has =
+    omega (arith, length-append (carried_rest form file) (fork_fact file), carried_size form file has, fork_size file has.res_fork)
+
+pub count_size : (n : ℕ) → n < 2 ^ 64 → length (fact (codes "resources") (decimal_of n)) ≤ 512
+count_size n small = omega (arith, fact_size (codes "resources") (decimal_of n), number_size n small)
+
+-- Resources.
+
+setting_size : (attribute : Attribute) → length (setting_word attribute) ≤ 9
+setting_size SystemHeap = omega arith
+setting_size Purgeable = omega arith
+setting_size Locked = omega arith
+setting_size Protected = omega arith
+setting_size Preload = omega arith
+setting_size Changed = omega arith
+
+word_size : (attr : ℕ) (attribute : Attribute) → size (word_written attr attribute) ≤ 11
+word_size attr attribute = by_test (size (word_written attr attribute) ≤ 11) (attr / bit_of attribute % 2 == 1)
+    (λ h. rw h (omega (arith, size_one (a_word (setting_word attribute)) [], setting_size attribute)))
+    (λ h. rw h (omega arith))
+
+words_size : (attr : ℕ)
+    → size (word_written attr SystemHeap ++ word_written attr Purgeable ++ word_written attr Locked ++ word_written attr Protected ++ word_written attr Preload ++ word_written attr Changed) ≤ 66
+words_size attr =
+    let two = word_written attr SystemHeap ++ word_written attr Purgeable in
+    let three = two ++ word_written attr Locked in
+    let four = three ++ word_written attr Protected in
+    let five = four ++ word_written attr Preload in
+    omega (
+      arith,
+      size_both (word_written attr SystemHeap) (word_written attr Purgeable),
+      size_both two (word_written attr Locked),
+      size_both three (word_written attr Protected),
+      size_both four (word_written attr Preload),
+      size_both five (word_written attr Changed),
+      word_size attr SystemHeap,
+      word_size attr Purgeable,
+      word_size attr Locked,
+      word_size attr Protected,
+      word_size attr Preload,
+      word_size attr Changed,
+    )
+
+attr_size : (attr : ℕ) → size (attr_written attr) ≤ 66
+attr_size attr = by_test (size (attr_written attr) ≤ 66) (attr == 0)
+    (λ h. rw h (omega arith))
+    (λ h. by_test (size (attr_written attr) ≤ 66) (nat_le 128 attr || (attr % 2 == 1)) (λ k. rw (h, k) (omega arith)) (λ k. rw (h, k) (words_size attr)))
+
+id_size : (id : ℤ) → FitsSigned w16 id → size (signed_written id) ≤ 11
+id_size (pos n) fits = positive_short n (omega (arith, ints, fits))
+id_size (negsuc n) fits = negative_short n (omega (arith, ints, fits))
+
+signed_size : (id : ℤ) → FitsSigned w16 id → length (signed_of id) ≤ 11
+unfolding signed_of
+signed_size id fits = let same : length (signed_of id) ≡ size (signed_written id) = ap (λ (t : List ℕ). length t) (sym (signed_is id)) in omega (arith, same, id_size id fits)
+
+front_size : (r : Resource) → FitsSigned w16 r.id → length (resource_front r) ≤ 60
+unfolding resource_front
+front_size r fits =
+    omega (
+      arith,
+      length-append (literal_text r.kind.code ++ codes " (") (signed_of r.id),
+      length-append (literal_text r.kind.code) (codes " ("),
+      type_size r.kind.code,
+      signed_size r.id fits,
+    )
+
+end_size : (r : Resource) → length r.bytes < 2 ^ 64 → length (resource_end r) ≤ 100
+unfolding resource_end
+end_size r small =
+    let attributes = line_text (attr_written r.attr) in
+    omega (
+      arith,
+      length-append (attributes ++ codes ") " ++ decimal_of (length r.bytes)) (codes "\n"),
+      length-append (attributes ++ codes ") ") (decimal_of (length r.bytes)),
+      length-append attributes (codes ") "),
+      attr_size r.attr,
+      number_size (length r.bytes) small,
+    )
+
+pub unnamed_size : (r : Resource) → FitsSigned w16 r.id → length r.bytes < 2 ^ 64 → length (resource_front r ++ resource_end r) ≤ 512
+unnamed_size r id bytes = omega (arith, length-append (resource_front r) (resource_end r), front_size r id, end_size r bytes)
+
+pub before_size : (r : Resource) → FitsSigned w16 r.id → length (resource_front r ++ codes ", \"") ≤ 512
+before_size r id = omega (arith, length-append (resource_front r) (codes ", \""), front_size r id)
+
+pub after_size : (r : Resource) → length r.bytes < 2 ^ 64 → length (codes "\"" ++ resource_end r) ≤ 512
+after_size r bytes = omega (arith, length-append (codes "\"") (resource_end r), end_size r bytes)
