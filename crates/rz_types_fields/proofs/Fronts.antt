@@ -86,11 +86,11 @@ hides_none gives notes none =
     (adds_none notes)
 
 pub hides_both : (one other all : Key → Bool) (old mid new : List Note) → ((key : Key) → (one key || other key) ≡ all key) → Hides one old mid → Hides other mid new → Hides all old new
-hides_both one other all old mid new same first then =
+hides_both one other all old mid new same first behind =
     adds_as (λ key before. hide other key (hide one key before)) (hide all) (λ key before. unmeet other key (unmeet one key before)) (unmeet all) old new
     (λ key before. hide_or (one key) (other key) before ∙ ap (λ (b : Bool). if b then None else before) (same key))
     (λ key before. unmeet_or (one key) (other key) before ∙ ap (λ (b : Bool). not b && before) (same key))
-    (adds_both (hide one) (hide other) (unmeet one) (unmeet other) old mid new first then)
+    (adds_both (hide one) (hide other) (unmeet one) (unmeet other) old mid new first behind)
 
 -- the names of the first fields, and of one more
 
@@ -118,11 +118,11 @@ module _ (fields : List Field) (old : List Note) where
 
   pub front_more : (i : ℕ) (field : Field) (mid new : List Note) → i < length fields → field ≡ get_or fields i field → FrontHides i mid → Hides (gives_key (plain_field field)) mid new
       → FrontHides (i + 1) new
-  front_more i field mid new less item first then =
+  front_more i field mid new less item first behind =
       hides_both (declares (plain_body (take i fields))) (gives_key (plain_field field)) (declares (plain_body (take (i + 1) fields))) old mid new
       (λ key. declares_push (take i fields) field key
       ∙ ap (λ (l : List Field). declares (plain_body l) key) (ap (λ (f : Field). take i fields ++ f ∷ []) item ∙ sym (take_more fields i field less)))
-      first then
+      first behind
 
   pub front_all : (i : ℕ) (new : List Note) → length fields ≤ i → FrontHides i new → Hides (declares (plain_body fields)) old new
   front_all i new past hides = subst (λ (l : List Field). Hides (declares (plain_body l)) old new) (take_all i fields past) hides
@@ -143,24 +143,24 @@ tells_none stated notes none =
     (adds_none notes)
 
 tells_both : (one other all : Key → Option ℤ) (old mid new : List Note) → ((key : Key) → or_else (other key) (one key) ≡ all key) → Tells one old mid → Tells other mid new → Tells all old new
-tells_both one other all old mid new same first then =
+tells_both one other all old mid new same first behind =
     adds_as (λ key before. tell other key (tell one key before)) (tell all) (λ key before. before) (λ key before. before) old new
     (λ key before. or_else_assoc (other key) (one key) before ∙ ap (λ (o : Option ℤ). or_else o before) (same key)) (λ key before. refl)
-    (adds_both (tell one) (tell other) (λ key before. before) (λ key before. before) old mid new first then)
+    (adds_both (tell one) (tell other) (λ key before. before) (λ key before. before) old mid new first behind)
 
 pub told_is : (test : Bool) (rows : ℤ) (before : Option ℤ) → (if test then Some rows else before) ≡ or_else (if test then Some rows else None) before
 told_is true rows before = refl
 told_is false rows before = refl
 
 stated_first : (field : PlainField) (fields : PlainBody) (key : Key) → or_else (stated_by field key) (stated_in fields key) ≡ stated_in (field_and field fields) key
-stated_first (Number number) fields key = refl
-stated_first (Text text) fields key = refl
-stated_first (Points points) fields key = refl
-stated_first (Fill unit count) fields key = refl
-stated_first (Align unit) fields key = refl
-stated_first (Label name) fields key = refl
-stated_first (Array name count row) fields key = refl
-stated_first (Switch cases) fields key = refl
+stated_first (Number number) others key = refl
+stated_first (Text text) others key = refl
+stated_first (Points points) others key = refl
+stated_first (Fill unit count) others key = refl
+stated_first (Align unit) others key = refl
+stated_first (Label name) others key = refl
+stated_first (Array name count row) others key = refl
+stated_first (Switch cases) others key = refl
 
 module _ (fields : List Field) (old : List Note) where
   -- those of the last so many fields are told
@@ -174,7 +174,7 @@ module _ (fields : List Field) (old : List Note) where
 
   pub back_more : (later : ℕ) (field : Field) (mid new : List Note) → later < length fields → field ≡ get_or fields (length fields - 1 - later) field
       → BackTells later mid → Tells (stated_by (plain_field field)) mid new → BackTells (later + 1) new
-  back_more later field mid new less item first then =
+  back_more later field mid new less item first behind =
       let i = length fields - 1 - later in
       let within : i < length fields = omega arith in
       let same : i ≡ length fields - (later + 1) = omega arith in
@@ -185,7 +185,7 @@ module _ (fields : List Field) (old : List Note) where
       ∙ ap (λ (n : ℕ). stated_in (field_and (plain_field field) (plain_body (drop n fields))) key) (sym next)
       ∙ ap (λ (body : PlainBody). stated_in body key) (sym (body_next fields i field within item))
       ∙ ap (λ (n : ℕ). stated_in (plain_body (drop n fields)) key) same)
-      first then
+      first behind
 
   pub back_all : (later : ℕ) (new : List Note) → length fields ≤ later → BackTells later new → Tells (stated_in (plain_body fields)) old new
   back_all later new past tells =

@@ -162,13 +162,13 @@ unheard told (Rows row count places) key none = none
 unheard told (Coming row) key none = none
 
 -- so the newest is found among those with its code
+own_by : (told : Bool) (key : Key) (found : Option Note) (note : Note) (notes : List Note)
+    → ((one : Option Note) → newest told key one (filter (has_code (code_of key)) notes) ≡ newest told key one notes) → (b : Bool) → has_code (code_of key) note ≡ b
+    → newest told key found (if b then note ∷ filter (has_code (code_of key)) notes else filter (has_code (code_of key)) notes) ≡ newest told key found (note ∷ notes)
+own_by told key found note notes same true is = same (if heard told note key then Some note else found)
+own_by told key found note notes same false is =
+    same found ∙ ap (λ (b : Bool). newest told key (if b then Some note else found) notes) (sym (unheard told note key (unspoken note key is)))
+
 pub newest_own : (told : Bool) (key : Key) (found : Option Note) (notes : List Note) → newest told key found (filter (has_code (code_of key)) notes) ≡ newest told key found notes
 newest_own told key found [] = refl
-newest_own told key found (note ∷ notes) = by (has_code (code_of key) note) refl
-  where
-    by : (b : Bool) → has_code (code_of key) note ≡ b
-        → newest told key found (if b then note ∷ filter (has_code (code_of key)) notes else filter (has_code (code_of key)) notes) ≡ newest told key found (note ∷ notes)
-    by true is = newest_own told key (if heard told note key then Some note else found) notes
-    by false is =
-        newest_own told key found notes
-        ∙ ap (λ (b : Bool). newest told key (if b then Some note else found) notes) (sym (unheard told note key (unspoken note key is)))
+newest_own told key found (note ∷ notes) = own_by told key found note notes (λ one. newest_own told key one notes) (has_code (code_of key) note) refl

@@ -135,11 +135,31 @@ module _ {A S : Type 0} where
       (subst (λ (l : List Note). AreHeld l old)
       (ap (λ (n : ℕ). take n notes) next ∙ take_more notes older note within ∙ ap (λ (one : Note). take older notes ++ one ∷ []) (sym item)) are) takes)
 
+  -- all but so many forgotten
+  pub held_first : (notes : List Note) (count newer : ℕ) (places : HashMap ℕ (Vec ℕ A) S) → newer ≡ length notes - count → AreHeld (take (length notes - newer) notes) places
+      → AreHeld (take count notes) places
+  held_first notes count newer places is are =
+      subst (λ (l : List Note). AreHeld l places) (ap (λ (n : ℕ). take (length notes - n) notes) is ∙ first_notes notes count) are
+    where
+      first_notes : (notes : List Note) (count : ℕ) → take (length notes - (length notes - count)) notes ≡ take count notes
+      first_notes [] zero = refl
+      first_notes [] (suc count) = refl
+      first_notes (note ∷ notes) zero = ap (λ (n : ℕ). take n (note ∷ notes)) (omega arith)
+      first_notes (note ∷ notes) (suc count) =
+          let more : length (note ∷ notes) - (length (note ∷ notes) - suc count) ≡ suc (length notes - (length notes - count)) = omega arith in
+          ap (λ (n : ℕ). take n (note ∷ notes)) more ∙ ap (λ (l : List Note). note ∷ l) (first_notes notes count)
+
 -- What is read at the positions of a code, the newest first.
 module _ (told : Bool) (key : Key) (notes : List Note) (own : List ℕ) (is : own ≡ positions (has_code (code_of key)) notes) where
-  pub own_within : (i : ℕ) → i < length own → get_or own i 0 < length notes
+  own_within : (i : ℕ) → i < length own → get_or own i 0 < length notes
   own_within i below =
       positions_within (has_code (code_of key)) notes i (get_or own i 0) (ap (λ (l : List ℕ). slice_get l i) (sym is) ∙ slice_get-get_or own i 0 below)
+
+  at_first : (i place : ℕ) → i < length own → place ≡ get_or own i place → place ≡ get_or own i 0
+  at_first i place below item = item ∙ same_Some (get_or own i place) (get_or own i 0) (sym (slice_get-get_or own i place below) ∙ slice_get-get_or own i 0 below)
+
+  pub place_within : (i place : ℕ) → i < length own → place ≡ get_or own i place → place < length notes
+  place_within i place below item = subst (λ (n : ℕ). n < length notes) (sym (at_first i place below item)) (own_within i below)
 
   pub read_all : newest told key None (at_positions notes own) ≡ newest told key None notes
   read_all =
@@ -154,7 +174,8 @@ module _ (told : Bool) (key : Key) (notes : List Note) (own : List ℕ) (is : ow
   pub all_quiet : AreQuiet 0
   all_quiet = ap (λ (l : List ℕ). newest told key None (at_positions notes l)) (take_all (length own - 0) own (omega arith)) ∙ read_all
 
-  module _ (newer : ℕ) (note : Note) (less : newer < length own) (item : note ≡ get_or notes (get_or own (length own - 1 - newer) 0) note) (quiet : AreQuiet newer) where
+  module _ (newer place : ℕ) (note : Note) (less : newer < length own) (here : place ≡ get_or own (length own - 1 - newer) place) (item : note ≡ get_or notes place note)
+      (quiet : AreQuiet newer) where
     one_read : (if heard told note key then Some note else newest told key None (at_positions notes (take (length own - (newer + 1)) own))) ≡ newest told key None notes
     one_read =
         let older = length own - 1 - newer in
@@ -163,7 +184,7 @@ module _ (told : Bool) (key : Key) (notes : List Note) (own : List ℕ) (is : ow
         let next : older + 1 ≡ length own - newer = omega arith in
         ap (λ (n : ℕ). if heard told note key then Some note else newest told key None (at_positions notes (take n own))) (sym same)
         ∙ sym (newest_more told key None (at_positions notes (take older own)) note)
-        ∙ ap (newest told key None) (sym (at_more notes own older note within (own_within older within) item))
+        ∙ ap (newest told key None) (sym (at_more notes own older note within (own_within older within) (item ∙ ap (λ (n : ℕ). get_or notes n note) (at_first older place within here))))
         ∙ ap (λ (n : ℕ). newest told key None (at_positions notes (take n own))) next
         ∙ quiet
 

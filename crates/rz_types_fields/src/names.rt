@@ -113,18 +113,21 @@ pub fn note_front<'a>(
 {
     note_number(which, notes)?;
     hide_names(fields, notes)?;
-    tell_counts(fields, notes)
+    tell_counts(fields, notes)?;
+    Ok(())
 }
 
 /// Notes the number of a row, where its array has a name.
 fn note_number<'a>(which: Option<InRow<'a>>, notes: &mut Notes<'a>) -> Result<(), NoMemory>
     ensures { OnOk result (Adds (λ key before. if is_row (which_of which.entry) key then row_number (which_of which.entry) else before) (λ key before. before) notes.old.items notes.new.items) }
 {
-    if let Some(row) = which {
-        if let Some(name) = row.array {
-            notes.push(Note::Numbered(name, row.number))?;
-        }
-    }
+    let Some(row) = which else {
+        return Ok(());
+    };
+    let Some(name) = row.array else {
+        return Ok(());
+    };
+    notes.push(Note::Numbered(name, row.number))?;
     Ok(())
 }
 
@@ -200,9 +203,10 @@ fn tell_stated<'a>(
 ) -> Result<(), NoMemory>
     ensures { OnOk result (Tells (stated_value name.now count) notes.old.items notes.new.items) }
 {
-    if let (Some(name), Some(count)) = (name, count) {
-        notes.push(Note::Told(name, i64::from(count)))?;
-    }
+    let (Some(name), Some(count)) = (name, count) else {
+        return Ok(());
+    };
+    notes.push(Note::Told(name, i64::from(count)))?;
     Ok(())
 }
 

@@ -58,7 +58,7 @@ impl<'a> Notes<'a> {
 
     /// Appends a note. Where memory is refused the notes are unchanged.
     pub fn push(&mut self, note: Note<'a>) -> Result<(), NoMemory>
-        ensures items { OnOk result (self.new.items ≡ self.old.items ++ note ∷ []) }
+        ensures items { OnOk result (self.new.items ≡ self.old.items ++ note.entry ∷ []) }
         ensures err { OnErr result (self.new.items ≡ self.old.items) }
     {
         let code = note_code(&note);
@@ -77,9 +77,9 @@ impl<'a> Notes<'a> {
         ensures items { self.new.items ≡ take count self.old.items }
     {
         forget(&mut self.places, self.items.as_slice(), count);
-        let mut notes = mem::replace(&mut self.items, Listing::new(self.alloc)).into_vec();
-        notes.truncate(count);
-        self.items = Listing::from_vec(notes);
+        let notes = mem::replace(&mut self.items, Listing::new(self.alloc));
+        let none = mem::replace(&mut self.items, first_notes(notes, count));
+        drop(none);
     }
 
     /// Takes out the notes after the first so many, and gives them. Where memory is refused they are dropped.
@@ -92,7 +92,8 @@ impl<'a> Notes<'a> {
         let mut notes = mem::replace(&mut self.items, Listing::new(self.alloc)).into_vec();
         let own = notes.split_off(count);
         notes.truncate(count);
-        self.items = Listing::from_vec(notes);
+        let none = mem::replace(&mut self.items, Listing::from_vec(notes));
+        drop(none);
         Ok(own?)
     }
 
@@ -142,7 +143,8 @@ fn newest_among<'n, 'a>(
     ensures { option_map (λ note. note.now) result ≡ newest told (key_of key.entry) None notes.now }
 {
     for newer in 0..own.len() {
-        let note = &notes[own[own.len() - 1 - newer]];
+        let place = own[own.len() - 1 - newer];
+        let note = &notes[place];
         if is_heard(note, key, told) {
             return Some(note);
         }
@@ -247,6 +249,15 @@ fn forget(places: &mut Places, notes: &[Note<'_>], count: usize)
     for newer in 0..notes.len().saturating_sub(count) {
         drop_last(places, note_code(&notes[notes.len() - 1 - newer]));
     }
+}
+
+/// The first so many of these notes.
+fn first_notes<'a>(notes: Listing<Note<'a>>, count: usize) -> Listing<Note<'a>>
+    ensures { result ≡ take count notes.entry }
+{
+    let mut notes = notes.into_vec();
+    notes.truncate(count);
+    Listing::from_vec(notes)
 }
 
 /// What an expression sees of a resource and of what was noted: `true` and `false`, the place of each label and the
