@@ -8,6 +8,8 @@ Files are made in a folder of their own, which is removed at the end, each kind 
 again       n types, each declared twice, and a resource of the last one
 copies      a type of n fields, n/10 copies of it (`as`), and a resource of the last one
 scopes      one type declared for n ids, each for itself, and a resource of the last one
+labels      one type of n labels with a byte after each, and a resource of it
+choices     one type with a switch of n cases, and a resource of the last one
 included    n statements that each include one of 16,384 small resources
 labels      a type of n labels, each with a number that is the place of one of them, and a resource of it
 weightless  `derez` of n/4 rows, each with an array of no rows before the key of a case; its row has n fields
@@ -76,6 +78,19 @@ def scopes(count):
     return compiled(source + "resource 'Many' (%d) { 7 };\n" % (count - 1), [(b"Many", count - 1, b"", 0, b"\0\7")])
 
 
+def labels(count):
+    source = "type 'Many' {\n%s};\n" % "".join("Label%d: byte;\n" % number for number in range(count))
+    source += "resource 'Many' (1) {\n%s\n};\n" % ",\n".join(["7"] * count)
+    return compiled(source, [(b"Many", 1, b"", 0, b"\7" * count)])
+
+
+def choices(count):
+    source = "type 'Many' { switch {\n%s}; };\n" % "".join(
+        "case C%d: key longint = %d; byte;\n" % (number, number) for number in range(count))
+    source += "resource 'Many' (1) { C%d { 7 } };\n" % (count - 1)
+    return compiled(source, [(b"Many", 1, b"", 0, (count - 1).to_bytes(4, "big") + b"\7")])
+
+
 def included(count):
     resources = [(b"Test", ident, b"", 0, ident.to_bytes(4, "big")) for ident in range(5_000)]
     references = [reference(ident, 8 * (ident % 5_000)) for ident in range(16_384)]
@@ -123,6 +138,8 @@ KINDS = {
     "again": (again, 5_000, 1.0, 32 * MB),
     "copies": (copies, 5_000, 0.5, 32 * MB),
     "scopes": (scopes, 5_000, 1.0, 32 * MB),
+    "labels": (labels, 5_000, 0.5, 48 * MB),
+    "choices": (choices, 5_000, 0.5, 48 * MB),
     "included": (included, 500, 0.5, 16 * MB),
     "labels": (labels, 5_000, 0.5, 64 * MB),
     "weightless": (weightless, 5_000, 0.2, 32 * MB),

@@ -30,7 +30,7 @@ EXAMPLES = (
       "rezkit rez TYPES/Types.r App.txt -o New.rsrc")),
     ("Change a file that has a fork", ("rezkit rez Changes.r -a -o App.rsrc",)),
     ("Look for damage in an old file, convert it, and part it into the two files of AppleDouble in a new folder",
-     ("rezkit det Old.hqx", "rezkit bridge Old.hqx -to macbin -o Old.bin",
+     ("rezkit det Old.hqx", "rezkit list Old.hqx", "rezkit bridge Old.hqx -to macbin -o Old.bin",
       "mkdir parts && rezkit bridge Old.hqx -to double -o parts/._Old")),
     ("Translate a program: write its texts, edit them, and put them back",
      ("rezkit strings Old.bin TYPES/Texts.r > Old.texts", "rezkit restring Old.bin Old.texts TYPES/Texts.r -o German.bin")),

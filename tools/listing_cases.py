@@ -249,7 +249,7 @@ def resources():
     BOOK.say("Many resources.")
     many = [resource("Test" if k % 3 else "Last", k, b"name %d" % k if k % 5 == 0 else b"", 32 if k % 7 == 0 else 0, b"x" * (k % 4)) for k in range(2700)]
     case("2,700 resources", image(many), among=["resources 2700"])
-    case("2,700 resources in MacBinary", macbin(File(name=b"Many", res=image(many))), among=["resources 2700"])
+    case("300 resources in MacBinary", macbin(File(name=b"Many", res=image(many[:300]))), among=["resources 300"])
     case("256 types", image([((k << 24 | 0x616263).to_bytes(4, "big"), k, b"", 0, b"") for k in range(256)]), among=["resources 256"])
 
 

@@ -84,6 +84,17 @@ SWEEPS = [
         ("det", "a fork that is whole", "out", 2, 8),
         ("det", "BinHex without its last colon", "err", 2, 12),
     ]),
+    ("list: one read, and a piece of its output up to the name of the file, for each 64 bytes of a name, after it up to the"
+     " length of the fork, for each resource without a name, and for their number", [
+        ("listing", "in macbin", "folder", 1, 0),
+        ("listing", "in double", "folder", 1, 0),
+        ("listing", "a text", "folder", 1, 0),
+        ("listing", "in macbin", "out", 7, 0),
+        ("listing", "in macbin", "out", 7, 2),
+        ("listing", "a resource with a name of 255 bytes of five letters each", "out", 10, 7),
+        ("listing", "MacBinary I", "err", 2, 0),
+        ("listing", "BinHex without its last colon", "err", 2, 12),
+    ]),
     ("strings and restring: reads of the type file, the fork and the catalogue, and a write", [
         ("catalog", "listed: an application", "folder", 2, 0),
         ("catalog", "an application in French", "folder", 3, 1),

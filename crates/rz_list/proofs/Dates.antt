@@ -1,14 +1,13 @@
 -- The date and the time of a moment are those that `list` tells.
-use Rattle.std.proofs.Common.{◌≡◌, ℕ, zero, suc, ◌+◌, ◌-◌, ◌*◌, ◌/◌, ◌%◌, ◌^◌, ◌<◌, ◌≤◌, ℤ, pos, negsuc, neg_ℤ, ◌+ℤ◌, ◌<ℤ◌, ◌≤ℤ◌, Bool, true, false, List, [], ◌∷◌, ◌++◌, length, arith, length-append, refl, sym, ap, ◌∙◌}
+use Rattle.std.proofs.Common.{◌≡◌, ℕ, zero, suc, ◌+◌, ◌-◌, ◌*◌, ◌/◌, ◌%◌, ◌^◌, ◌<◌, ◌≤◌, ℤ, pos, negsuc, ◌+ℤ◌, true, false, ◌++◌, length, arith, length-append, refl, sym, ap, subst, ◌∙◌}
 use Rattle.std.specs.Prelude.{nat_lt, ◌==◌, nat_abs, codes}
 use Rattle.std.proofs.lemmas.Bool.Decides.{nat_tests}
 use Rattle.std.proofs.lemmas.Fmt.{length-decimal-le}
 use Rattle.std.proofs.lemmas.Int.{by_lt_z}
-use Rattle.jiff_core.specs.Calendar.{days_in_month, days_in_year, days_of_months, day_of_year, day_count, days_from_civil, IsCivilDate}
+use Rattle.jiff_core.specs.Calendar.{days_in_month, days_of_months, day_count, days_from_civil, IsCivilDate}
 use Rattle.jiff_core.proofs.CalendarLemmas.{day_count-day, day_count-day_of_year, day_count-last_of_year, day_count-later_year, day_count-lt_month, day_count-lt_year, day_count-next_month, day_count-next_year, days_from_civil-day_count, days_of_months_all, days_of_months_mono, days_of_months_more}
 use Rattle.jiff_core.proofs.MarchLemmas.{day_count-early}
 use Rattle.jiff_core.proofs.SignedLemmas.{signed_arith}
-use borrow.Author.Differences.{up, down}
 use Rattle.rz_core.proofs.Tests.{by_test}
 use Rattle.rz_core.specs.Decimal.{decimal_of}
 use Rattle.rz_core.specs.Moment.{seconds_of}
@@ -98,16 +97,19 @@ module _ (y : ℤ) (m d : ℕ) (civil : IsCivilDate y m d) where
 
     in_month : m ≡ month
     in_month =
-        let not_before : month ≤ m = by_order m month (λ lt. absurd (omega (arith, (let e = in_year in rw e at (day_count-lt_month y m d month 1 civil (omega arith) lt)), low))) (λ le. le) in
+        let e = in_year in
+        let low_here : day_count y month 1 ≤ day_count y m d = subst (λ (z : ℤ). day_count z month 1 ≤ day_count y m d) (sym e) low in
+        let high_here : day_count y m d < day_count y month 1 + days_in_month y month = subst (λ (z : ℤ). day_count y m d < day_count z month 1 + days_in_month z month) (sym e) high in
+        let not_before : month ≤ m = by_order m month (λ lt. absurd (omega (arith, day_count-lt_month y m d month 1 civil (omega arith) lt, low_here))) (λ le. le) in
         let not_after : m ≤ month = by_order month m
         (λ lt. absurd (omega (
           arith,
           day_count-day_of_year y m d civil.2.0,
-          (let e = in_year in rw (← e) at (first_of_month (pos year) month)),
-          (let e = in_year in rw (← e) at (days_of_months_more (pos year) month first)),
+          first_of_month y month,
+          days_of_months_more y month first,
           days_of_months_mono y month (m - 1) (omega (arith, lt)),
           civil.2.0,
-          (let e = in_year in rw (← e) at high),
+          high_here,
         )))
         (λ le. le) in
         omega (arith, not_before, not_after)
@@ -130,7 +132,8 @@ module _ (y : ℤ) (m d : ℕ) (civil : IsCivilDate y m d) where
       let high : day_count y m d < day_count (pos year) month 1 + days_in_month (pos year) month = omega (arith, is, few) in
       let of_year = in_year year month first last low high in
       let of_month = in_month year month first last low high in
-      let of_day : d ≡ days + 1 = omega (arith, (rw (of_year, of_month) at (day_count-day y m d 1 civil.2.0 (omega arith))), is) in
+      let begins : day_count y m 1 ≡ day_count (pos year) month 1 = (λ i. day_count (of_year i) (of_month i) 1) in
+      let of_day : d ≡ days + 1 = omega (arith, day_count-day y m d 1 civil.2.0 (omega arith), begins, is) in
       rw h (λ i. date_text (nat_abs (sym of_year i)) (sym of_month i) (sym of_day i)))
       (λ h. let many : days_in_month (pos year) month ≤ days = grind (arith, nat_tests, h) in
       by_test (date_after (suc months) year month days ≡ date_text (nat_abs y) m d) (month == 12)
@@ -158,9 +161,10 @@ timed hour minute second h m s =
 -- Seconds.
 
 -- the days and the seconds of the day that seconds after the first of 1904 are
-parts_of : (seconds : ℕ) (y : ℤ) (m d time : ℕ) → time < 86400 → negsuc 2082844799 +ℤ pos seconds ≡ seconds_of (days_from_civil y m d) 0 0 time
-    → 4347846 * 86400 + seconds ≡ 86400 * day_count y m d + time
-parts_of seconds y m d time small is = omega (arith, signed_arith, days_from_civil-day_count y m d, is, small)
+parts_of : (seconds : ℕ) (y : ℤ) (m d hour minute second : ℕ) → hour < 24 → minute < 60 → second < 60
+    → negsuc 2082844799 +ℤ pos seconds ≡ seconds_of (days_from_civil y m d) hour minute second
+    → 4347846 * 86400 + seconds ≡ 86400 * day_count y m d + (hour * 3600 + minute * 60 + second)
+parts_of seconds y m d hour minute second h mi s is = omega (arith, signed_arith, days_from_civil-day_count y m d, is)
 
 pub none_told : (seconds : ℕ) → seconds ≡ 0 → date_told seconds ≡ codes "none"
 unfolding date_told
@@ -180,7 +184,7 @@ unfolding date_told
 moment_told seconds some before y m d hour minute second civil h mi s is =
     let time = hour * 3600 + minute * 60 + second in
     let small : time < 86400 = omega (arith, h, mi, s) in
-    let same : 4347846 * 86400 + seconds ≡ 86400 * day_count y m d + time = parts_of seconds y m d time small is in
+    let same : 4347846 * 86400 + seconds ≡ 86400 * day_count y m d + time = parts_of seconds y m d hour minute second h mi s is in
     let days : day_count (pos 1904) 1 1 + seconds / 86400 ≡ day_count y m d = omega (arith, first_of_1904, same, small) in
     let rest : seconds % 86400 ≡ time = omega (arith, same, small) in
     let limit : day_count y m d < day_count (pos 2040) 1 1 = omega (arith, first_of_1904, first_of_2040, days, before) in
@@ -189,3 +193,8 @@ moment_told seconds some before y m d hour minute second civil h mi s is =
     rw (there, early)
     (λ i. dated y m d civil 1632 1904 1 (seconds / 86400) (omega arith) (omega arith) (omega arith) days limit i ++ codes " "
     ++ (ap time_text rest ∙ timed hour minute second h mi s) i)
+
+pub not_early : (seconds : ℕ) → (seconds < 4291833600 → ⊥) → 4291833600 ≤ seconds
+not_early seconds none = by_test (4291833600 ≤ seconds) (nat_lt seconds 4291833600)
+    (λ h. let early : seconds < 4291833600 = grind (arith, nat_tests, h) in absurd (none early))
+    (λ h. grind (arith, nat_tests, h))

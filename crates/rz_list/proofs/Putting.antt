@@ -1,12 +1,11 @@
 -- Texts that are put one after another.
-use Rattle.std.proofs.Common.{◌≡◌, ℕ, List, [], ◌++◌, Ok, Err, refl, sym, ap, subst, ◌∙◌, append-nil, arith}
+use Rattle.std.proofs.Common.{◌≡◌, ℕ, List, [], ◌++◌, Ok, Err, subst, arith}
 use Rattle.std.specs.Prelude.{IsErrAnd}
 use Rattle.std.specs.declared.result.Result.{Result}
 use Rattle.rz_folder.proofs.Streams.{front_before, front_behind, got_nothing, got_then, told_same, told_so, told_then}
-use Rattle.rz_folder.specs.Counts.{Rose}
-use Rattle.rz_folder.specs.Sink.{Got, GotFront, Puts}
+use Rattle.rz_folder.specs.Sink.{Got, GotFront}
 use Rattle.rz_folder.specs.declared.sink.Sink.{Ghosts}
-use Rattle.rz_list.specs.Puts.{put_of, PutsText}
+use Rattle.rz_list.specs.Puts.{PutsText}
 use Rattle.rz_list.specs.declared.put.Failed.{Failed}
 
 module _ {O : Type 0} (g : Ghosts O) where
@@ -37,7 +36,7 @@ module _ {O : Type 0} (g : Ghosts O) where
   }
 
   -- the end of a `?`
-  pub puts_end : {old new : O} {text : List ℕ} {failed : Failed} {P : Failed → Type 0} (result : Result (Unit {0}) Failed) → IsErrAnd result P
+  pub puts_end : {old new : O} {text : List ℕ} {failed : Failed} (result : Result (Unit {0}) Failed) → IsErrAnd result (λ e. e ≡ failed)
       → PutsText g old new text (Err failed) → PutsText g old new text result
   puts_end (Ok done) is one = absurd is
   puts_end (Err other) is one = record { told = one.told; counted = one.counted; cause = one.cause }

@@ -1,6 +1,6 @@
 -- What is written on one line fits there.
-use Rattle.std.proofs.Common.{◌≡◌, ℕ, zero, suc, ◌+◌, ◌-◌, ◌*◌, ◌/◌, ◌%◌, ◌^◌, ◌<◌, ◌≤◌, ℤ, pos, negsuc, Bool, true, false, if◌then◌else◌, List, [], ◌∷◌, ◌++◌, length, arith, length-append, sym, ap, ◌∙◌}
-use Rattle.std.specs.Prelude.{nat_le, nat_lt, ◌==◌, ◌||◌, codes, FitsSigned}
+use Rattle.std.proofs.Common.{◌≡◌, ℕ, ◌+◌, ◌/◌, ◌%◌, ◌^◌, ◌<◌, ◌≤◌, ℤ, pos, negsuc, if◌then◌else◌, List, [], ◌∷◌, ◌++◌, length, arith, length-append, append_assoc, sym, ap, ◌∙◌}
+use Rattle.std.specs.Prelude.{nat_le, ◌==◌, ◌||◌, codes, FitsSigned}
 use Rattle.std.specs.Int.{w16}
 use Rattle.std.specs.List.{flat_map}
 use Rattle.std.proofs.lemmas.Fmt.{length-decimal-le}
@@ -11,21 +11,39 @@ use Rattle.rz_bridge_form.specs.declared.form.Form.TheVariants.{Raw, AppleDouble
 use Rattle.rz_core.proofs.Tests.{by_test}
 use Rattle.rz_core.specs.Decimal.{decimal_of, signed_of}
 use Rattle.rz_core.specs.Numbers.{be, length-be_4}
-use Rattle.rz_core.specs.Quoted.{literal_text, quoted, shown_byte}
+use Rattle.rz_core.specs.Quoted.{literal_text, shown_byte}
 use Rattle.rz_core.specs.declared.resource.Resource.{Resource}
 use Rattle.rz_lex.specs.Spelled.{digits_of}
 use Rattle.rz_words.specs.Attribute.{bit_of, setting_word}
 use Rattle.rz_words.specs.declared.attribute.Attribute.{Attribute}
 use Rattle.rz_words.specs.declared.attribute.Attribute.TheVariants.{Changed, Locked, Preload, Protected, Purgeable, SystemHeap}
+use Rattle.rz_show_lines.specs.Cut.{cut}
 use Rattle.rz_show_lines.specs.Head.{attr_written, word_written}
 use Rattle.rz_show_lines.specs.Print.{signed_written}
 use Rattle.rz_show_lines.specs.Written.{a_word, line_text}
 use Rattle.rz_show_lines.proofs.ShortTokens.{negative_short, positive_short, quoted_short, size, size_both, size_one}
-use Rattle.rz_show_lines.proofs.Writes.{signed_is}
+use Rattle.rz_show_lines.proofs.Writes.{cut_again, cut_short, signed_is}
 use Rattle.rz_list.proofs.Dates.{date_size}
 use Rattle.rz_list.specs.Date.{date_told}
+use Rattle.rz_list.specs.Held.{AreStored}
 use Rattle.rz_list.specs.Parts.{after_name, carried_rest, finder_rest, fork_fact, lock_fact, resource_end, resource_front}
 use Rattle.rz_list.specs.Text.{data_fact, date_facts, fact}
+
+-- Writes on an empty line.
+
+pub one_written : (start end a : List ℕ) → start ≡ [] → end ≡ cut (start ++ a) → length a ≤ 512 → end ≡ a
+one_written start end a none first fits = first ∙ ap (λ (l : List ℕ). cut (l ++ a)) none ∙ cut_short a fits
+
+pub two_written : (start mid end a b : List ℕ) → start ≡ [] → mid ≡ cut (start ++ a) → end ≡ cut (mid ++ b) → length (a ++ b) ≤ 512 → end ≡ a ++ b
+two_written start mid end a b none first second fits =
+    second ∙ ap (λ (l : List ℕ). cut (l ++ b)) (first ∙ ap (λ (l : List ℕ). cut (l ++ a)) none) ∙ cut_again a b ∙ cut_short (a ++ b) fits
+
+-- Writes behind others.
+
+pub three_on : (old one two three a b c : List ℕ) → one ≡ cut (old ++ a) → two ≡ cut (one ++ b) → three ≡ cut (two ++ c) → three ≡ cut (old ++ (a ++ b ++ c))
+three_on old one two three a b c first second third =
+    third ∙ ap (λ (l : List ℕ). cut (l ++ c)) (second ∙ ap (λ (l : List ℕ). cut (l ++ b)) first ∙ cut_again (old ++ a) b) ∙ cut_again (old ++ a ++ b) c
+    ∙ ap cut (append_assoc (old ++ a) b c ∙ append_assoc old a (b ++ c) ∙ ap (λ (l : List ℕ). old ++ l) (sym (append_assoc a b c)))
 
 -- Values.
 
@@ -89,14 +107,7 @@ fork_size : (file : MacFile) → length file.res_fork < 2 ^ 64 → length (fork_
 unfolding fork_fact
 fork_size file small = omega (arith, fact_size (codes "fork") (decimal_of (length file.res_fork)), number_size (length file.res_fork) small)
 
--- the numbers of a file as the code holds them
-pub record HasNumbers (file : MacFile) : Type 0 where
-  pub created : file.created < 2 ^ 32
-  pub modified : file.modified < 2 ^ 32
-  pub data_fork : length file.data_fork < 2 ^ 64
-  pub res_fork : length file.res_fork < 2 ^ 64
-
-carried_size : (form : Form) (file : MacFile) → HasNumbers file → length (carried_rest form file) ≤ 220
+carried_size : (form : Form) (file : MacFile) → AreStored file → length (carried_rest form file) ≤ 220
 carried_size Raw file has = omega arith
 carried_size AppleDouble file has = omega (arith, length-append (finder_rest file) (date_facts file), finder_size file, dates_size file has.created has.modified)
 carried_size AppleSingle file has =
@@ -121,7 +132,7 @@ carried_size MacBinary file has =
     )
 carried_size BinHex file has = omega (arith, length-append (finder_rest file) (data_fact file), finder_size file, data_size file has.data_fork)
 
-pub after_name_size : (form : Form) (file : MacFile) → HasNumbers file → length (after_name form file) ≤ 512
+pub after_name_size : (form : Form) (file : MacFile) → AreStored file → length (after_name form file) ≤ 512
 after_name_size form file has =
     omega (arith, length-append (carried_rest form file) (fork_fact file), carried_size form file has, fork_size file has.res_fork)
 

@@ -1,7 +1,7 @@
 //! Dates on a line, as `specs/Date` has them.
 #![tactic(auto, using(rz_show_lines::proofs::Writes::writes))]
 
-ghost use Rattle.std.specs.Prelude.{◌≡◌, ◌++◌, codes, nat_abs};
+ghost use Rattle.std.specs.Prelude.{◌≡◌, ◌<◌, ◌↔◌, ◌++◌, ◌+ℤ◌, codes, nat_abs, negsuc, pos, IfSome, IsSome};
 ghost use Rattle.rz_core.specs.DateText.{digit};
 ghost use Rattle.rz_show_lines.specs.Cut.{cut};
 ghost use Rattle.rz_list.specs.Date.{date_text, date_told, two_digits};
@@ -50,6 +50,14 @@ fn time(moment: Moment, line: &mut Line)
     two_digits(u32::from(moment.second), line);
 }
 
+/// The moment so many seconds after the first of 1904, up to the end of 2039.
+fn moment_at(seconds: u32) -> Option<Moment>
+    ensures some { IsSome result ↔ (seconds < 4291833600) }
+    ensures unix { IfSome result (λ moment. moment.unix ≡ negsuc 2082844799 +ℤ pos seconds) }
+{
+    Moment::of_unix(Moment::FIRST + i64::from(seconds))
+}
+
 /// Writes a date, which counts in seconds from the first of 1904: its day and its time in the clock's zone, whatever that
 /// is; `none` where it is 0, and from 2040 on its seconds.
 pub fn date(seconds: u32, line: &mut Line)
@@ -59,7 +67,7 @@ pub fn date(seconds: u32, line: &mut Line)
         line.append(b"none");
         return;
     }
-    match Moment::of_unix(Moment::FIRST + i64::from(seconds)) {
+    match moment_at(seconds) {
         Some(moment) => {
             day(moment, line);
             line.push(b' ');

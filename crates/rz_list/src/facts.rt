@@ -1,11 +1,13 @@
 //! The facts of a file, each on a line of its own, as `specs/Text` and `specs/Parts` have them.
 #![tactic(auto, using(rz_show_lines::proofs::Writes::writes))]
 
-ghost use Rattle.std.specs.Prelude.{◌≡◌, ◌<◌, ◌^◌, ◌++◌, length};
+ghost use Rattle.std.specs.Prelude.{◌≡◌, ◌++◌, codes};
 ghost use Rattle.rz_core.specs.Decimal.{decimal_of};
 ghost use Rattle.rz_core.specs.Quoted.{literal_text};
+ghost use Rattle.rz_lex.specs.Spelled.{digits_of};
 ghost use Rattle.rz_show_lines.specs.Cut.{cut};
 ghost use Rattle.rz_list.specs.Date.{date_told};
+ghost use Rattle.rz_list.specs.Held.{AreStored};
 ghost use Rattle.rz_list.specs.Parts.{after_name, before_name, carried_rest, finder_rest, fork_fact, lock_fact};
 ghost use Rattle.rz_list.specs.Text.{data_fact, date_facts, fact};
 
@@ -33,10 +35,21 @@ pub fn before_name(form: Form) -> &'static [u8]
 pub fn after_name(form: Form, file: &MacFile) -> Line
     ensures { result ≡ after_name form file.now }
 {
+    are_stored(file);
     let mut line = Line::new();
     carried_rest(form, file, &mut line);
     fork_fact(file, &mut line);
     line
+}
+
+/// A law, which reads the dates and the lengths and does nothing with them: they have 32 and 64 bits.
+fn are_stored(file: &MacFile)
+    ensures { AreStored file.now }
+{
+    let _created = file.created;
+    let _modified = file.modified;
+    let _data = file.data_fork.len();
+    let _res = file.res_fork.len();
 }
 
 /// Writes the facts after the name that a form carries.
@@ -68,15 +81,23 @@ fn carried_rest(form: Form, file: &MacFile, line: &mut Line)
 }
 
 /// Writes what the Finder keeps, after the name.
-#[tactic(auto, using(rz_show_lines::proofs::Writes::writes), unfolding(crate::specs::Parts::finder_rest, crate::specs::Text::fact))]
+#[tactic(auto, using(rz_show_lines::proofs::Writes::writes), unfolding(crate::specs::Parts::finder_rest))]
 fn finder_rest(file: &MacFile, line: &mut Line)
     ensures { line.new ≡ cut (line.old ++ finder_rest file.now) }
 {
     line.append(b"\"\n");
     type_fact(b"type", file.finder.kind, line);
     type_fact(b"creator", file.finder.creator, line);
+    flags_fact(file.finder.flags, line);
+}
+
+/// Writes the Finder's flags.
+#[tactic(auto, using(rz_show_lines::proofs::Writes::writes), unfolding(crate::specs::Text::fact))]
+fn flags_fact(flags: u16, line: &mut Line)
+    ensures { line.new ≡ cut (line.old ++ fact (codes "flags") (codes "0x" ++ digits_of 16 4 flags)) }
+{
     line.append(b"flags ");
-    line.hex(4, u32::from(file.finder.flags));
+    line.hex(4, u32::from(flags));
     line.push(b'\n');
 }
 

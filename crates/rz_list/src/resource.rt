@@ -1,7 +1,8 @@
 //! The line of a resource, as `specs/Text` and `specs/Parts` have it.
 #![tactic(auto, using(rz_show_lines::proofs::Writes::writes))]
 
-ghost use Rattle.std.specs.Prelude.{◌≡◌, ◌++◌, codes};
+ghost use Rattle.std.specs.Prelude.{◌≡◌, ◌<◌, ◌^◌, ◌++◌, codes, length, FitsSigned};
+ghost use Rattle.std.specs.Int.{w16};
 ghost use Rattle.rz_fork.specs.View.{lent};
 ghost use Rattle.rz_show_lines.specs.Cut.{cut};
 ghost use Rattle.rz_list.specs.Parts.{resource_end, resource_front};
@@ -31,6 +32,7 @@ pub fn put_resource<O: Sink>(view: &ResView<'_>, out: &mut O) -> Result<(), Fail
 fn unnamed(view: &ResView<'_>) -> Line
     ensures { result ≡ resource_front (lent view.now) ++ resource_end (lent view.now) }
 {
+    is_stored(view);
     let mut line = Line::new();
     write_front(view, &mut line);
     write_end(view, &mut line);
@@ -41,6 +43,7 @@ fn unnamed(view: &ResView<'_>) -> Line
 fn before_name(view: &ResView<'_>) -> Line
     ensures { result ≡ resource_front (lent view.now) ++ codes ", \"" }
 {
+    is_stored(view);
     let mut line = Line::new();
     write_front(view, &mut line);
     line.append(b", \"");
@@ -51,10 +54,20 @@ fn before_name(view: &ResView<'_>) -> Line
 fn after_name(view: &ResView<'_>) -> Line
     ensures { result ≡ codes "\"" ++ resource_end (lent view.now) }
 {
+    is_stored(view);
     let mut line = Line::new();
     line.push(b'"');
     write_end(view, &mut line);
     line
+}
+
+/// A law, which reads the id and the length and does nothing with them: they have 16 and 64 bits.
+fn is_stored(view: &ResView<'_>)
+    ensures id { FitsSigned w16 view.now.id }
+    ensures bytes { length view.now.bytes.now < 2 ^ 64 }
+{
+    let _id = view.id;
+    let _length = view.bytes.len();
 }
 
 /// Writes a resource up to its name.

@@ -66,7 +66,7 @@ unfixed left k (one plain rest) kept ends =
     plus_some (fixed_width (field_of plain)) (fixed_widths (body_from k rest)) ∙ ap (λ (t : Bool). is_some (fixed_width (field_of plain)) && t) (unfixed left k rest kept ends)
     ∙ and_false (is_some (fixed_width (field_of plain)))
 unfixed left k (count less rest) kept ends = no kept
-unfixed zero k (list counted row rest) kept ends = no kept
+unfixed zero k (list form row rest) kept ends = no kept
 unfixed (suc left) k (list Counted row rest) kept ends = refl
 unfixed (suc left) k (list Uncounted row rest) kept ends = refl
 
@@ -77,7 +77,7 @@ fixed_is left k w (one plain rest) kept ends =
     ∙ ap (λ (t : Bool). t && is_fixed rest) (fixed_one plain)
 fixed_is left k true (count less rest) kept ends = no kept
 fixed_is left k false (count less rest) kept ends = plus_some (fixed_width (count_field less (next_named k rest))) (fixed_widths (body_from k rest)) ∙ unfixed left k rest kept ends
-fixed_is zero k w (list counted row rest) kept ends = no kept
+fixed_is zero k w (list form row rest) kept ends = no kept
 fixed_is (suc left) k w (list Counted row rest) kept ends = refl
 fixed_is (suc left) k w (list Uncounted row rest) kept ends = refl
 
@@ -93,7 +93,7 @@ fixed_closed (one Pascal rest) is = no is
 fixed_closed (one ZeroEnded rest) is = no is
 fixed_closed (one Rest rest) is = no is
 fixed_closed (count less rest) is = no is
-fixed_closed (list counted row rest) is = no is
+fixed_closed (list form row rest) is = no is
 
 -- The least width of a row.
 
@@ -129,7 +129,7 @@ wide left k (one Pascal rest) kept inner value = at_least 8 (least_widths (body_
 wide left k (one ZeroEnded rest) kept inner value = at_least 8 (least_widths (body_from k rest)) eight
 wide left k (one Rest rest) kept inner value = no inner
 wide left k (count less rest) kept inner value = at_least 16 (least_widths (body_from k rest)) sixteen
-wide zero k (list counted row rest) kept inner value = no kept
+wide zero k (list form row rest) kept inner value = no kept
 wide (suc left) k (list Counted row rest) kept inner value = no kept
 wide (suc left) k (list Uncounted row rest) kept inner value = no inner
 
@@ -202,7 +202,7 @@ declared left k none kept ends = no_more ends
 declared left k (one plain rest) kept ends =
     ap (λ (t : Bool). t || declares (body_from k rest) (list_key (next_named k rest))) (gives_plain plain (list_key (next_named k rest))) ∙ declared left k rest kept ends
 declared left k (count less rest) kept ends = no kept
-declared zero k (list counted row rest) kept ends = no kept
+declared zero k (list form row rest) kept ends = no kept
 declared (suc left) k (list Counted row rest) kept ends = or_left _ _ (or_left _ _ (same_list k))
 declared (suc left) k (list Uncounted row rest) kept ends = declared (suc left) (k + lists_of row) rest (listed left Uncounted true row rest kept).others ends
 
@@ -304,7 +304,7 @@ reads left k false outermost (count less rest) passed kept ends held =
     let next = behind (count_field less n) (at_field (body_from k (count less rest)) passed) in
     ap (λ (t : Bool). (t && true) && are_read outermost next (body_from k rest)) (solves (body_from k rest) (at_field (body_from k (count less rest)) passed) less n (declared left k rest kept ends))
     ∙ reads left k true outermost rest next kept ends (λ is. told k rest passed less n)
-reads zero k w outermost (list counted row rest) passed kept ends held = no kept
+reads zero k w outermost (list form row rest) passed kept ends held = no kept
 reads (suc left) k w outermost (list Counted row rest) passed kept ends held =
     let is = listed left Counted w row rest kept in
     let here = at_field (body_from k (list Counted row rest)) passed in

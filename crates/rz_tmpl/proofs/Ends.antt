@@ -38,12 +38,12 @@ items_end : (items inner : Items) (outer : List Items) → with_all (entries_of 
 items_end none inner outer = refl
 items_end (one plain rest) inner outer = ap (option_and_then (with_entry (One plain))) (items_end rest inner outer)
 items_end (count less rest) inner outer = ap (option_and_then (with_entry (Count less))) (items_end rest inner outer)
-items_end (list counted row rest) inner outer =
-    ap (option_and_then (with_entry (Start counted)))
+items_end (list form row rest) inner outer =
+    ap (option_and_then (with_entry (Start form)))
     (with_both (entries_of row) (End ∷ entries_of rest) (ends_of inner outer)
     ∙ ap (λ (o : Option Ends). option_and_then (λ next. with_all (entries_of row) next) (option_and_then (with_entry End) o)) (items_end rest inner outer)
     ∙ items_end row none (append rest inner ∷ outer))
-    ∙ ap (λ (r : Items). Some (ends_of (list counted r (append rest inner)) outer)) (append_none row)
+    ∙ ap (λ (r : Items). Some (ends_of (list form r (append rest inner)) outer)) (append_none row)
 
 -- the entries of a body make that body
 pub whole_end : (items : Items) → with_all (entries_of items) nothing ≡ Some (ends_of items [])

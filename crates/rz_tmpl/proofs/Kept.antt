@@ -51,20 +51,20 @@ or_either : (a b c : Bool) → (a || b) ≡ true → (b ≡ true → c ≡ true)
 or_either true b c is so = refl
 or_either false b c is so = so is
 
-pub record Listed (left : ℕ) (counted : ListForm) (w : Bool) (inner rest : Items) : Type 0 where
-  pub starts : may_start counted w ≡ true
+pub record Listed (left : ℕ) (form : ListForm) (w : Bool) (inner rest : Items) : Type 0 where
+  pub starts : may_start form w ≡ true
   pub inside : is_kept left false inner ≡ true
   pub ends : waits false inner ≡ false
   pub value : has_value inner ≡ true
-  pub others : is_kept (suc left) (waits_behind counted w) rest ≡ true
+  pub others : is_kept (suc left) (waits_behind form w) rest ≡ true
 
-pub listed : (left : ℕ) (counted : ListForm) (w : Bool) (inner rest : Items) → is_kept (suc left) w (list counted inner rest) ≡ true → Listed left counted w inner rest
-listed left counted w inner rest is =
-    let first = back (may_start counted w) _ is in
+pub listed : (left : ℕ) (form : ListForm) (w : Bool) (inner rest : Items) → is_kept (suc left) w (list form inner rest) ≡ true → Listed left form w inner rest
+listed left form w inner rest is =
+    let first = back (may_start form w) _ is in
     let two = back (is_kept left false inner) _ first in
     let three = back (not (waits false inner)) _ two in
     record {
-      starts = front (may_start counted w) _ is;
+      starts = front (may_start form w) _ is;
       inside = front (is_kept left false inner) _ first;
       ends = un_not (waits false inner) (front (not (waits false inner)) _ two);
       value = front (has_value inner) _ three;
@@ -200,7 +200,7 @@ next_among left k none kept ends = no_more ends
 next_among left k (one plain rest) kept ends =
     ap (is_among (list_name (next_named k rest)).bytes) (names_front (field_of plain) (body_from k rest) (simple plain)) ∙ next_among left k rest kept ends
 next_among left k (count less rest) kept ends = no kept
-next_among zero k (list counted inner rest) kept ends = no kept
+next_among zero k (list form inner rest) kept ends = no kept
 next_among (suc left) k (list Counted inner rest) kept ends = or_left _ _ (itself k)
 next_among (suc left) k (list Uncounted inner rest) kept ends = next_among (suc left) (k + lists_of inner) rest (listed left Uncounted true inner rest kept).others ends
 
@@ -242,7 +242,7 @@ keep left k false (count less rest) position before scope kept ends few below co
     simple_step (count_field less (next_named k rest)) (body_from k rest) position before scope (simple_count less (next_named k rest))
     (kept_count less (next_named k rest) position before scope (covers (list_name (next_named k rest)).bytes (next_among left k rest kept ends)))
     (λ later words same. keep left k true rest later words scope kept ends few (subst (Below k) (sym same) below) covers)
-keep zero k w (list counted inner rest) position before scope kept ends few below covers = no kept
+keep zero k w (list form inner rest) position before scope kept ends few below covers = no kept
 keep (suc left) k w (list Counted inner rest) position before scope kept ends few below covers =
     let is = listed left Counted w inner rest kept in
     let row = body_from (k + 1) inner in

@@ -112,7 +112,7 @@ deep left k w none kept = omega arith
 deep left k w (one plain rest) kept = omega (arith, plain_flat plain, deep left k w rest kept)
 deep left k true (count less rest) kept = absurd cc
 deep left k false (count less rest) kept = omega (arith, deep left k true rest kept)
-deep zero k w (list counted inner rest) kept = absurd cc
+deep zero k w (list form inner rest) kept = absurd cc
 deep (suc left) k w (list Counted inner rest) kept =
     let is = listed left Counted w inner rest kept in
     omega (arith, deep left (k + 1) false inner is.inside, deep (suc left) (k + 1 + lists_of inner) false rest is.others)

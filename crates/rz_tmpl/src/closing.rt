@@ -3,7 +3,7 @@
 ghost use Rattle.std.specs.Prelude.{◌≡◌};
 ghost use Rattle.rz_tmpl.specs.Parts.{closing_of};
 ghost use Rattle.rz_tmpl_entries.specs.Items.{count, list, none, one, Items};
-ghost use Rattle.rz_tmpl_entries.specs.declared.entry.CountForm.{CountForm};
+ghost use Rattle.rz_tmpl_entries.specs.declared.entry.CountForm.TheVariants.{Rows};
 
 use rz_tmpl_entries::{ListForm, Plain};
 
@@ -52,9 +52,9 @@ impl Closing {
         }
     }
 
-    /// With a count before them, of either kind.
+    /// With a count before them, of either form: both have one end.
     pub fn with_count(self) -> Closing
-        ensures { (form : CountForm) (rest : Items) → self ≡ closing_of rest → result ≡ closing_of (count form rest) }
+        ensures { (rest : Items) → self ≡ closing_of rest → result ≡ closing_of (count Rows rest) }
     {
         Closing {
             fixed: false,

@@ -10,6 +10,7 @@ use Rattle.rz_expr.specs.declared.value.EvalFault.{EvalFault}
 use Rattle.rz_tmpl.proofs.Closed.{list_key}
 use Rattle.rz_tmpl.specs.Body.{count_field, field_of, rows_term}
 use Rattle.rz_tmpl_entries.specs.Entry.{takes}
+use Rattle.rz_tmpl_entries.specs.declared.entry.CountForm.{CountForm}
 use Rattle.rz_tmpl_entries.specs.declared.entry.Plain.{Plain}
 use Rattle.rz_tmpl_entries.specs.declared.entry.Plain.TheVariants as plain
 use Rattle.rz_tmpl_read.proofs.Bytes.{be_bits, be_small, AreSmall}

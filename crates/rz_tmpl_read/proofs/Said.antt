@@ -94,7 +94,7 @@ module _ (known : Facts) (bytes : List ℕ) (small : AreSmall bytes) where
         subst (λ (x : List Tree). (next : ℕ) × (rows_ahead rest x ≤ 65535) × IsThere bytes place (be 2 (stored_count less (rows_ahead rest x))) next × BodySays bytes rest x next more.0) (sym same)
             (first.2.0, first.1, first.2.2, more.2),
       )
-  said zero k w (list counted inner rest) names passed row place late after late_after kept ends few fresh is = no kept
+  said zero k w (list form inner rest) names passed row place late after late_after kept ends few fresh is = no kept
   said (suc left) k w (list Counted inner rest) names passed row place late after late_after kept ends few fresh (value, r, mid, late_mid, whole, (rows, some, stated, counted, are, lines), others) =
       let is = listed left Counted w inner rest kept in
       let body = body_from k (list Counted inner rest) in

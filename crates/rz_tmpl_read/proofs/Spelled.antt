@@ -63,7 +63,7 @@ own_ahead : (left k : ℕ) (items : Items) (row : List Tree) → is_kept left tr
 own_ahead left k none row kept ends = no_more ends
 own_ahead left k (one entry rest) row kept ends = own_ahead left k rest (if takes entry then drop 1 row else row) kept ends
 own_ahead left k (count less rest) row kept ends = no kept
-own_ahead zero k (list counted inner rest) row kept ends = no kept
+own_ahead zero k (list form inner rest) row kept ends = no kept
 own_ahead (suc left) k (list Counted inner rest) row kept ends =
     ap (λ (t : Bool). if t then Some (rows_first row) else own_rows (k + 1 + lists_of inner) rest (drop 1 row) (list_key k)) (same_list k)
 own_ahead (suc left) k (list Uncounted inner rest) row kept ends = own_ahead (suc left) (k + lists_of inner) rest (drop 1 row) (listed left Uncounted true inner rest kept).others ends
@@ -151,7 +151,7 @@ module _ (known : Facts) (bytes : List ℕ) (small : AreSmall bytes) (short : le
       let first = of_count known bytes small less n (rows_ahead rest row) names given here place late next rows_few there (omega (arith, inside, short)) in
       let more = spelled left k true rest names (behind (count_field less n) here) row next first.0 after kept ends few inside has others in
       (more.0, more.1, (None, row, 8 * next, first.0, refl, first.1, more.2))
-  spelled zero k w (list counted inner rest) names passed row place late after kept ends few within has is = no kept
+  spelled zero k w (list form inner rest) names passed row place late after kept ends few within has is = no kept
   spelled (suc left) k w (list Counted inner rest) names passed row place late after kept ends few within has (rows, r, next, whole, lines, others) =
       let is = listed left Counted w inner rest kept in
       let here = at_field (body_from k (list Counted inner rest)) passed in

@@ -12,7 +12,7 @@ ghost use Rattle.rz_tools_output.specs.List.{AnswersList};
 use crate::reply::{Reply, planned};
 use rz_core::Halt;
 use rz_folder::Folder;
-use rz_tools_output::{DetWords, halted, read_list};
+use rz_tools_output::{DetWords, plan_halted, read_list};
 use std::alloc::Global;
 use std::convert::Infallible;
 
@@ -30,6 +30,6 @@ pub fn answer_list<F: Folder>(
 {
     match read_list(alloc, folder, words) {
         Ok(text) => Ok(Reply::List(text)),
-        Err(halt) => planned(halted(alloc, halt)),
+        Err(halt) => planned(plan_halted(alloc, halt)),
     }
 }

@@ -9,7 +9,7 @@ use Rattle.rz_bridge_files.specs.Faults.{or_broken, or_torn}
 use Rattle.rz_bridge_form.specs.Forms.{content_of}
 use Rattle.rz_bridge_form.specs.declared.form.Form.{Form}
 use Rattle.rz_core.proofs.Once.{ok}
-use Rattle.rz_core.specs.Stop.{◌>>=◌, halt_of, seen, Gives, Yields}
+use Rattle.rz_core.specs.Stop.{◌>>=◌, halt_of, Gives, Yields}
 use Rattle.rz_core.specs.declared.fault.Fault.{Fault}
 use Rattle.rz_core.specs.declared.stop.Halt.{Halt}
 use Rattle.rz_core.specs.declared.stop.Stop.{Stop}
@@ -22,7 +22,6 @@ use Rattle.rz_fork.specs.declared.fault.ForkFault.{ForkFault}
 use Rattle.rz_list.proofs.Parted.{contents_are}
 use Rattle.rz_list.specs.Held.{text_of, IsWhole}
 use Rattle.rz_list.specs.Text.{file_text}
-use Rattle.rz_list.specs.declared.text.FileText.{FileText}
 use Rattle.rz_tools_output.specs.Det.{DetAsked}
 use Rattle.rz_tools_output.specs.List.{listed_in, listed_of}
 

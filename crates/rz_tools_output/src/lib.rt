@@ -23,7 +23,7 @@ mod target;
 pub use base::{Base, Beginning, all_short, read_base, read_held};
 pub use bridge::{BridgeWords, plan_bridge};
 pub use det::{DetWords, plan_det};
-pub use halted::halted;
+pub use halted::halted as plan_halted;
 pub use list::read_list;
 pub use output::write_output;
 pub use target::Target;

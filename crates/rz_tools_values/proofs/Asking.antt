@@ -1,7 +1,8 @@
 -- What one part or argument asks for, all of them ask for; and what is asked for within one, it asks for.
-use Rattle.std.proofs.Common.{◌≡◌, ℕ, List, [], ◌∷◌, ◌++◌, inl, inr, sym, ap, subst, ◌∙◌}
+use Rattle.std.proofs.Common.{◌≡◌, ◌<◌, ◌≤◌, ℕ, List, [], ◌∷◌, ◌++◌, inl, inr, sym, ap, subst, ◌∙◌, arith}
 use Rattle.std.specs.Global.{Box}
-use Rattle.std.specs.Prelude.{box_value}
+use Rattle.std.specs.Prelude.{box_value, max}
+use denote.Param.Weighed.{most, most-append}
 use Rattle.rz_types_fields.specs.Text.{argument_step, arguments_of, format_step, key_step, part_step, plain_argument, plain_arguments, plain_key, plain_part, plain_parts, resource_step, FileResource, Format, PlainArgument, PlainKey, PlainPart}
 use Rattle.rz_types_fields.specs.declared.text.FileResource as resources
 use Rattle.rz_types_fields.specs.declared.text.Format as formats
@@ -9,7 +10,7 @@ use Rattle.rz_types_fields.specs.declared.text.FormatArg.{FormatArg}
 use Rattle.rz_types_fields.specs.declared.text.FormatArg.TheFolds.{fold_out-FileResource, fold_out-Format, fold-roll-TextPart}
 use Rattle.rz_types_fields.specs.declared.text.FormatArg.TheOpen.{TextPart-F}
 use Rattle.rz_types_fields.specs.declared.text.FormatArg.TheVariants as arguments
-use Rattle.rz_types_fields.specs.declared.text.FormatArg.TheViews.{out-FileResource, out-Format}
+use Rattle.rz_types_fields.specs.declared.text.FormatArg.TheViews.{out-FileResource, out-Format, size-FormatArg, size-TextPart, size_is-Format, sized-Format}
 use Rattle.rz_types_fields.specs.declared.text.TextPart.{TextPart}
 use Rattle.rz_types_fields.specs.declared.text.TextPart.TheVariants as parts
 use Rattle.rz_types_fields.specs.declared.text.TextPart.TheVariants.{rolls-FileResource, rolls-Format}
@@ -57,3 +58,19 @@ module _ (part : TextPart) where
 pub text_asks : (argument : FormatArg) (texts : List TextPart) → argument ≡ arguments.Text texts
     → (own : List ℕ) → TextsAsk (plain_parts texts) own → ArgumentAsks (plain_argument argument) own
 text_asks argument texts is own asks = subst (λ (one : PlainArgument). ArgumentAsks one own) (sym (ap plain_argument is ∙ text_is texts)) asks
+
+-- How deep they lie.
+
+pub within : {A : Type 0} (size : A → ℕ) (before rest all : List A) (one : A) → all ≡ before ++ one ∷ rest → size one ≤ most size all
+within size before rest all one is =
+    let parts : most size all ≡ max (most size before) (max (size one) (most size rest)) = ap (most size) is ∙ most-append size before (one ∷ rest) in
+    omega (arith, parts)
+
+pub part_within : (before rest all : List TextPart) (one : TextPart) → all ≡ before ++ one ∷ rest → size-TextPart one ≤ most size-TextPart all
+part_within = within size-TextPart
+
+pub argument_within : (before rest all : List FormatArg) (one : FormatArg) → all ≡ before ++ one ∷ rest → size-FormatArg one ≤ most size-FormatArg all
+argument_within = within size-FormatArg
+
+pub format_within : (part : TextPart) (format : Box formats.Format) → part ≡ parts.Format format → most size-FormatArg (out-Format (box_value format)).arguments < size-TextPart part
+format_within part format is = omega (arith, ap size-TextPart is, sized-Format format, size_is-Format (box_value format))

@@ -27,15 +27,15 @@ name_of mark known None = Ok []
 name_of mark known (Some parts) = bytes_of mark known parts >>= short_name mark
 
 -- a number that sets all eight bits is from 0 to 255: 207
-abbrev pub byte_of : Mark → ℤ → Result ℕ Fault
-byte_of mark (pos value) = if nat_lt 255 value then Err (keeps_number 207 mark (pos value)) else Ok value
-byte_of mark (negsuc n) = Err (keeps_number 207 mark (negsuc n))
+abbrev pub attr_of : Mark → ℤ → Result ℕ Fault
+attr_of mark (pos value) = if nat_lt 255 value then Err (keeps_number 207 mark (pos value)) else Ok value
+attr_of mark (negsuc n) = Err (keeps_number 207 mark (negsuc n))
 
 -- the bits after an attribute
 abbrev pub bits_behind : Mark → Facts → ℕ → Attribute → Result ℕ Fault
 bits_behind mark known byte (Set bit) = Ok (bit_or byte bit)
 bits_behind mark known byte (Clear bit) = Ok (bit_and byte (255 - bit))
-bits_behind mark known byte (Value term) = number_of mark known term >>= byte_of mark
+bits_behind mark known byte (Value term) = number_of mark known term >>= attr_of mark
 
 -- and after several, from left to right
 abbrev pub bits_behind_all : Mark → Facts → ℕ → List Attribute → Result ℕ Fault

@@ -4,7 +4,7 @@ ghost use Rattle.std.specs.Prelude.{◌≡◌, ◌<◌, ℕ, true, length, map, 
 ghost use Rattle.rz_core.specs.Message.{IsNameable, is_fault};
 ghost use Rattle.rz_core.specs.Stop.{Gives, OnFault};
 ghost use Rattle.rz_stmt_data.specs.Head.{attribute_of, head_of};
-ghost use Rattle.rz_tools_values.specs.Head.{bits_behind, bits_behind_all, byte_of, facts_of, head_facts, id_of, keeps_number, known_by_head, name_of};
+ghost use Rattle.rz_tools_values.specs.Head.{attr_of, bits_behind, bits_behind_all, facts_of, head_facts, id_of, keeps_number, known_by_head, name_of};
 ghost use Rattle.rz_types.specs.Text.{plain_parts};
 
 use crate::setting::Setting;
@@ -137,13 +137,13 @@ fn bits_behind(
     match attribute {
         AttrPart::Set(bit) => Ok(attr.union(*bit)),
         AttrPart::Clear(bit) => Ok(attr.difference(*bit)),
-        AttrPart::Value(expr) => byte_of(number_of(alloc, expr, mark, facts)?, mark),
+        AttrPart::Value(expr) => attr_of(number_of(alloc, expr, mark, facts)?, mark),
     }
 }
 
 /// The attributes whose byte a value is.
-fn byte_of(value: i32, mark: Mark) -> Result<Attr, Stop<Fault>>
-    ensures byte { Gives (byte_of mark value) result }
+fn attr_of(value: i32, mark: Mark) -> Result<Attr, Stop<Fault>>
+    ensures byte { Gives (attr_of mark value) result }
     ensures nameable { (files : ℕ) → mark.file < files → OnFault result (IsNameable files) }
 {
     if 0 <= value && value <= 255 {

@@ -174,7 +174,7 @@ module _ (scope : Own) (sight : Sight) (around : GivesNumbers scope.around sight
 
 pub known_there : (scope : Own) (sight : Sight) (term : Term) → GivesNumbers scope.around sight.names → FillsRows sight.names → unknown_name scope term ≡ None
     → all_known (met_in sight.names) (met_in sight.names) term ≡ true → NamesNothing (value_of term sight)
-known_there scope sight term around fills none all = there scope sight around fills term (all_there scope term none) all
+known_there scope sight term numbers fills none all = there scope sight numbers fills term (all_there scope term none) all
 
 -- Names.
 

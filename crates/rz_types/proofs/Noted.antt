@@ -1,16 +1,17 @@
 -- What notes tell, one more at a time, and the fields that can be read after them.
-use Rattle.std.proofs.Common.{◌≡◌, ℕ, ◌+◌, ◌-◌, ◌<◌, Bool, true, false, ◌&&◌, ◌||◌, List, [], ◌∷◌, ◌++◌, length, get_or, take, map, refl, sym, ap, ◌∙◌, arith}
-use Rattle.std.proofs.lemmas.List.{take_more}
+use Rattle.std.proofs.Common.{◌≡◌, ℕ, ◌+◌, ◌-◌, ◌<◌, Bool, true, false, ◌&&◌, ◌||◌, List, [], ◌∷◌, ◌++◌, length, get_or, take, drop, map, append_assoc, Some, refl, sym, ap, ◌∙◌, arith}
+use Rattle.std.proofs.lemmas.List.{drop_more, take_more}
 use Rattle.rz_expr.specs.Environment.{Key}
 use Rattle.rz_expr.specs.Term.{term_of}
 use Rattle.rz_expr.specs.declared.expr.Expr.{Expr}
 use Rattle.rz_types_fields.specs.Field.{case_and, no_cases, plain_body, PlainBody, PlainCases}
 use Rattle.rz_types_fields.specs.Solve.{is_same_key}
-use Rattle.rz_types_fields.specs.Passed.{at_field, at_front, between, is_known, is_near, nothing_passed, Passed}
+use Rattle.rz_types_fields.specs.Known.{Grew}
+use Rattle.rz_types_fields.specs.Passed.{at_field, at_front, behind_pieces, between, is_known, is_near, nothing_passed, told_by, Passed}
 use Rattle.rz_types_fields.specs.Piece.{fixed_integer, Piece}
 use Rattle.rz_types_fields.specs.declared.field.Field.{Field}
 use Rattle.rz_types.specs.Notes.{also_told, known, meeting, noted, noted_all, passed, telling}
-use Rattle.rz_types.specs.Readable.{are_cases_read, are_read, is_readable}
+use Rattle.rz_types.specs.Readable.{are_cases_read, are_pieces_read, are_read, is_number_read, is_readable}
 use Rattle.rz_types.specs.declared.passed.Note.{Note}
 use Rattle.rz_types.specs.declared.passed.Note.TheVariants as note_of
 
@@ -114,3 +115,27 @@ cases_at body before (case_and name row others) = ap (λ (read : Bool). are_read
 
 abbrev pub pieces_with : List Expr → List Piece
 pieces_with exprs = map fixed_integer (map term_of exprs)
+
+module _ (exprs : List Expr) (i : ℕ) (expr : Expr) (less : i < length exprs) (item : expr ≡ get_or exprs i expr) where
+  pieces_more : pieces_with (drop i exprs) ≡ fixed_integer (term_of expr) ∷ pieces_with (drop (i + 1) exprs)
+  pieces_more =
+      ap pieces_with (drop_more exprs i expr less) ∙ ap (λ (e : Expr). fixed_integer (term_of e) ∷ pieces_with (drop (i + 1) exprs)) (sym item)
+
+  -- the others are read after it, where it is
+  pub others_read : (outermost : Bool) (rest : PlainBody) (before after : Passed) (total : Bool) → is_number_read rest before (Some (term_of expr)) ≡ true
+      → after ≡ told_by (Some (term_of expr)) before → are_pieces_read outermost rest before (pieces_with (drop i exprs)) ≡ total
+      → are_pieces_read outermost rest after (pieces_with (drop (i + 1) exprs)) ≡ total
+  others_read outermost rest before after total read told is =
+      ap (λ (passed : Passed). are_pieces_read outermost rest passed (pieces_with (drop (i + 1) exprs))) told
+      ∙ ap (λ (test : Bool). test && are_pieces_read outermost rest (told_by (Some (term_of expr)) before) (pieces_with (drop (i + 1) exprs))) (sym read)
+      ∙ ap (are_pieces_read outermost rest before) (sym pieces_more) ∙ is
+
+  -- and so much is told by all of them
+  pub others_tell : (before after total : Passed) → after ≡ told_by (Some (term_of expr)) before → between (behind_pieces (pieces_with (drop i exprs)) before) ≡ total
+      → between (behind_pieces (pieces_with (drop (i + 1) exprs)) after) ≡ total
+  others_tell before after total told is =
+      ap (λ (passed : Passed). between (behind_pieces (pieces_with (drop (i + 1) exprs)) passed)) told
+      ∙ ap (λ (pieces : List Piece). between (behind_pieces pieces before)) (sym pieces_more) ∙ is
+
+pub grew_more : {A : Type 0} (a b c : List A) → Grew a b → Grew b c → Grew a c
+grew_more a b c one other = (one.0 ++ other.0, other.1 ∙ ap (λ (l : List _). l ++ other.0) one.1 ∙ append_assoc a one.0 other.0)

@@ -45,12 +45,12 @@ both_ways false false to from = refl
 
 -- what isn't known has a key
 keyed : (met known : Names) (one : Mention) → is_known_there met known one ≡ false → is_none (key_mentioned one) ≡ false
-keyed met known (alone name) no = refl
-keyed met known (indexed name) no = refl
-keyed met known (counted name) no = refl
-keyed met known (around name) no = absurd cc
-keyed met known (with_bits name) no = refl
-keyed met known (fact which) no = absurd cc
+keyed met known (alone name) is = refl
+keyed met known (indexed name) is = refl
+keyed met known (counted name) is = refl
+keyed met known (around name) is = absurd cc
+keyed met known (with_bits name) is = refl
+keyed met known (fact which) is = absurd cc
 
 none_in : (met known : Names) (all : List Mention)
     → is_none (option_and_then key_mentioned (find (λ one. not (is_known_there met known one)) all)) ≡ list_all (is_known_there met known) all

@@ -1,12 +1,12 @@
 -- Names that are found by where they stood first, with one more and with fewer.
-use Rattle.std.proofs.Common.{◌≡◌, ◌⊎◌, inl, inr, ⊎_elim, ℕ, zero, suc, Bool, true, false, ◌||◌, cond, List, [], ◌∷◌, ◌++◌, length, take, Option, Some, None, refl, sym, ap, subst, ◌∙◌, arith}
+use Rattle.std.proofs.Common.{◌≡◌, ◌⊎◌, inl, inr, ⊎_elim, ℕ, zero, suc, Bool, true, false, ◌||◌, cond, List, [], ◌∷◌, ◌++◌, length, map, take, Option, Some, None, refl, sym, ap, subst, ◌∙◌, arith}
 use Rattle.std.specs.HashMap.{get_by, HashMap}
 use Rattle.std.specs.Map.{lookup}
 use Rattle.std.specs.Option.{option_and_then, option_map_or}
-use Rattle.std.specs.Prelude.{slice_get}
+use Rattle.std.specs.Prelude.{if◌then◌else◌, slice_get}
 use Rattle.std.specs.Str.{bytes_eq, str_eq_ignore_ascii_case, str_to_ascii_lowercase}
 use Rattle.std.proofs.Math.Bool.{or-true}
-use Rattle.std.proofs.lemmas.List.{take_all}
+use Rattle.std.proofs.lemmas.List.{map-append, take_all}
 use Rattle.std.proofs.lemmas.List.Folds.{list_any-append}
 use Rattle.std.proofs.lemmas.Slice.Eq.{bytes_eq-Decides}
 use Rattle.rz_core.proofs.Tests.{by_test, or_false}
@@ -87,6 +87,15 @@ module _ (name : List ℕ) where
 
 -- Names that are found.
 
+take_map : {B : Type 0} (word : B → Word) (count : ℕ) (names : List B) → take count (map word names) ≡ map word (take count names)
+take_map word zero names = refl
+take_map word (suc count) [] = refl
+take_map word (suc count) (one ∷ names) = ap (λ (l : List Word). word one ∷ l) (take_map word count names)
+
+front : (names : List Word) (one : Word) → take (length names) (names ++ one ∷ []) ≡ names
+front [] one = refl
+front (first ∷ names) one = ap (λ (l : List Word). first ∷ l) (front names one)
+
 module _ {K S : Type 0} (bytes : K → List ℕ) where
   abbrev Found : HashMap K ℕ S → K → List Word → Type 0
   Found firsts key names = is_among (bytes key) names ≡ stands_at names (bytes key) (first_at bytes firsts key)
@@ -98,6 +107,18 @@ module _ {K S : Type 0} (bytes : K → List ℕ) where
   pub found_front : (firsts : HashMap K ℕ S) (names : List Word) (most : ℕ) → AreFound bytes firsts names → AreFound bytes firsts (take most names)
   found_front firsts names most found key count =
       ⊎_elim (λ same. subst (Found firsts key) (sym same) (found key count)) (λ same. subst (Found firsts key) (sym same) (found key most)) (take_less count most names)
+
+  -- a list that was cut, and one to which a name was appended or not
+  module _ {B : Type 0} (word : B → Word) where
+    pub found_cut : (firsts : HashMap K ℕ S) (old new : List B) (count : ℕ) → new ≡ take count old → AreFound bytes firsts (map word old) → AreFound bytes firsts (map word new)
+    found_cut firsts old new count is found =
+        subst (AreFound bytes firsts) (take_map word count old ∙ sym (ap (map word) is)) (found_front firsts (map word old) count found)
+
+    pub found_pushed : (firsts : HashMap K ℕ S) (old new : List B) (one : B) (ok : Bool) → new ≡ (if ok then old ++ one ∷ [] else old)
+        → AreFound bytes firsts (map word old ++ word one ∷ []) → AreFound bytes firsts (map word new)
+    found_pushed firsts old new one true is more = subst (AreFound bytes firsts) (sym (ap (map word) is ∙ map-append word old (one ∷ []))) more
+    found_pushed firsts old new one false is more =
+        subst (AreFound bytes firsts) (front (map word old) (word one) ∙ sym (ap (map word) is)) (found_front firsts (map word old ++ word one ∷ []) (length (map word old)) more)
 
   -- the same entries
   pub found_same : (old new : HashMap K ℕ S) (names : List Word) → new.entries ≡ old.entries → AreFound bytes old names → AreFound bytes new names

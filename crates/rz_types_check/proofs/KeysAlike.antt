@@ -38,12 +38,12 @@ each_place key first (one ∷ keys) alike = (ap (λ (distance : Option ℕ). dif
 pub width_is : (key : CaseKey) (keys : List CaseKey) (first : CaseKey) → AreAlike keys → slice_get keys 0 ≡ Some first → list_any (has_other_width key) keys ≡ has_other_width key first
 width_is key [] first alike is = absurd cc
 width_is key (one ∷ keys) first alike is =
-    any_of (has_other_width key) (has_other_width key one) keys (each_width key one keys alike) ∙ ap (has_other_width key) (same_Some one first is)
+    any_of (has_other_width key) (has_other_width key one) keys (each_width key one keys (alike one refl).1) ∙ ap (has_other_width key) (same_Some one first is)
 
 pub place_is : (key : CaseKey) (keys : List CaseKey) (first : CaseKey) → AreAlike keys → slice_get keys 0 ≡ Some first → list_any (has_other_place key) keys ≡ has_other_place key first
 place_is key [] first alike is = absurd cc
 place_is key (one ∷ keys) first alike is =
-    any_of (has_other_place key) (has_other_place key one) keys (each_place key one keys alike) ∙ ap (has_other_place key) (same_Some one first is)
+    any_of (has_other_place key) (has_other_place key one) keys (each_place key one keys (alike one refl).1) ∙ ap (has_other_place key) (same_Some one first is)
 
 pub none_there : (test : CaseKey → Bool) (keys : List CaseKey) → slice_get keys 0 ≡ None → list_any test keys ≡ false
 none_there test [] is = refl
@@ -82,13 +82,17 @@ all_push P [] key all own = (own, tt)
 all_push P (one ∷ keys) key all own = (all.0, all_push P keys key all.1 own)
 
 pub alike_more : (key : CaseKey) (before : List CaseKey) → AreAlike before → key_rule (key ∷ []) before ≡ None → AreAlike (before ++ key ∷ [])
-alike_more key [] alike none = tt
-alike_more key (first ∷ keys) alike none =
-    let are = kept key (first ∷ keys) none in
-    let width = or_false (has_other_width key first) (list_any (has_other_width key) keys) are.width in
-    let place = or_false (has_other_place key first) (list_any (has_other_place key) keys) are.place in
-    all_push (IsLike first) keys key alike
-    (eqb-true key.width first.width (not_false (key.width == first.width) width.0), same_place key.distance first.distance place.0)
+alike_more key [] alike none first is =
+    let same : key ≡ first = same_Some key first is in ((ap (λ (one : CaseKey). one.width) same, ap (λ (one : CaseKey). one.distance) same), tt)
+alike_more key (one ∷ keys) alike none first is =
+    let same : one ≡ first = same_Some one first is in
+    let are = kept key (one ∷ keys) none in
+    let width = or_false (has_other_width key one) (list_any (has_other_width key) keys) are.width in
+    let place = or_false (has_other_place key one) (list_any (has_other_place key) keys) are.place in
+    all_push (IsLike first) (one ∷ keys) key (alike first is) (
+      eqb-true key.width one.width (not_false (key.width == one.width) width.0) ∙ ap (λ (k : CaseKey). k.width) same,
+      same_place key.distance one.distance place.0 ∙ ap (λ (k : CaseKey). k.distance) same,
+    )
 
 turned : (a b : Bool) → (a || b) ≡ (b || (a || false))
 turned true true = refl

@@ -1,5 +1,5 @@
 -- What the code holds of the keys of the cases of a switch.
-use Rattle.std.specs.Prelude.{◌≡◌, ℕ, ◌==◌, List, [], ◌∷◌}
+use Rattle.std.specs.Prelude.{◌≡◌, ℕ, ◌==◌, List, Some, slice_get}
 use Rattle.std.specs.List.{list_any, AllByRecursion}
 use Rattle.rz_types_fields.specs.declared.keys.CaseKey.{CaseKey}
 
@@ -9,8 +9,7 @@ IsLike first key = (key.width ≡ first.width) × (key.distance ≡ first.distan
 
 -- all have the width and the distance of the first
 abbrev pub AreAlike : List CaseKey → Type 0
-AreAlike [] = Unit {0}
-AreAlike (first ∷ keys) = AllByRecursion (IsLike first) keys
+AreAlike keys = (first : CaseKey) → slice_get keys 0 ≡ Some first → AllByRecursion (IsLike first) keys
 
 -- these are the bits of the keys
 abbrev pub HaveBits : List ℕ → List CaseKey → Type 0

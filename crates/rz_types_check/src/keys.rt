@@ -2,6 +2,7 @@
 
 ghost use Rattle.std.specs.Prelude.{◌≡◌, ◌++◌, [], ◌∷◌, None, OnOk};
 ghost use Rattle.std.specs.List.{list_any};
+ghost use Rattle.std.proofs.Props.{props};
 ghost use Rattle.rz_types.specs.Rules.{differ, has_other_place, has_other_width, has_same_bits, key_rule};
 ghost use Rattle.rz_types_check.specs.Keys.{AreAlike, HaveBits};
 
@@ -17,7 +18,7 @@ pub struct Keys {
     pub list: Vec<CaseKey>,
     /// Their bits.
     bits: HashSet<u32>,
-    ghost alike: { AreAlike list.items },
+    ghost alike: { AreAlike list.items } by { Prim.hlevel props },
     ghost held: { HaveBits bits.keys list.items },
 }
 

@@ -61,7 +61,7 @@ impl<'a> NameList<'a> {
 
 /// Whether a name stands among these at the position that is held for it.
 fn stands(firsts: &Firsts<'_>, list: &[&Word], name: &Word) -> bool
-    ensures { result ≡ stands_at (map (λ one. one.now) list.now) name.now.bytes (first_at (λ key. key.0.now.bytes) firsts.now (record { 0 = name })) }
+    ensures { result ≡ stands_at (map (λ one. one.now) list.now) name.now.bytes (first_at (λ key. key.0.now.bytes) firsts.now (record { 0 = name.entry })) }
 {
     match firsts.get(&Folded(name)) {
         Some(first) => is_at(list, *first, name),

@@ -80,26 +80,35 @@ more_if : (b : Bool) (list : List ℕ) (position : ℕ) → (if b then list ++ p
 more_if true list position = refl
 more_if false list position = sym (append-nil list)
 
-module _ {A S : Type 0} (before after : HashMap (ℕ × Option ℤ) (Vec ℕ A) S) (group : ℕ × Option ℤ) (own : Vec ℕ A)
-    (updates : (other : ℕ × Option ℤ) → get same_group after other ≡ cond (same_group group other) (Some own) (get same_group before other)) where
-  put_by : (change : List ℕ → List ℕ) → own.items ≡ change (held group before) → (other : ℕ × Option ℤ) (b : Bool) → same_group group other ≡ b
-      → option_map_or (λ (own : Vec ℕ A). own.items) (cond b (Some own) (get same_group before other)) [] ≡ (if b then change (held other before) else held other before)
-  put_by change is other true same = is ∙ ap (λ (g : ℕ × Option ℤ). change (held g before)) (group_is group other same)
-  put_by change is other false same = refl
+module _ {A S : Type 0} (before : HashMap (ℕ × Option ℤ) (Vec ℕ A) S) (group : ℕ × Option ℤ) (own : Vec ℕ A) (other : ℕ × Option ℤ) where
+  abbrev items_of : Option (Vec ℕ A) → List ℕ
+  items_of found = option_map_or (λ (own : Vec ℕ A). own.items) found []
 
-  put_at : (change : List ℕ → List ℕ) → own.items ≡ change (held group before) → (other : ℕ × Option ℤ)
-      → held other after ≡ (if same_group group other then change (held other before) else held other before)
-  put_at change is other =
-      ap (λ (o : Option (Vec ℕ A)). option_map_or (λ (own : Vec ℕ A). own.items) o []) (updates other)
-      ∙ put_by change is other (same_group group other) refl
+  put_by : (change : List ℕ → List ℕ) → own.items ≡ change (held group before) → (b : Bool) → same_group group other ≡ b
+      → items_of (cond b (Some own) (get same_group before other)) ≡ (if b then change (held other before) else held other before)
+  put_by change is true same = is ∙ ap (λ (g : ℕ × Option ℤ). change (held g before)) (group_is group other same)
+  put_by change is false same = refl
+
+  put_at : (found : Option (Vec ℕ A)) (change : List ℕ → List ℕ) → found ≡ cond (same_group group other) (Some own) (get same_group before other)
+      → own.items ≡ change (held group before) → items_of found ≡ (if same_group group other then change (held other before) else held other before)
+  put_at found change updates is = ap items_of updates ∙ put_by change is (same_group group other) refl
 
   -- one position more
-  pub held_more : (position : ℕ) → own.items ≡ held group before ++ position ∷ [] → (other : ℕ × Option ℤ)
-      → held other after ≡ held other before ++ (if same_group group other then position ∷ [] else [])
-  held_more position is other =
-      put_at (λ (l : List ℕ). l ++ position ∷ []) is other ∙ more_if (same_group group other) (held other before) position
+  pub held_more : (found : Option (Vec ℕ A)) (position : ℕ) → found ≡ cond (same_group group other) (Some own) (get same_group before other)
+      → own.items ≡ held group before ++ position ∷ [] → items_of found ≡ held other before ++ (if same_group group other then position ∷ [] else [])
+  held_more found position updates is =
+      put_at found (λ (l : List ℕ). l ++ position ∷ []) updates is ∙ more_if (same_group group other) (held other before) position
 
   -- one position less
-  pub held_less : (index : ℕ) → own.items ≡ remove (held group before) index → (other : ℕ × Option ℤ)
-      → held other after ≡ (if same_group group other then remove (held other before) index else held other before)
-  held_less index is other = put_at (λ (l : List ℕ). remove l index) is other
+  pub held_less : (found : Option (Vec ℕ A)) (index : ℕ) → found ≡ cond (same_group group other) (Some own) (get same_group before other)
+      → own.items ≡ remove (held group before) index → items_of found ≡ (if same_group group other then remove (held other before) index else held other before)
+  held_less found index updates is = put_at found (λ (l : List ℕ). remove l index) updates is
+
+  -- as many
+  pub held_same : (found : Option (Vec ℕ A)) → found ≡ cond (same_group group other) (Some own) (get same_group before other)
+      → own.items ≡ held group before → items_of found ≡ held other before
+  held_same found updates is = put_at found (λ (l : List ℕ). l) updates is ∙ either (same_group group other)
+    where
+      either : (b : Bool) → (if b then held other before else held other before) ≡ held other before
+      either true = refl
+      either false = refl

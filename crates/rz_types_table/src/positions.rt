@@ -53,11 +53,16 @@ pub fn add(
     ensures ok { OnOk result ((other : ℕ × Option ℤ) → held other places.new ≡ held other places.old ++ (if same_group group other then position ∷ [] else [])) }
     ensures err { OnErr result ((other : ℕ × Option ℤ) → held other places.new ≡ held other places.old) }
 {
-    places
-        .entry(group)?
-        .or_insert(Vec::new(alloc))
-        .push(position)?;
-    Ok(())
+    match places.get_mut(&group) {
+        Some(own) => {
+            own.push(position)?;
+            Ok(())
+        }
+        None => {
+            places.insert(group, vec![in alloc; position]?)?;
+            Ok(())
+        }
+    }
 }
 
 /// Takes the position at this index out of those of its group, and gives it.

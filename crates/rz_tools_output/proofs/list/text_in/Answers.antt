@@ -1,4 +1,4 @@
-use Rattle.std.proofs.Common.{◌≡◌, ap, ◌∙◌}
+use Rattle.std.proofs.Common.{ap, ◌∙◌}
 use Rattle.std.proofs.lemmas.Result.{err_from_is_err_and}
 use Rattle.rz_bridge_files.specs.Contents.{form_or}
 use Rattle.rz_tools_output.proofs.Telling.{is_whole, listed_refused, listed_told, listed_torn}

@@ -1,7 +1,8 @@
-use Rattle.std.proofs.Common.{◌≡◌, List, [], ◌∷◌, ◌++◌, Ok, Err, sym, ap, subst, ◌∙◌, append_assoc}
+use Rattle.std.proofs.Common.{◌≡◌, List, [], ◌∷◌, ◌++◌, Ok, Err, sym, ap, subst, ◌∙◌, append_assoc, arith}
 use Rattle.std.proofs.lemmas.List.{map-append, nil_from_length}
 use Rattle.rz_folder.proofs.Allowed.{may_read_after}
 use Rattle.rz_folder.proofs.Reading.{reads_on}
+use Rattle.rz_folder.specs.MayRead.{MayRead}
 use Rattle.rz_folder_paths.specs.Names.{LooksFor}
 use Rattle.rz_types_fields.specs.Text.{plain_parts}
 use Rattle.rz_stmt_items.specs.Item.{plain_item, plain_items}
@@ -12,7 +13,7 @@ use Rattle.rz_folder_paths.proofs.Looking.{may_look_fewer}
 use Rattle.rz_pre.proofs.Going.{at_some}
 use Rattle.rz_tools_resource.specs.Asked.{ItemAsks, ItemsAsk}
 use Rattle.rz_tools_values.specs.Asked.{TextsAsk}
-use Rattle.rz_tools_resource.proofs.Asking.{item_asks, list_asks, named_asks, text_asks}
+use Rattle.rz_tools_resource.proofs.Asking.{inner_deeper, item_asks, item_within, list_asks, named_asks, named_deeper, text_asks}
 use Rattle.rz_tools_resource.specs.Items.{item_given, item_read, items_given, items_read}
 use Rattle.rz_core.proofs.Stops.{halt_so}
 use Rattle.rz_tools_resource.proofs.Reading.{all_made, list_read, list_within, named_read, named_within, one_fault, one_made, within_more, Leads}
@@ -23,10 +24,13 @@ use Rattle.rz_tools_resource.proofs.items.+items.Goals as goal
 pub read_items-read_item-requires : goal.read_items-read_item-requires
 read_items-read_item-requires g t c =
     let loop = c.loop-item in
+    let items : c.args.items ≡ loop.yielded ++ c.in-Some.item ∷ c.next.new.self.rest.items =
+    loop.invariant.rest ∙ ap (λ (l : List Item). loop.yielded ++ l) c.in-Some.ensures.steps.0 in
+    let may : MayRead g.F.Folder loop.folder (LooksFor c.args.paths.now (ItemAsks (plain_item c.in-Some.item))) =
     may_look_fewer g.F.Folder c.args.paths.now (ItemsAsk (plain_items c.args.items)) (ItemAsks (plain_item c.in-Some.item))
     (may_read_after g.F.Folder loop.invariant.reads (LooksFor c.args.paths.now (ItemsAsk (plain_items c.args.items))) c.requires)
-    (λ own asks. subst (λ (l : List Item). ItemsAsk (plain_items l) own) (sym (loop.invariant.rest ∙ ap (λ (l : List Item). loop.yielded ++ l) c.in-Some.ensures.steps.0))
-    (item_asks loop.yielded c.in-Some.item c.next.new.self.rest.items own asks))
+    (λ own asks. subst (λ (l : List Item). ItemsAsk (plain_items l) own) (sym items) (item_asks loop.yielded c.in-Some.item c.next.new.self.rest.items own asks)) in
+    λ κs below. (let within = item_within loop.yielded c.next.new.self.rest.items c.args.items c.in-Some.item items in omega (arith, c.decreases, within), (below, may))
 
 pub read_item-read_texts-requires : goal.read_item-read_texts-requires
 read_item-read_texts-requires g t c =
@@ -35,13 +39,17 @@ read_item-read_texts-requires g t c =
 
 pub read_item-read_items-requires : goal.read_item-read_items-requires
 read_item-read_items-requires g t c =
+    let may : MayRead g.F.Folder c.args.folder.now (LooksFor c.args.paths.now (ItemsAsk (plain_items c.in-List.items))) =
     may_look_fewer g.F.Folder c.args.paths.now (ItemAsks (plain_item c.args.item)) (ItemsAsk (plain_items c.in-List.items)) c.requires
-    (list_asks c.args.item c.in-List.items c.in-List.place c.in-List.is)
+    (list_asks c.args.item c.in-List.items c.in-List.place c.in-List.is) in
+    λ κs below. (let within = inner_deeper c.args.item c.in-List.items c.in-List.place c.in-List.is in omega (arith, c.decreases, within), (below, may))
 
-pub read_item-read_items-requires-2 : goal.read_item-read_items-requires-2
-read_item-read_items-requires-2 g t c =
+pub read_item-read_items-requires-in-Named : goal.read_item-read_items-requires-in-Named
+read_item-read_items-requires-in-Named g t c =
+    let may : MayRead g.F.Folder c.args.folder.now (LooksFor c.args.paths.now (ItemsAsk (plain_items c.in-Named.items))) =
     may_look_fewer g.F.Folder c.args.paths.now (ItemAsks (plain_item c.args.item)) (ItemsAsk (plain_items c.in-Named.items)) c.requires
-    (named_asks c.args.item c.in-Named.name c.in-Named.items c.in-Named.place c.in-Named.is)
+    (named_asks c.args.item c.in-Named.name c.in-Named.items c.in-Named.place c.in-Named.is) in
+    λ κs below. (let within = named_deeper c.args.item c.in-Named.name c.in-Named.items c.in-Named.place c.in-Named.is in omega (arith, c.decreases, within), (below, may))
 
 pub read_items-loop-item-preserved : goal.read_items-loop-item-preserved
 read_items-loop-item-preserved g t c =

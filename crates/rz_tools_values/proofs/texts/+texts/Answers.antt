@@ -1,21 +1,24 @@
-use Rattle.std.proofs.Common.{List, [], ◌∷◌, ◌++◌, map, sym, ap, subst, ◌∙◌, append_assoc}
+use Rattle.std.proofs.Common.{◌≡◌, List, [], ◌∷◌, ◌++◌, map, sym, ap, subst, ◌∙◌, append_assoc, arith}
+use denote.Param.Weighed.{most}
 use Rattle.std.proofs.lemmas.List.{map-append, nil_from_length}
 use Rattle.std.proofs.lemmas.Option.{IfSome_then}
 use Rattle.rz_core.proofs.SoFar.{so_far}
 use Rattle.rz_types_fields.specs.Text.{argument_and, arguments_of, plain_argument, plain_arguments, plain_part, plain_parts}
+use Rattle.rz_types_fields.specs.declared.text.FileResource.{FileResource}
 use Rattle.rz_types_fields.specs.declared.text.Format.{Format}
 use Rattle.rz_types_fields.specs.declared.text.FormatArg.{FormatArg}
-use Rattle.rz_types_fields.specs.declared.text.FormatArg.TheViews.{out-Format}
+use Rattle.rz_types_fields.specs.declared.text.FormatArg.TheViews.{out-FileResource, out-Format, size-FormatArg}
 use Rattle.rz_types_fields.specs.declared.text.TextPart.{TextPart}
 use Rattle.rz_folder.proofs.Allowed.{may_read_after}
 use Rattle.rz_folder.proofs.Reading.{reads_on}
+use Rattle.rz_folder.specs.MayRead.{MayRead}
 use Rattle.rz_folder_paths.specs.Names.{LooksFor}
 use Rattle.rz_folder_paths.proofs.Found.{if_some}
 use Rattle.rz_folder_paths.proofs.Looking.{may_look, may_look_fewer}
 use Rattle.rz_pre.proofs.Going.{at_some}
 use Rattle.rz_tools_values.specs.Texts.{argument_read, arguments_read, part_read, texts_read}
 use Rattle.rz_tools_values.specs.Asked.{ArgumentAsks, ArgumentsAsk, PartAsks, TextsAsk}
-use Rattle.rz_tools_values.proofs.Asking.{argument_asks, file_asked, format_asks, part_asks, resource_asked, text_asks}
+use Rattle.rz_tools_values.proofs.Asking.{argument_asks, argument_within, file_asked, format_asks, format_within, part_asks, part_within, resource_asked}
 use Rattle.rz_tools_values.proofs.TextsRead.{all_arguments, all_parts, text_halts, text_so}
 use Rattle.rz_tools_values.proofs.Turns.{turn_more}
 use Rattle.rz_tools_values.proofs.texts.+texts.Goals as goal
@@ -25,10 +28,13 @@ use Rattle.rz_tools_values.proofs.texts.+texts.Goals as goal
 pub read_texts-read_part-requires : goal.read_texts-read_part-requires
 read_texts-read_part-requires g t c =
     let loop = c.loop-part in
+    let parts : c.args.texts ≡ loop.yielded ++ c.in-Some.part ∷ c.next.new.self.rest.items =
+    loop.invariant.rest ∙ ap (λ (l : List TextPart). loop.yielded ++ l) c.in-Some.ensures.steps.0 in
+    let may : MayRead g.F.Folder loop.folder (LooksFor c.args.paths.now (PartAsks (plain_part c.in-Some.part))) =
     may_look_fewer g.F.Folder c.args.paths.now (TextsAsk (plain_parts c.args.texts)) (PartAsks (plain_part c.in-Some.part))
     (may_read_after g.F.Folder loop.invariant.reads (LooksFor c.args.paths.now (TextsAsk (plain_parts c.args.texts))) c.requires)
-    (λ own asks. subst (λ (l : List TextPart). TextsAsk (plain_parts l) own) (sym (loop.invariant.rest ∙ ap (λ (l : List TextPart). loop.yielded ++ l) c.in-Some.ensures.steps.0))
-    (part_asks loop.yielded c.in-Some.part c.next.new.self.rest.items own asks))
+    (λ own asks. subst (λ (l : List TextPart). TextsAsk (plain_parts l) own) (sym parts) (part_asks loop.yielded c.in-Some.part c.next.new.self.rest.items own asks)) in
+    λ κs below. (let within = part_within loop.yielded c.next.new.self.rest.items c.args.texts c.in-Some.part parts in omega (arith, c.decreases, within), (below, may))
 
 pub read_part-file_named-requires : goal.read_part-file_named-requires
 read_part-file_named-requires g t c =
@@ -38,26 +44,30 @@ read_part-file_named-requires g t c =
 pub read_part-resource_named-requires : goal.read_part-resource_named-requires
 read_part-resource_named-requires g t c =
     may_look g.F.Folder c.args.paths.now (PartAsks (plain_part c.args.part)) c.requires c.as_slice-name.result.now
-    (resource_asked c.args.part c.as_slice-name.result.now c.in-FileResource.asked c.in-FileResource.is c.as_slice-name.ensures)
+    (resource_asked c.args.part c.as_slice-name.result.now c.in-FileResource.asked c.in-FileResource.is
+    (c.as_slice-name.ensures ∙ ap (λ (asked : FileResource). (out-FileResource asked).file) c.deref.ensures))
 
 pub read_part-read_arguments-requires : goal.read_part-read_arguments-requires
 read_part-read_arguments-requires g t c =
-    may_look_fewer g.F.Folder c.args.paths.now (PartAsks (plain_part c.args.part)) (ArgumentsAsk (arguments_of (plain_arguments (out-Format c.into_inner-format.result).arguments))) c.requires
+    let arguments = (out-Format c.into_inner-format.result).arguments in
+    let may : MayRead g.F.Folder c.args.folder.now (LooksFor c.args.paths.now (ArgumentsAsk (arguments_of (plain_arguments arguments)))) =
+    may_look_fewer g.F.Folder c.args.paths.now (PartAsks (plain_part c.args.part)) (ArgumentsAsk (arguments_of (plain_arguments arguments))) c.requires
     (λ own asks. format_asks c.args.part c.in-Format.format c.in-Format.is own
-    (subst (λ (format : Format). ArgumentsAsk (arguments_of (plain_arguments (out-Format format).arguments)) own) c.into_inner-format.ensures asks))
+    (subst (λ (format : Format). ArgumentsAsk (arguments_of (plain_arguments (out-Format format).arguments)) own) c.into_inner-format.ensures asks)) in
+    let same = ap (λ (format : Format). most size-FormatArg (out-Format format).arguments) c.into_inner-format.ensures in
+    λ κs below. (let within = format_within c.args.part c.in-Format.format c.in-Format.is in omega (arith, c.decreases, within, same), (below, may))
 
 pub read_arguments-read_argument-requires : goal.read_arguments-read_argument-requires
 read_arguments-read_argument-requires g t c =
     let loop = c.loop-argument in
+    let arguments : c.args.arguments ≡ loop.yielded ++ c.in-Some.argument ∷ c.next.new.self.rest.items =
+    loop.invariant.rest ∙ ap (λ (l : List FormatArg). loop.yielded ++ l) c.in-Some.ensures.steps.0 in
+    let may : MayRead g.F.Folder loop.folder (LooksFor c.args.paths.now (ArgumentAsks (plain_argument c.in-Some.argument))) =
     may_look_fewer g.F.Folder c.args.paths.now (ArgumentsAsk (arguments_of (plain_arguments c.args.arguments))) (ArgumentAsks (plain_argument c.in-Some.argument))
     (may_read_after g.F.Folder loop.invariant.reads (LooksFor c.args.paths.now (ArgumentsAsk (arguments_of (plain_arguments c.args.arguments)))) c.requires)
-    (λ own asks. subst (λ (l : List FormatArg). ArgumentsAsk (arguments_of (plain_arguments l)) own) (sym (loop.invariant.rest ∙ ap (λ (l : List FormatArg). loop.yielded ++ l) c.in-Some.ensures.steps.0))
-    (argument_asks loop.yielded c.in-Some.argument c.next.new.self.rest.items own asks))
-
-pub read_argument-read_texts-requires : goal.read_argument-read_texts-requires
-read_argument-read_texts-requires g t c =
-    may_look_fewer g.F.Folder c.args.paths.now (ArgumentAsks (plain_argument c.args.argument)) (TextsAsk (plain_parts c.in-Text.texts)) c.requires
-    (text_asks c.args.argument c.in-Text.texts c.in-Text.is)
+    (λ own asks. subst (λ (l : List FormatArg). ArgumentsAsk (arguments_of (plain_arguments l)) own) (sym arguments)
+    (argument_asks loop.yielded c.in-Some.argument c.next.new.self.rest.items own asks)) in
+    λ κs below. (let within = argument_within loop.yielded c.next.new.self.rest.items c.args.arguments c.in-Some.argument arguments in omega (arith, c.decreases, within), (below, may))
 
 pub read_argument-returns-in-Ok-clause-read : goal.read_argument-returns-in-Ok-clause-read
 read_argument-returns-in-Ok-clause-read g t c = IfSome_then (g.F.Folder.files c.args.folder.now) c.in-Ok.ensures.read (λ files yields.

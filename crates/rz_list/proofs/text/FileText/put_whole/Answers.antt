@@ -1,5 +1,4 @@
-use Rattle.std.proofs.Common.{List, ap}
-use Rattle.rz_core.specs.declared.resource.Resource.{Resource}
+use Rattle.std.proofs.Common.{ap}
 use Rattle.rz_fork.specs.Contents.{Fork}
 use Rattle.rz_list.proofs.Parted.{contents_are}
 use Rattle.rz_list.proofs.Putting.{puts_as}
