@@ -62,11 +62,11 @@ use std::mem;
 /// 214 for a label comes first, its size's expression comes before its formats, and these before its size.
 ///
 /// Its time is in proportion to the fields that are laid, for each row those of its array, with their expressions and
-/// fixed texts, to the row and to the bytes; cases are looked up; a name in an expression counts as many times as
-/// there are fields in its body and in those around it, one with an index also as many times as there are fields in the
-/// rows of their arrays, counted once for each array, and a late number as many times as there are bodies around it. Beside the
-/// bytes it takes memory for what is noted of the bodies that are open, a note for each and one for each label and array in
-/// it; for the places of labels in rows, 4 bytes for each in each row, until the body of their array ends; for one fixed
+/// fixed texts, to the row and to the bytes; cases are looked up; a name in an expression counts once on average, but one
+/// with an index as many times as there are fields in the rows of the arrays of its body and of those around it, counted
+/// once for each array, and a late number as many times as there are bodies around it. Beside the bytes it takes memory for
+/// what is noted of the bodies that are open, a few notes for each label and array in each; for the places of labels in
+/// rows, 4 bytes for each in each row, until the body of their array ends; for one fixed
 /// text at a time; and for late numbers: a bit for each bit up to the last of them, each with its expression, and what was
 /// noted in the bodies that have names of their own, or are rows of an array that has one, where late numbers stand. (MPW
 /// Rez.)

@@ -5,6 +5,8 @@ pub mod SymbolWalks
 pub mod RowKeys
 pub mod RowPlaces
 pub mod Noting
+pub mod Positions
+pub mod Fronts
 pub mod Arithmetic
 pub mod Appending
 pub mod Bodies

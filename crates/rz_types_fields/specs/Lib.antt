@@ -18,3 +18,4 @@ pub mod Sees
 pub mod Spells
 pub mod Laid
 pub mod Known
+pub mod Newest

@@ -23,6 +23,7 @@ mod keys;
 mod lower;
 mod name_key;
 mod names;
+mod notes;
 mod place;
 mod range;
 mod stored;
@@ -42,7 +43,8 @@ pub use name_key::{
     Standing, counts_rows, declares, gives_key, has_label, is_label, is_predefined, is_same_key,
     standing_of, stands_at, states,
 };
-pub use names::{InRow, NamesEnv, Note, is_met, note_rows, value_noted};
+pub use names::{InRow, Note, note_front, note_rows};
+pub use notes::{NamesEnv, Notes, is_met, value_noted};
 pub use place::{TextPlace, may_say, may_stand};
 pub use range::{fits_number, may_be_size, own_width};
 pub use stored::{is_too_long, stored_number};

@@ -195,7 +195,7 @@ impl Reader<'_> {
         ensures met { IfOk result (λ found. IfSome found (λ m. met learnt.new.notes.items ≡ met_behind (plain_array array.now) (met learnt.old.notes.items))) }
         ensures grew { IfOk result (λ found. IfSome found (λ m. Grew learnt.old.notes.items learnt.new.notes.items)) }
     {
-        let notes = learnt.notes.as_slice();
+        let notes = &learnt.notes;
         let until = match until_of(self.view, &array.name, array.count, rest, notes) {
             Some(until) => until,
             None => return Ok(None),

@@ -24,7 +24,7 @@ use std::alloc::Global;
 /// tell of names is noted, and so are the places of labels and the late bits. `Ok(None)` where they aren't there or aren't
 /// stored so.
 ///
-/// A name is looked for from the newest note on, and then through the fields ahead in its body.
+/// A name that isn't noted is looked for through the fields ahead in its body.
 pub fn read_pieces<'a>(
     alloc: Global,
     spot: &Spot<'_>,

@@ -17,7 +17,7 @@ use crate::seen::SpotEnv;
 use crate::spot::Spot;
 use rz_core::NoMemory;
 use rz_expr::{Expr, Key, value_in};
-use rz_types_fields::{Note, TextField, is_met, text_expressions};
+use rz_types_fields::{Notes, TextField, is_met, text_expressions};
 use std::alloc::Global;
 
 /// The value of an expression, and whether a number with it is late.
@@ -44,7 +44,7 @@ pub fn value_at(expr: &Expr, spot: &Spot<'_>, learnt: &Learnt<'_>, at: u32) -> O
     match value_in(expr, &env) {
         Ok(value) => Some(Valued {
             value,
-            late: names_later(expr, learnt.notes.as_slice()),
+            late: names_later(expr, &learnt.notes),
         }),
         Err(_) => match value_with_late(expr, spot, learnt, at) {
             Some(value) => Some(Valued { value, late: true }),
@@ -70,8 +70,8 @@ fn value_with_late(expr: &Expr, spot: &Spot<'_>, learnt: &Learnt<'_>, at: u32) -
 }
 
 /// Whether an expression names a label that stands later.
-fn names_later(expr: &Expr, notes: &[Note<'_>]) -> bool
-    ensures { result ≡ names_later (met notes.now) (term_of expr.now) }
+fn names_later(expr: &Expr, notes: &Notes<'_>) -> bool
+    ensures { result ≡ names_later (met notes.now.items) (term_of expr.now) }
 {
     match expr {
         Expr::Number(_) | Expr::Count(_) | Expr::ArrayIndex(_) | Expr::Fact(_) => false,
@@ -128,7 +128,7 @@ fn is_late(expr: &Expr, spot: &Spot<'_>, learnt: &Learnt<'_>, at: u32) -> bool
         at,
     };
     match value_in(expr, &env) {
-        Ok(_) => names_later(expr, learnt.notes.as_slice()),
+        Ok(_) => names_later(expr, &learnt.notes),
         Err(_) => true,
     }
 }

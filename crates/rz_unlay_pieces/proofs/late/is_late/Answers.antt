@@ -11,7 +11,7 @@ use Rattle.rz_unlay_pieces.proofs.late.is_late.Goals as goal
 pub returns-in-Ok : goal.returns-in-Ok
 returns-in-Ok c =
     late_named (met c.args.learnt.now.notes.items) c.args.learnt.now.marks c.args.at (sight_at c.args.spot.now c.args.learnt.now c.args.at) (term_of c.args.expr.now) c.in-Ok.field-0 c.names_later.result c.in-Ok.ensures
-    (c.names_later.ensures ∙ ap (λ (ns : List Note). names_later (met ns) (term_of c.args.expr.now)) c.as_slice.ensures.value)
+    c.names_later.ensures
 
 pub returns-in-Err : goal.returns-in-Err
 returns-in-Err c =

@@ -17,7 +17,7 @@ returns-in-Ok-clause-value c =
 pub returns-in-Ok-clause-late : goal.returns-in-Ok-clause-late
 returns-in-Ok-clause-late c =
     late_named (met c.args.learnt.now.notes.items) c.args.learnt.now.marks c.args.at (sight_at c.args.spot.now c.args.learnt.now c.args.at) (term_of c.args.expr.now) c.in-Ok.value c.names_later.result c.in-Ok.ensures
-    (c.names_later.ensures ∙ ap (λ (ns : List Note). names_later (met ns) (term_of c.args.expr.now)) c.as_slice.ensures.value)
+    c.names_later.ensures
 
 pub returns-in-Some-clause-late : goal.returns-in-Some-clause-late
 returns-in-Some-clause-late c =

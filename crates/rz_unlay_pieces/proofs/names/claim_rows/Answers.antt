@@ -17,7 +17,7 @@ returns-in_ok-push-clause-known c =
     (λ other before. ap (λ (v : ℤ). if is_same_key (count_key c.args.name.now.bytes) other then Some v else before) same)
     (c.if-agrees.ensures
     ∙ ap (agrees c.value_noted.result) (to_z-of_z w128 c.from.result (search rules) ∙ c.from.ensures ∙ same)
-    ∙ ap (λ (o : Option ℤ). agrees o c.args.rows) (c.value_noted.ensures ∙ ap (λ (ns : List Note). (known ns).give (count_key c.args.name.now.bytes)) c.as_slice.ensures.value))
+    ∙ ap (λ (o : Option ℤ). agrees o c.args.rows) c.value_noted.ensures)
 
 pub returns-in_ok-push-clause-met : goal.returns-in_ok-push-clause-met
 returns-in_ok-push-clause-met c = λ holds. met_now c.args.learnt.now.notes.items _ _ c.in_ok-push.ensures.items

@@ -185,7 +185,7 @@ read_array-returns-in-None-2-clause-step t c =
     let late = marked c.args.at old.marks in
     let row = row_at c.args.self.now.facts.now all a.name (plain_body a.row) (met old.notes.items) names in
     let ends : Some c.in-Some.until ≡ until_of (length all) rest names (count_known names a.name a.count) =
-    c.in-Some.ensures ∙ (λ i. until_of (length all) rest (known (c.as_slice-notes.ensures.value i)) (count_known (known (c.as_slice-notes.ensures.value i)) a.name a.count)) in
+    c.in-Some.ensures in
     no_array a.name (plain_body a.row) names (rows_by row (length all) rest names (count_known names a.name a.count) c.args.at late) c.args.left
     (ap (option_map (lines_in c.read_rows.new.learnt)) (sym c.in-None-2.is) ∙ c.in_ok-came.ensures.rows
     ∙ ap (few lines_count c.args.left) (ends_known row (length all) rest names (count_known names a.name a.count) c.in-Some.until c.args.at late ends))
@@ -203,7 +203,7 @@ read_array-returns-clause-step t c =
     let came = c.in-Some-2.came in
     let new = c.claim_count.new.learnt in
     let ends : Some c.in-Some.until ≡ until_of (length all) rest names (count_known names a.name a.count) =
-    c.in-Some.ensures ∙ (λ i. until_of (length all) rest (known (c.as_slice-notes.ensures.value i)) (count_known (known (c.as_slice-notes.ensures.value i)) a.name a.count)) in
+    c.in-Some.ensures in
     let told_more = c.in_ok-learn_rows.ensures.known ∙ (λ i. also_rows (plain_body (c.as_slice.ensures i)) (c.len-count.ensures i) came.places.items (known new.notes.items)) in
     let marks = c.in_ok-learn_rows.ensures.marks ∙ c.in-Ok-true.ensures.marks in
     (λ i. Some (record { value = Some (trees.Rows came.rows); after = came.after; names = told_more i; late = marked came.after (marks i) }))
