@@ -1,5 +1,5 @@
 -- Names in expressions that have values.
-use Rattle.std.proofs.Common.{◌≡◌, ℕ, ℤ, pos, negsuc, Bool, true, false, ◌||◌, List, Option, Some, None, Result, Ok, Err, refl, sym, ap, ◌∙◌, arith}
+use Rattle.std.proofs.Common.{◌≡◌, ℕ, ℤ, pos, negsuc, Bool, true, false, ◌||◌, List, Option, Some, None, Result, Ok, Err, refl, sym, ap, arith}
 use Rattle.std.specs.Prelude.{◌+ℤ◌, ◌*ℤ◌, ◌^◌, [], ◌∷◌, ◌++◌, if◌then◌else◌, int_div, int_le, int_lt, int_rem, nat_lt, not, option_and_then}
 use Rattle.std.specs.Int.{int_shr}
 use Rattle.std.specs.List.{find, list_all, list_any}

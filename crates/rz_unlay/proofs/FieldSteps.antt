@@ -32,7 +32,6 @@ use Rattle.rz_unlay.specs.Fits.{AreFit, CasesFit, Fits}
 use Rattle.rz_unlay.specs.declared.came.RowCame.{RowCame}
 use Rattle.rz_unlay.specs.declared.came.RowsCame.{RowsCame}
 use Rattle.rz_unlay.specs.declared.rows.Until.{Until}
-use Rattle.rz_unlay.specs.declared.rows.Until.TheVariants as ends
 use Rattle.rz_types_fields.specs.Passed.{gives_count, gives_rows, met_behind, met_inside, Names}
 use Rattle.rz_types_fields.specs.Sees.{marked, Late}
 use Rattle.rz_unlay_pieces.specs.Seen.{met_counted, met_in_rows}

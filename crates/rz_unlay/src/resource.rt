@@ -55,7 +55,7 @@ pub fn read(
     ensures told { IfOk result (λ reading. Decided (IsTold facts.now (template_of template.now) bytes.now) (row_in reading)) }
     ensures every { (row : List Tree) → IsTold facts.now (template_of template.now) bytes.now row → IfOk result (λ reading. row_in reading ≡ Some row) }
     ensures row { IfOk result (λ reading. IfSome (row_in reading) (IsRow (template_of template.now))) }
-    ensures spelled { IfOk result (λ reading. IfSome (row_in reading) (λ row. Spells false facts.now (template_of template.now) row bytes.now)) }
+    ensures spelled { IfOk result (λ reading. IfSome (row_in reading) (λ row. Spells facts.now (template_of template.now) row bytes.now)) }
 {
     plain_rows_are_read();
     read_rows_are_plain();

@@ -3,10 +3,10 @@ use Rattle.std.specs.Option.{is_some}
 use Rattle.rz_expr.specs.Mention.{mentions}
 use Rattle.rz_expr.specs.Mentioned.{mention_of}
 use Rattle.rz_expr.specs.Term.{term_of}
+use Rattle.rz_expr.proofs.Items.{found_any, some_of}
 use Rattle.rz_types_fields.specs.Known.{known}
 use Rattle.rz_types_fields.specs.Laid.{met_in}
 use Rattle.rz_types_fields.specs.Sees.{is_later}
-use Rattle.rz_layout.proofs.Sees.{found_any, some_of}
 use Rattle.rz_layout.proofs.seen.names_later.Goals as goal
 
 pub returns : goal.returns
