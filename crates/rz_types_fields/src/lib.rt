@@ -40,8 +40,7 @@ pub use field::{
 pub use hints::{CaseHints, switch_of};
 pub use keys::{CaseKey, case_keys, fixed_width, fixed_widths, key_bits, sized_bytes, text_width};
 pub use name_key::{
-    Standing, counts_rows, declares, gives_key, has_label, is_label, is_predefined, is_same_key,
-    standing_of, stands_at, states,
+    Standing, declares, gives_key, is_label, is_predefined, is_same_key, standing_of, states,
 };
 pub use names::{InRow, Note, note_front, note_rows};
 pub use notes::{NamesEnv, Notes, is_met, value_noted};

@@ -7,7 +7,6 @@ ghost use Rattle.rz_bits.specs.View.{seen};
 ghost use Rattle.rz_expr.specs.Environment.{place_key};
 ghost use Rattle.rz_types_fields.specs.Field.{plain_body, plain_field};
 ghost use Rattle.rz_types_fields.specs.Known.{known};
-ghost use Rattle.rz_types_fields.specs.Passed.{is_label};
 ghost use Rattle.rz_types_fields.specs.Width.{capped, fixed_widths};
 ghost use Rattle.rz_unlay_pieces.specs.Ahead.{bytes_before, bytes_left, label_place, near_place, open_size, place_within, told_label};
 ghost use Rattle.rz_unlay_pieces.specs.Seen.{behind_capped, told_capped, told_of};
@@ -17,7 +16,7 @@ use crate::spot::Spot;
 use rz_bits::{BitView, missing};
 use rz_core::Word;
 use rz_expr::Key;
-use rz_types_fields::{Field, Notes, fixed_width, fixed_widths, stands_at, value_noted};
+use rz_types_fields::{Field, Notes, fixed_width, fixed_widths, is_label, value_noted};
 
 /// One bit more than the most bits of a resource.
 const TOO_MANY_BITS: u64 = 134_217_697;
@@ -97,7 +96,7 @@ pub fn near_place(fields: &[Field], first: u32, name: &Word, len: u32) -> Option
         if at > len {
             return None;
         }
-        if is_label(field, name) {
+        if is_label(field, Key::Place(name)) {
             return Some(at);
         }
         match behind_measured(field, at) {
@@ -106,16 +105,6 @@ pub fn near_place(fields: &[Field], first: u32, name: &Word, len: u32) -> Option
         }
     }
     None
-}
-
-/// Whether a field is a label of this name.
-fn is_label(field: &Field, name: &Word) -> bool
-    ensures { result ≡ is_label (plain_field field.now) (place_key name.now.bytes) }
-{
-    match field {
-        Field::Label(label) => stands_at(label, Key::Place(name)),
-        _ => false,
-    }
 }
 
 /// The place after a field, where it is at a known distance.
