@@ -1,7 +1,7 @@
 //! Notes of what is known of names: the numbers of rows, the places of labels, and the names that a body hides. They stand in a
 //! list, in `notes`, of which the newest that speaks of a name counts.
 
-ghost use Rattle.std.specs.Prelude.{◌≡◌, OnOk, if◌then◌else◌};
+ghost use Rattle.std.specs.Prelude.{◌≡◌, false, OnOk, if◌then◌else◌};
 ghost use Rattle.std.specs.Str.{str_to_ascii_lowercase};
 ghost use Rattle.rz_expr.specs.Environment.{place_in_key};
 ghost use Rattle.rz_expr.specs.NameKey.{key_of};
@@ -211,7 +211,7 @@ fn tell_stated<'a>(
 }
 
 /// Notes that an array has so many rows of these fields, and that the labels directly in them have these places, those of each
-/// row in order, row by row. It is one note where the rows have labels, and else none.
+/// row in order, row by row. It is one note where the rows have labels or there are none of them, and else none.
 pub fn note_rows<'a>(
     row: &'a [Field],
     count: u64,
@@ -220,10 +220,18 @@ pub fn note_rows<'a>(
 ) -> Result<(), NoMemory>
     ensures { OnOk result (AreRowsNoted (plain_body row.now) count places.items notes.old.items notes.new.items) }
 {
-    if labels_count(row) > 0 {
-        notes.push(Note::Rows(row, count, places))?;
+    if !are_noted(row, count) {
+        return Ok(());
     }
+    notes.push(Note::Rows(row, count, places))?;
     Ok(())
+}
+
+/// Whether so many rows are noted: they have labels, or there are none of them, whose fields aren't looked through.
+fn are_noted(row: &[Field], count: u64) -> bool
+    ensures { result ≡ false → labels_count (plain_body row.now) ≡ 0 }
+{
+    count == 0 || labels_count(row) > 0
 }
 
 /// How many labels stand directly in a body.

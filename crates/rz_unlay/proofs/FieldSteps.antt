@@ -28,7 +28,7 @@ use Rattle.rz_types_fields.specs.Front.{names_inside}
 use Rattle.rz_types_fields.specs.Known.{known}
 use Rattle.rz_unlay_pieces.specs.Few.{few, step_count, value_count}
 use Rattle.rz_unlay.specs.Few.{found_count, line_count, lines_count}
-use Rattle.rz_unlay.specs.Fits.{AreFit, CasesFit, Fits}
+use Rattle.rz_unlay.specs.Fits.{AreFit, CasesFit, Fits, HasKeyFrom}
 use Rattle.rz_unlay.specs.declared.came.RowCame.{RowCame}
 use Rattle.rz_unlay.specs.declared.came.RowsCame.{RowsCame}
 use Rattle.rz_unlay.specs.declared.rows.Until.{Until}

@@ -21,7 +21,7 @@ use Rattle.rz_types.specs.Kept.{HasKey, IsApartFrom, StandApart}
 use Rattle.rz_types.specs.Width.{case_keys}
 use Rattle.rz_unlay.specs.Came.{chosen, line_at}
 use Rattle.rz_unlay.specs.Cursor.{body_found, case_found, case_there, has_bits, has_case_keys, has_key_at, has_keys, key_at, line_of}
-use Rattle.rz_unlay.specs.Fits.{AreFit, CasesFit}
+use Rattle.rz_unlay.specs.Fits.{AreFit, CasesFit, HasKeyFrom}
 use Rattle.rz_unlay.specs.Pieces.{Found}
 use Rattle.rz_unlay_pieces.specs.Pieces.{Step}
 
@@ -45,14 +45,11 @@ apart_at key (first ∷ cases) zero one apart is = let same : first ≡ one = cc
 apart_at key (first ∷ cases) (suc k) one apart is = apart_at key cases k one apart.1 is
 
 -- a case has one key
-record OneKey (row : PlainBody) : Type 0 where
-  key : CaseKey
-  alone : case_keys row ≡ key ∷ []
-
-key_of : (cases : List PlainCase) (k : ℕ) (one : PlainCase) → CasesFit (cases_of cases) → slice_get cases k ≡ Some one → OneKey one.row
+key_of : (cases : List PlainCase) (k : ℕ) (one : PlainCase) → CasesFit (cases_of cases) → slice_get cases k ≡ Some one → HasKeyFrom (Some 0) one.row
 key_of [] k one fits is = absurd cc
 key_of (first ∷ cases) zero one fits is =
-    let same : first ≡ one = cc is in subst (λ (c : PlainCase). OneKey c.row) same (record { key = fits.0.key; alone = fits.0.alone })
+    let same : first ≡ one = cc is in
+    subst (λ (c : PlainCase). HasKeyFrom (Some 0) c.row) same (record { key = fits.0.key; alone = fits.0.alone; fixed = fits.0.fixed })
 key_of (first ∷ cases) (suc k) one fits is = key_of cases k one fits.2 is
 
 -- Cases.
@@ -105,6 +102,11 @@ module _ (cases : List Case) (k : ℕ) (one : Case) (less : k < length cases) (i
 
   pub fit_here : CasesFit (plain_cases cases) → AreFit (plain_body (out-Case one).row)
   fit_here fits = subst (λ (c : PlainCase). AreFit c.row) (case_is one) (fit_at fits)
+
+  pub key_here : CasesFit (plain_cases cases) → HasKeyFrom (Some 0) (plain_body (out-Case one).row)
+  key_here fits =
+      subst (λ (c : PlainCase). HasKeyFrom (Some 0) c.row) (case_is one)
+      (key_of (map plain_case cases) k (plain_case one) fits (slice_get-map plain_case cases k ∙ case_is_at))
 
   pub keys_here : (all : List Bool) (at : ℕ) → has_case_keys all at (option_map plain_case (slice_get cases k)) ≡ has_keys all at (case_keys (plain_body (out-Case one).row))
   keys_here all at = ap (has_case_keys all at) case_is_at ∙ ap (λ (c : PlainCase). has_keys all at (case_keys c.row)) (case_is one)

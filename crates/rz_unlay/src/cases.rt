@@ -1,11 +1,11 @@
-//! The case whose key stands at a place, and whether the keys of a case stand there. It is defined in `specs/Cursor`.
+//! The case whose key stands at a place, and whether the key of a case stands there. It is defined in `specs/Cursor`.
 
-ghost use Rattle.std.specs.Prelude.{◌≡◌, ◌<◌, ◌≤◌, length, nat_abs, slice_get, IfSome, option_and_then, option_map};
+ghost use Rattle.std.specs.Prelude.{◌≡◌, ◌<◌, ◌≤◌, ◌*◌, length, nat_abs, slice_get, IfSome, Some, option_and_then, option_map};
 ghost use Rattle.rz_bits.specs.View.{seen};
 ghost use Rattle.rz_types.specs.Field.{plain_body, plain_case, plain_cases, plain_field, plain_number};
-ghost use Rattle.rz_types.specs.Width.{capped, case_keys, field_key, number_key, plus};
+ghost use Rattle.rz_types.specs.Width.{capped, case_keys, field_key, fixed_width, fixed_widths, number_key, plus, rows_width};
 ghost use Rattle.rz_unlay.specs.Cursor.{case_there, has_bits, has_case_keys, has_keys, key_at};
-ghost use Rattle.rz_unlay.specs.Fits.{AreFit, CasesFit, Fits};
+ghost use Rattle.rz_unlay.specs.Fits.{is_key, AreFit, CasesFit, Fits, HasKeyFrom, IsFound};
 
 use rz_bits::BitView;
 use rz_types_fields::{Case, CaseHints, Field, NumField, fixed_width, key_bits};
@@ -14,7 +14,7 @@ use rz_types_fields::{Case, CaseHints, Field, NumField, fixed_width, key_bits};
 const MOST_BITS: u64 = 134_217_697;
 
 /// The position of the case whose key stands after this place, where there is one. It takes no memory. Its time is in
-/// proportion to the fields of two cases, and to those of all where no key stands there.
+/// proportion to the fields before the keys of two cases, and of all where no key stands there.
 pub fn case_there(view: &BitView<'_>, cases: &[Case], hints: &CaseHints, at: u32) -> Option<usize>
     requires fits { CasesFit (plain_cases cases.now) }
     requires at { at ≤ length (seen view.now) }
@@ -53,17 +53,9 @@ fn bits_there(view: &BitView<'_>, row: &[Field], at: u32) -> Option<u32>
         if is_key(field) {
             return field_bits(view, field, distance, at);
         }
-        distance = plus(distance, fixed_width(field));
+        distance = plus(distance, width_before(field));
     }
     None
-}
-
-/// Whether a field is the key of a case.
-fn is_key(field: &Field) -> bool {
-    match field {
-        Field::Num(number) => number.key,
-        _ => false,
-    }
 }
 
 /// The number in the bits of a field after so many others, where it is a number.
@@ -113,20 +105,76 @@ fn first_there(view: &BitView<'_>, cases: &[Case], at: u32) -> Option<usize>
     None
 }
 
-/// Whether the keys of a case stand at their places after this one.
+/// Whether the key of a case stands at its place after this one. Only the fields before it are looked at.
 fn has_keys(view: &BitView<'_>, row: &[Field], at: u32) -> bool
+    requires key { HasKeyFrom (Some 0) (plain_body row.now) }
     requires fits { AreFit (plain_body row.now) }
     requires at { at ≤ length (seen view.now) }
     ensures { result ≡ has_keys (seen view.now) at (case_keys (plain_body row.now)) }
 {
     let mut before = Some(0);
     for field in row {
-        if !has_field_key(view, field, before, at) {
-            return false;
+        if is_key(field) {
+            return has_field_key(view, field, before, at);
         }
-        before = plus(before, fixed_width(field));
+        before = plus(before, width_before(field));
     }
     true
+}
+
+/// Whether a field is a key.
+fn is_key(field: &Field) -> bool
+    ensures { result ≡ is_key (plain_field field.now) }
+{
+    match field {
+        Field::Num(number) => number.key,
+        _ => false,
+    }
+}
+
+/// The width of a field, where that is the same in every row. The fields of an array without rows aren't looked through.
+#[cycle(before)]
+fn width_before(field: &Field) -> Option<u64>
+    ensures { IsFound (fixed_width (plain_field field.now)) result }
+{
+    match field {
+        Field::Array(array) => rows_before(array.count, array.row.as_slice()),
+        _ => fixed_width(field),
+    }
+}
+
+/// The width of as many rows as are stated, of these fields, where that is always the same.
+#[cycle(before)]
+fn rows_before(count: Option<i32>, row: &[Field]) -> Option<u64>
+    ensures { IsFound (rows_width count (fixed_widths (plain_body row.now))) result }
+{
+    match count {
+        Some(0) => Some(0),
+        Some(count) => match widths_before(row) {
+            Some(bits) => Some(times(count.unsigned_abs(), bits)),
+            None => None,
+        },
+        None => None,
+    }
+}
+
+/// The width of these fields, where that is the same in every row.
+#[cycle(before)]
+fn widths_before(row: &[Field]) -> Option<u64>
+    ensures { IsFound (fixed_widths (plain_body row.now)) result }
+{
+    let mut width = Some(0);
+    for field in row {
+        width = plus(width, width_before(field));
+    }
+    width
+}
+
+/// So many times so many bits, at most one more than a resource can have.
+fn times(count: u32, bits: u64) -> u64
+    ensures { result ≡ capped (count * bits) }
+{
+    u64::from(count).saturating_mul(bits).min(MOST_BITS)
 }
 
 /// Whether the key that a field is, where it is one, stands after so many bits.

@@ -93,10 +93,7 @@ pub fn claim_place<'a>(name: &'a Word, at: i32, learnt: &mut Learnt<'a>) -> Resu
     ensures grew { IfOk result (λ holds. Grew learnt.old.notes.items learnt.new.notes.items) }
     ensures marks { IfOk result (λ holds. learnt.new.marks ≡ learnt.old.marks) }
 {
-    if agrees(
-        value_noted(&learnt.notes, Key::Place(name)),
-        i128::from(at),
-    ) {
+    if agrees(value_noted(&learnt.notes, Key::Place(name)), i128::from(at)) {
         learnt.notes.push(Note::Placed(name, at))?;
         Ok(true)
     } else {

@@ -1,13 +1,18 @@
-use Rattle.std.proofs.Common.{◌≡◌, Bool, List, sym, ap, ◌∙◌, subst}
+use Rattle.std.proofs.Common.{◌≡◌, Bool, List, Some, sym, ap, ◌∙◌, subst}
 use Rattle.rz_bits.specs.View.{seen}
 use Rattle.rz_types_fields.specs.declared.field.Field.{Field}
 use Rattle.rz_types_fields.specs.declared.field.Field.TheViews.{out-Case}
 use Rattle.rz_types.specs.Field.{plain_body}
 use Rattle.rz_types.specs.Width.{case_keys}
 use Rattle.rz_unlay.specs.Cursor.{has_keys}
-use Rattle.rz_unlay.specs.Fits.{AreFit}
-use Rattle.rz_unlay.proofs.KeyedCases.{fit_here, there_here, there_later, there_never}
+use Rattle.rz_unlay.specs.Fits.{AreFit, HasKeyFrom}
+use Rattle.rz_unlay.proofs.KeyedCases.{fit_here, key_here, there_here, there_later, there_never}
 use Rattle.rz_unlay.proofs.cases.first_there.Goals as goal
+
+pub has_keys-requires-clause-key : goal.has_keys-requires-clause-key
+has_keys-requires-clause-key c =
+    subst (λ (fields : List Field). HasKeyFrom (Some 0) (plain_body fields)) (sym c.as_slice.ensures)
+    (key_here c.args.cases.now c.loop-position.position c.index-cases-position.result c.loop-position-test.true c.index-cases-position.is c.requires.fits)
 
 pub has_keys-requires-clause-fits : goal.has_keys-requires-clause-fits
 has_keys-requires-clause-fits c =
