@@ -14,13 +14,13 @@ use Rattle.rz_types_fields.specs.declared.field.NumForm.{NumForm}
 use Rattle.rz_types_fields.specs.declared.field.NumForm.TheVariants.{Bits, Boolean, Byte, Char, Integer, Longint}
 use Rattle.rz_types_fields.specs.declared.tree.Tree.{Tree}
 use Rattle.rz_types_fields.specs.declared.tree.Tree.TheVariants as trees
-use Rattle.rz_types_fields.specs.Laid.{first_value, line_in, other_values, rows_in}
+use Rattle.rz_types_fields.specs.Laid.{first_value, line_in, other_values, rows_in, unless}
 use Rattle.rz_types_fields.specs.Row.{IsChoice, IsRow, IsValue}
 use Rattle.rz_types_fields.specs.Spells.{group_in, is_case}
 use Rattle.rz_types_fields.specs.Field.{case_and, field_and, no_cases, no_fields, takes_value, Align, Array, Fill, Label, Number, PlainBody, PlainCases, PlainField, PlainNumber, PlainPoints, Points, Switch, Text}
 use Rattle.rz_types.specs.Kept.{AreCasesKept, AreKept, Differ, IsKept, IsKeptWithin}
 use Rattle.rz_types_fields.specs.Range.{is_between}
-use Rattle.rz_types.specs.Rules.{bad_width, case_names, may_be_width, unless}
+use Rattle.rz_types.specs.Rules.{bad_width, case_names, may_be_width}
 use Rattle.rz_types_fields.specs.Shape.{are_cases_shaped, are_shaped, is_fixed_number, is_key_shaped, is_none_or, is_number_shaped, is_own_name, is_own_width, is_shaped, is_symbol_of, is_unit, is_well_shaped}
 use Rattle.rz_types.specs.Walk.{and_names, around_names, names_of, Own}
 use Rattle.rz_layout.proofs.Rows.{choice_differs, fronted, other_name, Takes}
