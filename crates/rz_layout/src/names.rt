@@ -32,11 +32,7 @@ pub fn enter<'a>(
 }
 
 /// The names of the arrays of a body have the numbers of their rows.
-fn count_rows<'a>(
-    fields: &'a [Field],
-    row: &[Tree],
-    notes: &mut Notes<'a>,
-) -> Result<(), NoMemory>
+fn count_rows<'a>(fields: &'a [Field], row: &[Tree], notes: &mut Notes<'a>) -> Result<(), NoMemory>
     ensures known { OnOk result (known notes.new.items ≡ counted (plain_body fields.now) row.now (known notes.old.items)) }
     ensures noted { OnOk result (IsNotedBy (declares (plain_body fields.now)) notes.old.items notes.new.items) }
 {

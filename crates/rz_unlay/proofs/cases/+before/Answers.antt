@@ -1,12 +1,23 @@
-use Rattle.std.proofs.Common.{refl, sym, ap, subst, Option, ℤ, ℕ, Some}
-use Rattle.rz_types.specs.Field.{plain_body}
-use Rattle.rz_types.specs.Width.{fixed_widths, rows_width}
+use Rattle.std.proofs.Common.{◌≡◌, ◌∙◌, ap, sym, subst, List, Some}
+use Rattle.std.specs.Prelude.{nat_abs}
+use Rattle.rz_types_fields.proofs.Bodies.{array_is}
+use Rattle.rz_types_fields.specs.declared.field.Field.{Field}
+use Rattle.rz_types_fields.specs.declared.field.Field.TheViews.{out-ArrayField}
+use Rattle.rz_types.specs.Field.{plain_body, plain_field, PlainField}
+use Rattle.rz_types.specs.Width.{fixed_width, fixed_widths, rows_width}
 use Rattle.rz_unlay.specs.Fits.{IsFound}
-use Rattle.rz_unlay.proofs.KeySteps.{found_first, found_last, found_more, found_no_rows}
+use Rattle.rz_unlay.proofs.KeySteps.{found_exact, found_first, found_last, found_more, found_no_rows, found_none, found_rows}
+use Rattle.rz_unlay.proofs.LeafSteps.{array_field}
 use Rattle.rz_unlay.proofs.cases.+before.Goals as goal
 
--- Goal names are guesses; those of `rows_before` for a number of rows, and those of `width_before`, are left to the tactics first
--- (`found_rows`, `found_none` and `found_exact` of KeySteps are for them).
+pub width_before-returns-in-Array : goal.width_before-returns-in-Array
+width_before-returns-in-Array t c =
+    let array = c.in-Array.array.now in
+    subst (λ (p : PlainField). IsFound (fixed_width p) c.rows_before.result) (sym (array_field c.args.field.now array c.in-Array.is ∙ array_is array))
+    (subst (λ (fields : List Field). IsFound (rows_width (out-ArrayField array).count (fixed_widths (plain_body fields))) c.rows_before.result) c.as_slice.ensures c.rows_before.ensures)
+
+pub width_before-returns-in_default : goal.width_before-returns-in_default
+width_before-returns-in_default t c = found_exact (fixed_width (plain_field c.args.field.now)) c.fixed_width.result c.fixed_width.ensures
 
 pub widths_before-loop-field-init : goal.widths_before-loop-field-init
 widths_before-loop-field-init t c = found_first c.args.row.now
