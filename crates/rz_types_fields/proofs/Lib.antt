@@ -6,6 +6,7 @@ pub mod RowKeys
 pub mod RowPlaces
 pub mod Noting
 pub mod Positions
+pub mod HeldNotes
 pub mod Fronts
 pub mod Arithmetic
 pub mod Appending

@@ -19,3 +19,4 @@ pub mod Spells
 pub mod Laid
 pub mod Known
 pub mod Newest
+pub mod Positions

@@ -1,10 +1,11 @@
 -- Which note is the newest that speaks of a key, and where the code finds the notes that may.
-use Rattle.std.specs.Prelude.{◌≡◌, ℕ, suc, ◌+◌, ◌*◌, ◌%◌, ◌^◌, ◌==◌, nat_eq, Bool, true, false, ◌&&◌, if◌then◌else◌, List, [], ◌∷◌, map, Option, Some, None, Vec}
+use Rattle.std.specs.Prelude.{◌≡◌, ℕ, ◌+◌, ◌*◌, ◌%◌, ◌^◌, ◌==◌, nat_eq, Bool, true, false, ◌&&◌, if◌then◌else◌, List, [], ◌∷◌, Option, Some, None, Vec}
 use Rattle.std.specs.HashMap.{get, HashMap}
 use Rattle.std.specs.Option.{option_map_or}
 use Rattle.rz_expr.specs.Environment.{count_key, count_of, place_in, place_key, place_of, row_in, row_key, rows_of, Key}
 use Rattle.rz_expr.specs.NameKey.{key_of}
 use Rattle.rz_types_fields.specs.Known.{speaks}
+use Rattle.rz_types_fields.specs.Positions.{positions}
 use Rattle.rz_types_fields.specs.declared.names.Note.{Note}
 use Rattle.rz_types_fields.specs.declared.names.Note.TheVariants.{Coming, Counted, Hidden, Numbered, Placed, PlaceTold, Rows, Told}
 
@@ -59,11 +60,6 @@ abbrev pub has_code : ℕ → Note → Bool
 has_code code note = note_code note == code
 
 -- Positions.
-
--- the positions of those that pass, from 0, ascending
-abbrev pub positions : {A : Type 0} → (A → Bool) → List A → List ℕ
-positions test [] = []
-positions test (x ∷ xs) = if test x then 0 ∷ map suc (positions test xs) else map suc (positions test xs)
 
 -- the positions that are held for a code
 abbrev pub held : {A S : Type 0} → ℕ → HashMap ℕ (Vec ℕ A) S → List ℕ

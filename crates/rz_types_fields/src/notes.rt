@@ -5,7 +5,8 @@ ghost use Rattle.std.specs.Str.{str_to_ascii_lowercase};
 ghost use Rattle.rz_expr.specs.Environment.{IsSeenIn};
 ghost use Rattle.rz_expr.specs.NameKey.{key_of};
 ghost use Rattle.rz_types_fields.specs.Known.{known, met};
-ghost use Rattle.rz_types_fields.specs.Newest.{code_from, code_of, has_code, heard, held, meets, newest, note_code, positions, AreHeld};
+ghost use Rattle.rz_types_fields.specs.Newest.{code_from, code_of, has_code, heard, held, meets, newest, note_code, AreHeld};
+ghost use Rattle.rz_types_fields.specs.Positions.{positions};
 ghost use Rattle.rz_types_fields.specs.Value.{no_bits, see};
 
 use crate::fact_of;

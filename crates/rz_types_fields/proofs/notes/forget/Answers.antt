@@ -3,7 +3,7 @@ use Rattle.std.specs.Prelude.{if◌then◌else◌}
 use Rattle.std.proofs.lemmas.List.{take_all}
 use Rattle.rz_types_fields.specs.Newest.{held, AreHeld}
 use Rattle.rz_types_fields.specs.declared.names.Note.{Note}
-use Rattle.rz_types_fields.proofs.Positions.{held_first, held_older}
+use Rattle.rz_types_fields.proofs.HeldNotes.{held_first, held_older}
 use Rattle.rz_types_fields.proofs.notes.forget.Goals as goal
 
 pub loop-newer-init : goal.loop-newer-init

@@ -1,6 +1,6 @@
 use Rattle.std.proofs.Common.{◌∙◌, ap}
 use Rattle.rz_expr.specs.NameKey.{key_of}
-use Rattle.rz_types_fields.specs.Newest.{code_of, has_code, held, positions}
+use Rattle.rz_types_fields.specs.Newest.{code_of, has_code, held}
 use Rattle.rz_types_fields.proofs.notes.Notes.newest.Goals as goal
 
 pub newest_among-requires : goal.newest_among-requires
