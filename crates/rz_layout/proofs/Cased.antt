@@ -1,10 +1,13 @@
 -- What is laid of a switch, by the case that its value chooses.
-use Rattle.std.proofs.Common.{◌≡◌, ℕ, Bool, true, false, if◌then◌else◌, List, Option, Some, None, Ok, refl, subst, ap, ◌∙◌}
+use Rattle.std.proofs.Common.{◌≡◌, ℕ, Bool, true, false, if◌then◌else◌, List, get_or, Option, Some, None, Ok, refl, sym, subst, ap, ◌∙◌}
 use Rattle.std.specs.Option.{option_map_or}
 use Rattle.std.specs.Str.{str_eq_ignore_ascii_case}
 use Rattle.std.specs.declared.result.Result.{Result}
 use Rattle.rz_core.specs.declared.facts.Facts.{Facts}
 use Rattle.rz_layout.specs.Sound.{AreSound, IsCaseSound}
+use Rattle.rz_types_fields.specs.declared.field.Case.{Case}
+use Rattle.rz_types_fields.specs.declared.field.Field.{Field}
+use Rattle.rz_types_fields.specs.declared.field.Field.TheViews.{out-Case}
 use Rattle.rz_types_fields.specs.Laid.{apart, case_laid, line_in, row_laid, Draft, Refusal}
 use Rattle.rz_types_fields.specs.Spells.{choice_in}
 use Rattle.rz_types_fields.specs.declared.tree.Tree.{Tree}
@@ -36,3 +39,7 @@ chosen_sound (case_and name row others) value one sound is = by (chosen_sound ot
     by later true chosen is =
         let same : ◌≡◌ {A = PlainCase} (record { name = name; row = row }) one = cc is in subst (λ (c : PlainCase). AreSound c.row (line_in value)) same (sound.0 chosen)
     by later false other is = later is
+
+-- the row of the case that stands there, as the code reads it
+pub row_there : (row : List Field) (cases : List Case) (k : ℕ) (one : Case) → one ≡ get_or cases k one → row ≡ (out-Case (get_or cases k one)).row → row ≡ (out-Case one).row
+row_there row cases k one item is = is ∙ sym (ap (λ (c : Case). (out-Case c).row) item)

@@ -103,28 +103,41 @@ module _ (cases : List Case) (k : ℕ) (one : Case) (less : k < length cases) (i
   pub fit_at : CasesFit (plain_cases cases) → AreFit (plain_case one).row
   fit_at fits = fit_row (map plain_case cases) k (plain_case one) fits (slice_get-map plain_case cases k ∙ case_is_at)
 
-  pub fit_here : CasesFit (plain_cases cases) → AreFit (plain_body (out-Case one).row)
-  fit_here fits = subst (λ (c : PlainCase). AreFit c.row) (case_is one) (fit_at fits)
+  -- its row, as the code reads it there
+  abbrev own_row : PlainBody
+  own_row = plain_body (out-Case (get_or cases k one)).row
 
-  pub keys_here : (all : List Bool) (at : ℕ) → has_case_keys all at (option_map plain_case (slice_get cases k)) ≡ has_keys all at (case_keys (plain_body (out-Case one).row))
-  keys_here all at = ap (has_case_keys all at) case_is_at ∙ ap (λ (c : PlainCase). has_keys all at (case_keys c.row)) (case_is one)
+  row_is : plain_body (out-Case one).row ≡ own_row
+  row_is = ap (λ (c : Case). plain_body (out-Case c).row) item
+
+  pub fit_here : CasesFit (plain_cases cases) → AreFit own_row
+  fit_here fits = subst AreFit row_is (subst (λ (c : PlainCase). AreFit c.row) (case_is one) (fit_at fits))
+
+  pub keys_here : (all : List Bool) (at : ℕ) → has_case_keys all at (option_map plain_case (slice_get cases k)) ≡ has_keys all at (case_keys own_row)
+  keys_here all at =
+      ap (has_case_keys all at) case_is_at
+      ∙ ap (λ (c : PlainCase). has_keys all at (case_keys c.row)) (case_is one)
+      ∙ ap (λ (b : PlainBody). has_keys all at (case_keys b)) row_is
 
   -- one case after the other
   module _ (all : List Bool) (at : ℕ) (total : Option PlainCase) (so : case_there all at (plain_cases (drop k cases)) ≡ total) where
     abbrev this : PlainCase
     this = record { name = (out-Case one).name; row = plain_body (out-Case one).row }
 
-    first : (if has_keys all at (case_keys (plain_body (out-Case one).row)) then Some this else case_there all at (plain_cases (drop (k + 1) cases))) ≡ total
-    first = ap (case_there all at) (sym (cases_next cases k one less item)) ∙ so
+    first : (if has_keys all at (case_keys own_row) then Some this else case_there all at (plain_cases (drop (k + 1) cases))) ≡ total
+    first =
+        ap (λ (b : PlainBody). if has_keys all at (case_keys b) then Some this else case_there all at (plain_cases (drop (k + 1) cases))) (sym row_is)
+        ∙ ap (case_there all at) (sym (cases_next cases k one less item))
+        ∙ so
 
-    pub there_here : has_keys all at (case_keys (plain_body (out-Case one).row)) ≡ true → total ≡ option_map plain_case (slice_get cases k)
+    pub there_here : has_keys all at (case_keys own_row) ≡ true → total ≡ option_map plain_case (slice_get cases k)
     there_here is =
         sym first
         ∙ ap (λ (b : Bool). if b then Some this else case_there all at (plain_cases (drop (k + 1) cases))) is
         ∙ ap (λ (c : PlainCase). Some c) (sym (case_is one))
         ∙ sym case_is_at
 
-    pub there_later : has_keys all at (case_keys (plain_body (out-Case one).row)) ≡ false → case_there all at (plain_cases (drop (k + 1) cases)) ≡ total
+    pub there_later : has_keys all at (case_keys own_row) ≡ false → case_there all at (plain_cases (drop (k + 1) cases)) ≡ total
     there_later is = sym (ap (λ (b : Bool). if b then Some this else case_there all at (plain_cases (drop (k + 1) cases))) is) ∙ first
 
 pub there_never : (all : List Bool) (at : ℕ) (cases : List Case) (i : ℕ) (total : Option PlainCase) → length cases ≤ i → case_there all at (plain_cases (drop i cases)) ≡ total → total ≡ None

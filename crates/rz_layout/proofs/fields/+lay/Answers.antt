@@ -14,7 +14,7 @@ use Rattle.rz_types_fields.specs.Spells.{choice_in}
 use Rattle.rz_types.proofs.Cased.{found_case}
 use Rattle.rz_types.specs.Cases.{case_named}
 use Rattle.rz_layout.specs.Sound.{AreSound}
-use Rattle.rz_layout.proofs.Cased.{chosen_sound, laid_none, laid_some}
+use Rattle.rz_layout.proofs.Cased.{chosen_sound, laid_none, laid_some, row_there}
 use Rattle.rz_types_fields.specs.declared.field.Field.TheViews.{out-ArrayField}
 use Rattle.rz_types_fields.specs.Field.{plain_body, plain_case, plain_cases, PlainCase, PlainField}
 use Rattle.rz_layout.proofs.Steps.{array_kind}
@@ -95,7 +95,7 @@ lay_case-lay_choice-requires-clause-sound t c =
     (c.in-Some.ensures.named c.requires.differ) in
     let sound = subst (λ (p : PlainCase). AreSound p.row (line_in value)) (case_is one) (chosen_sound (plain_cases c.args.cases.now) value (plain_case one) c.requires.sound found) in
     subst (λ (row : List Tree). AreSound (plain_body c.as_slice.result.now) row) (sym c.line_in-row.ensures)
-    (subst (λ (fields : List Field). AreSound (plain_body fields) (line_in value)) (sym c.as_slice.ensures) sound)
+    (subst (λ (fields : List Field). AreSound (plain_body fields) (line_in value)) (sym (row_there c.as_slice.result.now c.args.cases.now c.in-Some.position one c.index-cases-position.is c.as_slice.ensures)) sound)
 
 pub lay_case-returns-in-Some-clause-laid : goal.lay_case-returns-in-Some-clause-laid
 lay_case-returns-in-Some-clause-laid t c =
@@ -106,7 +106,8 @@ lay_case-returns-in-Some-clause-laid t c =
     let found = found_case (choice_in value) c.choice_in.result.now c.args.cases.now c.in-Some.position one c.in-Some.ensures.within c.index-cases-position.is c.choice_in.ensures
     (c.in-Some.ensures.named c.requires.differ) in
     subst (λ (r : Result Draft Refusal). Gives r (fault_seen refusal_of (left (draft_of c.lay_choice.new.laid) c.lay_choice.result)))
-    ((λ i. apart (λ inner. row_laid facts None (plain_body (c.as_slice.ensures i)) inner (c.line_in-row.ensures i)) draft)
+    (let row = row_there c.as_slice.result.now c.args.cases.now c.in-Some.position one c.index-cases-position.is c.as_slice.ensures in
+    (λ i. apart (λ inner. row_laid facts None (plain_body (row i)) inner (c.line_in-row.ensures i)) draft)
     ∙ ap (λ (p : PlainCase). apart (λ inner. row_laid facts None p.row inner (line_in value)) draft) (sym (case_is one))
     ∙ sym (laid_some facts draft value (plain_cases c.args.cases.now) (plain_case one) found))
     c.lay_choice.ensures.laid
