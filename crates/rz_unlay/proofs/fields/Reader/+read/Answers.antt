@@ -231,9 +231,11 @@ read_array-returns-clause-met t c =
     ∙ array_met a.name a.count (plain_body a.row) (met old.notes.items)
     ∙ ap (λ (f : PlainField). met_behind f (met old.notes.items)) (sym (array_is c.args.array.now))
 
-pub read_case-read_choice-requires-clause-fits : goal.read_case-read_choice-requires-clause-fits
-read_case-read_choice-requires-clause-fits t c =
-    fit_at c.args.cases.now c.in-Some.position c.index-cases-position.result c.in-Some.ensures.within c.index-cases-position.is c.requires.fits
+pub read_case-read_choice-requires : goal.read_case-read_choice-requires
+read_case-read_choice-requires t c = (
+  search rules,
+  (fit_at c.args.cases.now c.in-Some.position c.index-cases-position.result c.in-Some.ensures.within c.index-cases-position.is c.requires.fits, (c.requires.at, c.requires.marks)),
+)
 
 pub read_case-returns-in-Some-clause-step : goal.read_case-returns-in-Some-clause-step
 read_case-returns-in-Some-clause-step t c =
