@@ -25,7 +25,7 @@ without_last own x false = append-nil own
 
 first_notes : (notes : List Note) (count : ℕ) → take (length notes - (length notes - count)) notes ≡ take count notes
 first_notes [] zero = refl
-first_notes [] (suc count) = refl
+first_notes [] (suc count) = take_all (0 - (0 - suc count)) [] (omega arith)
 first_notes (note ∷ notes) zero = let none : length (note ∷ notes) - (length (note ∷ notes) - 0) ≡ 0 = omega arith in ap (λ (n : ℕ). take n (note ∷ notes)) none
 first_notes (note ∷ notes) (suc count) =
     let more : length (note ∷ notes) - (length (note ∷ notes) - suc count) ≡ suc (length notes - (length notes - count)) = omega arith in

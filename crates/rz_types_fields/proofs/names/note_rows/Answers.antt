@@ -1,4 +1,4 @@
-use Rattle.std.proofs.Common.{◌≡◌, Bool, [], sym, ap}
+use Rattle.std.proofs.Common.{◌≡◌, Bool, [], refl, sym, ap}
 use Rattle.std.specs.Prelude.{◌||◌, if◌then◌else◌}
 use Rattle.std.proofs.lemmas.List.{append-nil}
 use Rattle.rz_types_fields.specs.Field.{plain_body}
@@ -9,7 +9,7 @@ use Rattle.rz_types_fields.proofs.names.note_rows.Goals as goal
 pub returns-then-not-are_noted : goal.returns-then-not-are_noted
 returns-then-not-are_noted c =
     let row = plain_body c.args.row.now in
-    let none : labels_count row ≡ 0 = c.if-not-are_noted.ensures (sym c.if-not-are_noted.true) in
+    let none : labels_count row ≡ 0 = c.if-not-are_noted.ensures refl in
     record {
       more = [];
       grew = sym (append-nil c.args.notes.now.items);

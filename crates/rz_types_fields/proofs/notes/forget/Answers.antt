@@ -12,7 +12,7 @@ loop-newer-init c =
 
 pub loop-newer-preserved : goal.loop-newer-preserved
 loop-newer-preserved c =
-    let less : c.loop-newer.newer < length c.args.notes.now = omega (arith, c.loop-newer-test.true, c.saturating_sub.ensures) in
+    let less : c.loop-newer.newer < length c.args.notes.now = omega (arith, c.loop-newer-test.true, c.saturating_sub-newer-end.ensures) in
     held_older c.args.notes.now c.loop-newer.newer c.index-notes-notes.result c.loop-newer.places c.drop_last.new.places less c.index-notes-notes.is c.loop-newer.invariant
     (subst
     (λ (code : ℕ). (other : ℕ) → held other c.drop_last.new.places
@@ -21,5 +21,5 @@ loop-newer-preserved c =
 
 pub returns : goal.returns
 returns c =
-    let all : c.loop-newer.newer ≡ length c.args.notes.now - c.args.count = omega (arith, c.loop-newer-test.false, c.loop-newer.auto, c.saturating_sub.ensures) in
+    let all : c.loop-newer.newer ≡ length c.args.notes.now - c.args.count = omega (arith, c.loop-newer-test.false, c.loop-newer.auto, c.saturating_sub-newer-end.ensures) in
     held_first c.args.notes.now c.args.count c.loop-newer.newer c.loop-newer.places all c.loop-newer.invariant

@@ -17,7 +17,9 @@ forget-requires c = subst (λ (l : List Note). AreHeld l c.args.self.now.places)
 
 pub split_off-own-requires : goal.split_off-own-requires
 split_off-own-requires c =
-    subst (λ (l : List Note). c.args.count ≤ length l) (sym (c.into_vec-notes.ensures ∙ c.replace.ensures.value)) c.requires
+    let within : c.args.count ≤ length c.into_vec-notes.result.items =
+    subst (λ (l : List Note). c.args.count ≤ length l) (sym (c.into_vec-notes.ensures ∙ c.replace.ensures.value)) c.requires in
+    omega (arith, within, c.into_vec-notes.result.ok.0)
 
 pub invariant_of-self : goal.invariant_of-self
 invariant_of-self c = record {

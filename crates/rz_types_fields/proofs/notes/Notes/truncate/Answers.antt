@@ -7,7 +7,7 @@ pub forget-requires : goal.forget-requires
 forget-requires c = subst (λ (l : List Note). AreHeld l c.args.self.now.places) (sym c.as_slice.ensures) c.args.self.now.held
 
 pub returns : goal.returns
-returns c = c.replace-none.ensures.after ∙ c.first_notes.ensures ∙ ap (take c.args.count) c.replace-notes.ensures.value
+returns c = record { items = c.replace-none.ensures.after ∙ c.first_notes.ensures ∙ ap (take c.args.count) c.replace-notes.ensures.value }
 
 pub invariant_of-self : goal.invariant_of-self
 invariant_of-self c = record {
