@@ -15,24 +15,22 @@ use Rattle.rz_types_fields.specs.declared.tree.Tree.{Tree}
 use Rattle.rz_types_fields.specs.declared.tree.Tree.TheVariants as trees
 use Rattle.rz_types_fields.specs.RowLabels.{also_rows, label_places}
 use Rattle.rz_types_fields.specs.Spells.{put, values_in}
-use Rattle.rz_types_fields.specs.Field.{field_and, plain_body, plain_cases, plain_field, Align, Array, Fill, Label, Number, PlainBody, PlainCases, PlainField, Points, Switch, Text}
-use Rattle.rz_types.specs.Width.{case_keys}
-use Rattle.rz_unlay.specs.Came.{chosen, found_of, line_at, line_in, lines_in}
-use Rattle.rz_unlay.specs.Cursor.{and_lines, body_found, case_found, field_found, goes_on, has_keys, is_over, line_of, no_lines, rows_over, rows_until, with_label, Line, Lines, ReadsRow}
+use Rattle.rz_types_fields.specs.Field.{field_and, plain_body, plain_field, Align, Array, Fill, Label, Number, PlainBody, PlainField, Points, Switch, Text}
+use Rattle.rz_unlay.specs.Came.{chosen, found_of, line_in, lines_in}
+use Rattle.rz_unlay.specs.Cursor.{and_lines, body_found, field_found, goes_on, is_over, line_of, no_lines, rows_over, rows_until, with_label, Line, Lines, ReadsRow}
 use Rattle.rz_unlay.specs.Pieces.{field_of_pieces, with_value, met_past, Found}
 use Rattle.rz_unlay_pieces.specs.Pieces.{claim_count, here_at, Step}
 use Rattle.rz_unlay_pieces.specs.Came.{met_in, met_of}
 use Rattle.rz_unlay_pieces.specs.declared.came.Met.{Met}
 use Rattle.rz_unlay.proofs.LeafSteps.{align_is, fill_is, label_is, num_is, points_is, text_is}
-use Rattle.rz_types_fields.specs.Front.{names_inside}
 use Rattle.rz_types_fields.specs.Known.{known}
 use Rattle.rz_unlay_pieces.specs.Few.{few, step_count, value_count}
 use Rattle.rz_unlay.specs.Few.{found_count, line_count, lines_count}
-use Rattle.rz_unlay.specs.Fits.{AreFit, CasesFit, Fits, HasKeyFrom}
+use Rattle.rz_unlay.specs.Fits.{AreFit, Fits}
 use Rattle.rz_unlay.specs.declared.came.RowCame.{RowCame}
 use Rattle.rz_unlay.specs.declared.came.RowsCame.{RowsCame}
 use Rattle.rz_unlay.specs.declared.rows.Until.{Until}
-use Rattle.rz_types_fields.specs.Passed.{gives_count, gives_rows, met_behind, met_inside, Names}
+use Rattle.rz_types_fields.specs.Passed.{gives_count, gives_rows, met_behind, Names}
 use Rattle.rz_types_fields.specs.Sees.{marked, Late}
 use Rattle.rz_unlay_pieces.specs.Seen.{met_counted, met_in_rows}
 use Rattle.rz_unlay_pieces.specs.declared.learnt.Learnt.{Learnt}

@@ -6,7 +6,6 @@ use Rattle.std.proofs.lemmas.Bool.Decides.{nat_tests}
 use Rattle.std.proofs.lemmas.Option.{slice_get-map, slice_get_read}
 use Rattle.rz_core.proofs.Tests.{both}
 use Rattle.rz_core.specs.declared.facts.Facts.{Facts}
-use Rattle.rz_core.specs.declared.resource.Word.{Word}
 use Rattle.rz_expr.specs.Environment.{Environment}
 use Rattle.rz_types_fields.proofs.Bodies.{case_is, cases_end, cases_next}
 use Rattle.rz_types_fields.specs.declared.field.Case.{Case}
@@ -17,7 +16,7 @@ use Rattle.rz_types_fields.specs.Field.{case_and, cases_of, no_cases, plain_body
 use Rattle.rz_types_fields.specs.Front.{names_inside}
 use Rattle.rz_types_fields.specs.Passed.{met_inside, Names}
 use Rattle.rz_types_fields.specs.Sees.{Late}
-use Rattle.rz_types.specs.Kept.{HasKey, IsApartFrom, StandApart}
+use Rattle.rz_types.specs.Kept.{IsApartFrom, StandApart}
 use Rattle.rz_types.specs.Width.{case_keys}
 use Rattle.rz_unlay.specs.Came.{chosen, line_at}
 use Rattle.rz_unlay.specs.Cursor.{body_found, case_found, case_there, has_bits, has_case_keys, has_key_at, has_keys, key_at, line_of}

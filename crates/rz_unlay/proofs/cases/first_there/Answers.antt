@@ -1,7 +1,6 @@
-use Rattle.std.proofs.Common.{◌≡◌, Bool, List, Some, sym, ap, ◌∙◌, subst}
+use Rattle.std.proofs.Common.{List, Some, sym, ap, ◌∙◌, subst}
 use Rattle.rz_bits.specs.View.{seen}
 use Rattle.rz_types_fields.specs.declared.field.Field.{Field}
-use Rattle.rz_types_fields.specs.declared.field.Field.TheViews.{out-Case}
 use Rattle.rz_types.specs.Field.{plain_body}
 use Rattle.rz_types.specs.Width.{case_keys}
 use Rattle.rz_unlay.specs.Cursor.{has_keys}

@@ -9,9 +9,9 @@ use Rattle.rz_types_fields.specs.declared.tree.Tree.{Tree}
 use Rattle.rz_types_fields.specs.declared.tree.Tree.TheVariants as trees
 use Rattle.rz_types_fields.specs.Spells.{values_in}
 use Rattle.rz_types.specs.Field.{plain_body, plain_case, plain_cases, plain_field, PlainBody, PlainField}
-use Rattle.rz_unlay.specs.Came.{array_row, chosen, line_at, line_in, lines_in, row_at}
+use Rattle.rz_unlay.specs.Came.{array_row, line_at, line_in, lines_in, row_at}
 use Rattle.rz_unlay_pieces.specs.Came.{met_of, step_of}
-use Rattle.rz_unlay.specs.Cursor.{body_found, count_known, field_found, goes_on, has_keys, most_rows, rows_by, rows_until, until_of, ReadsRow}
+use Rattle.rz_unlay.specs.Cursor.{body_found, count_known, field_found, goes_on, most_rows, rows_by, rows_until, until_of, ReadsRow}
 use Rattle.rz_unlay_pieces.specs.Seen.{met_counted, met_in_rows}
 use Rattle.rz_unlay_pieces.specs.Pieces.{claim_count, Step}
 use Rattle.rz_types_fields.specs.Front.{names_inside}
@@ -26,7 +26,6 @@ use Rattle.rz_unlay.specs.Few.{found_count, line_count, lines_count, rows_count}
 use Rattle.rz_unlay_pieces.specs.Names.{told}
 use Rattle.rz_types_fields.specs.declared.names.Note.{Note}
 use Rattle.rz_unlay.proofs.FewValues.{count_rows, row_push, rows_push}
-use Rattle.rz_types.specs.Width.{case_keys}
 use Rattle.rz_unlay.specs.Rows.{pushed}
 use Rattle.rz_unlay_pieces.proofs.PieceSteps.{seen_length}
 use Rattle.rz_unlay.proofs.FieldSteps.{array_came, array_met, body_line, field_more, fields_over, fits_next, leaf_found, leaf_met, leaf_of, no_array, no_field, no_row, row_more, rows_ended, rows_out, spent_late, with_lines, with_row}
