@@ -1,7 +1,7 @@
 -- What is known and met after notes more, and by the newest of them.
-use Rattle.std.proofs.Common.{◌≡◌, ℕ, ◌&&◌, ◌||◌, ◌==◌, Bool, true, false, ℤ, List, [], ◌∷◌, ◌++◌, length, filter, take, Option, Some, None, refl, sym, ap, subst, ◌∙◌, append_assoc}
+use Rattle.std.proofs.Common.{◌≡◌, ℕ, ◌&&◌, ◌||◌, ◌==◌, Bool, true, false, ℤ, List, [], ◌∷◌, ◌++◌, length, filter, take, Option, Some, None, refl, sym, ap, ◌∙◌, append_assoc}
 use Rattle.std.specs.Option.{is_some}
-use Rattle.std.specs.Prelude.{if◌then◌else◌, not, ◌≢◌}
+use Rattle.std.specs.Prelude.{if◌then◌else◌, not}
 use Rattle.std.proofs.Math.Seq.{take-append_seam}
 use Rattle.std.proofs.lemmas.Bool.{eq-eqb}
 use Rattle.rz_core.proofs.Tests.{by_test, true_false}
@@ -11,7 +11,7 @@ use Rattle.rz_expr.specs.NameKey.{key_of}
 use Rattle.rz_types_fields.specs.Field.{plain_body, PlainBody}
 use Rattle.rz_types_fields.specs.Passed.{gives_rows, outside}
 use Rattle.rz_types_fields.specs.Known.{known, meeting, met, met_noted, noted, noting, said, speaks, Grew}
-use Rattle.rz_types_fields.specs.Newest.{code_of, has_code, heard, meets, newest, note_code}
+use Rattle.rz_types_fields.specs.Newest.{code_of, has_code, heard, meets, newest}
 use Rattle.rz_types_fields.specs.Solve.{is_same_key}
 use Rattle.rz_types_fields.specs.declared.names.Note.{Note}
 use Rattle.rz_types_fields.specs.declared.names.Note.TheVariants.{Coming, Counted, Hidden, Numbered, Placed, PlaceTold, Rows, Told}

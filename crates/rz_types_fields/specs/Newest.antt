@@ -1,5 +1,5 @@
 -- Which note is the newest that speaks of a key, and where the code finds the notes that may.
-use Rattle.std.specs.Prelude.{◌≡◌, ℕ, ◌+◌, ◌*◌, ◌%◌, ◌^◌, ◌==◌, nat_eq, Bool, true, false, ◌&&◌, if◌then◌else◌, List, [], ◌∷◌, Option, Some, None, Vec}
+use Rattle.std.specs.Prelude.{◌≡◌, ℕ, ◌+◌, ◌*◌, ◌%◌, ◌^◌, ◌==◌, nat_eq, Bool, true, false, ◌&&◌, if◌then◌else◌, List, [], ◌∷◌, Option, Some, Vec}
 use Rattle.std.specs.HashMap.{get, HashMap}
 use Rattle.std.specs.Option.{option_map_or}
 use Rattle.rz_expr.specs.Environment.{count_key, count_of, place_in, place_key, place_of, row_in, row_key, rows_of, Key}

@@ -63,7 +63,12 @@ impl<'a> Notes<'a> {
         ensures err { OnErr result (self.new.items ≡ self.old.items) }
     {
         let code = note_code(&note);
-        add(self.alloc, &mut self.places, code, self.items.len() as usize)?;
+        add(
+            self.alloc,
+            &mut self.places,
+            code,
+            self.items.len() as usize,
+        )?;
         match self.items.push(note) {
             Ok(()) => Ok(()),
             Err(refused) => {
@@ -167,10 +172,7 @@ fn is_heard(note: &Note<'_>, key: Key<'_>, told: bool) -> bool
 fn meets(note: &Note<'_>) -> bool
     ensures { result ≡ meets note.now }
 {
-    matches!(
-        note,
-        Note::Counted(..) | Note::Placed(..) | Note::Rows(..)
-    )
+    matches!(note, Note::Counted(..) | Note::Placed(..) | Note::Rows(..))
 }
 
 /// The code of a key: all labels in rows have one.

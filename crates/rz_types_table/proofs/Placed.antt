@@ -1,10 +1,10 @@
 -- The positions of the slots whose declarations pass, and what is read in these slots.
-use Rattle.std.proofs.Common.{◌≡◌, ℕ, ℤ, zero, suc, ◌+◌, ◌<◌, ◌≤◌, Bool, true, false, ◌||◌, if◌then◌else◌, List, [], ◌∷◌, ◌++◌, get_or, length, map, take, drop, filter, Option, Some, None, refl, sym, ap, ◌∙◌, arith, append_assoc}
+use Rattle.std.proofs.Common.{◌≡◌, ℕ, ℤ, zero, suc, ◌+◌, ◌<◌, ◌≤◌, Bool, true, false, ◌||◌, if◌then◌else◌, List, [], ◌∷◌, ◌++◌, get_or, length, map, take, drop, filter, Option, Some, None, refl, sym, ap, ◌∙◌, arith}
 use Rattle.std.specs.List.{drop-map, list_any, remove}
 use Rattle.std.specs.Option.{option_to_list}
 use Rattle.std.specs.Prelude.{option_map, set, slice_get}
-use Rattle.std.proofs.lemmas.List.{append-nil, length-append, length-map, map-append, map-set, take_all, take_more, take-map}
-use Rattle.std.proofs.lemmas.Option.{same_Some, slice_get-get_or, slice_get-map, slice_get_read}
+use Rattle.std.proofs.lemmas.List.{append-nil, length-append, length-map, map-append, map-set, take_all, take-map}
+use Rattle.std.proofs.lemmas.Option.{same_Some, slice_get-get_or, slice_get-map}
 use Rattle.rz_core.specs.Lists.{or_else}
 use Rattle.rz_types_table.specs.Listed.{declaration_of, groups_of, listed, own_group, standing, AreOwn}
 use Rattle.rz_types_table.specs.Positions.{in_slot, of_group, positions, same_group}

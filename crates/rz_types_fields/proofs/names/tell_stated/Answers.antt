@@ -38,6 +38,6 @@ returns c =
     let same : to_z w64 (of_z w64 c.from.result) ≡ count = to_z-of_z w64 c.from.result fits ∙ c.from.ensures ∙ to_z-of_z w32 count small in
     subst (λ (o : Option Word). Tells (stated_value o c.args.count) items new) (sym c.in-Some-Some.is-0)
     (subst (λ (o : Option ℤ). Tells (stated_value (Some name) o) items new) (sym c.in-Some-Some.is-1)
-    (adds_as _ (tell (stated_value (Some name) (Some count))) _ (λ key before. before) items new 
+    (adds_as _ (tell (stated_value (Some name) (Some count))) _ (λ key before. before) items new
     (λ key before. ap (λ (rows : ℤ). if counts_rows name.bytes key then Some rows else before) same ∙ told_is (counts_rows name.bytes key) count before) (λ key before. refl)
     (adds_one items new _ c.in_ok-push.ensures.items)))
