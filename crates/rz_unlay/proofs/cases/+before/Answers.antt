@@ -1,12 +1,11 @@
-use Rattle.std.proofs.Common.{◌≡◌, ◌∙◌, ap, sym, subst, List, Some}
-use Rattle.std.specs.Prelude.{nat_abs}
+use Rattle.std.proofs.Common.{◌∙◌, sym, subst, List}
 use Rattle.rz_types_fields.proofs.Bodies.{array_is}
 use Rattle.rz_types_fields.specs.declared.field.Field.{Field}
 use Rattle.rz_types_fields.specs.declared.field.Field.TheViews.{out-ArrayField}
 use Rattle.rz_types.specs.Field.{plain_body, plain_field, PlainField}
 use Rattle.rz_types.specs.Width.{fixed_width, fixed_widths, rows_width}
 use Rattle.rz_unlay.specs.Fits.{IsFound}
-use Rattle.rz_unlay.proofs.KeySteps.{found_exact, found_first, found_last, found_more, found_no_rows, found_none, found_rows}
+use Rattle.rz_unlay.proofs.KeySteps.{found_exact, found_first, found_last, found_more}
 use Rattle.rz_unlay.proofs.LeafSteps.{array_field}
 use Rattle.rz_unlay.proofs.cases.+before.Goals as goal
 
