@@ -1,4 +1,5 @@
-use Rattle.std.proofs.Common.{◌≡◌, ℕ, ℤ, Global, Vec, List, Result, Ok, arith, rules, refl, ap, sym, subst, ◌∙◌}
+use denote.Param.Weighed.{at_most, most}
+use Rattle.std.proofs.Common.{◌≡◌, ℕ, ℤ, Global, Vec, List, get_or, None, Result, Ok, arith, rules, refl, ap, sym, subst, ◌∙◌}
 use Rattle.rz_layout.specs.declared.laid.Laid.{Laid}
 use Rattle.rz_types_fields.specs.Known.{AreRowsNoted}
 use Rattle.rz_layout.proofs.Arrays.{array_is}
@@ -15,7 +16,7 @@ use Rattle.rz_types.proofs.Cased.{found_case}
 use Rattle.rz_types.specs.Cases.{case_named}
 use Rattle.rz_layout.specs.Sound.{AreSound}
 use Rattle.rz_layout.proofs.Cased.{chosen_sound, laid_none, laid_some, row_there}
-use Rattle.rz_types_fields.specs.declared.field.Field.TheViews.{out-ArrayField}
+use Rattle.rz_types_fields.specs.declared.field.Field.TheViews.{out-ArrayField, size-Case, size-Field, size_is-Case}
 use Rattle.rz_types_fields.specs.Field.{plain_body, plain_case, plain_cases, PlainCase, PlainField}
 use Rattle.rz_layout.proofs.Steps.{array_kind}
 use Rattle.rz_layout.proofs.Forms.{text_field}
@@ -87,15 +88,23 @@ lay_array-returns-clause-laid t c =
     c.in_ok-note_rows.ensures)
     c.in-Ok.ensures.laid)
 
-pub lay_case-lay_choice-requires-clause-sound : goal.lay_case-lay_choice-requires-clause-sound
-lay_case-lay_choice-requires-clause-sound t c =
+pub lay_case-lay_choice-requires : goal.lay_case-lay_choice-requires
+lay_case-lay_choice-requires t c =
     let value = option_map (λ v. v.now) c.args.value in
     let one = c.index-cases-position.result in
     let found = found_case (choice_in value) c.choice_in.result.now c.args.cases.now c.in-Some.position one c.in-Some.ensures.within c.index-cases-position.is c.choice_in.ensures
     (c.in-Some.ensures.named c.requires.differ) in
     let sound = subst (λ (p : PlainCase). AreSound p.row (line_in value)) (case_is one) (chosen_sound (plain_cases c.args.cases.now) value (plain_case one) c.requires.sound found) in
-    subst (λ (row : List Tree). AreSound (plain_body c.as_slice.result.now) row) (sym c.line_in-row.ensures)
-    (subst (λ (fields : List Field). AreSound (plain_body fields) (line_in value)) (sym (row_there c.as_slice.result.now c.args.cases.now c.in-Some.position one c.index-cases-position.is c.as_slice.ensures)) sound)
+    let deep = at_most size-Case c.args.cases.now c.in-Some.position one c.in-Some.ensures.within in
+    let own = size_is-Case (get_or c.args.cases.now c.in-Some.position one) in
+    let read = ap (most size-Field) c.as_slice.ensures in (
+      omega (arith, deep, own, read),
+      (
+        subst (λ (row : List Tree). AreSound (plain_body c.as_slice.result.now) row) (sym c.line_in-row.ensures)
+            (subst (λ (fields : List Field). AreSound (plain_body fields) (line_in value)) (sym (row_there c.as_slice.result.now c.args.cases.now c.in-Some.position one c.index-cases-position.is c.as_slice.ensures)) sound),
+        c.requires.short,
+      ),
+    )
 
 pub lay_case-returns-in-Some-clause-laid : goal.lay_case-returns-in-Some-clause-laid
 lay_case-returns-in-Some-clause-laid t c =

@@ -1,9 +1,10 @@
+use denote.Param.Weighed.{at_most}
 use Rattle.std.proofs.Common.{rules, inl, inr, ◌≡◌, ℕ, ℤ, ◌+◌, ◌-◌, ◌≤◌, ◌∷◌, [], true, false, length, drop, IfOk, IfSome, List, Option, Some, None, sym, ap, ◌∙◌, subst, arith}
 use Rattle.std.specs.Prelude.{option_and_then, option_map}
 use Rattle.std.proofs.lemmas.List.{length-append}
 use Rattle.rz_bits.specs.View.{seen}
 use Rattle.rz_types_fields.specs.declared.field.Field.{Field}
-use Rattle.rz_types_fields.specs.declared.field.Field.TheViews.{out-ArrayField}
+use Rattle.rz_types_fields.specs.declared.field.Field.TheViews.{out-ArrayField, size-Case}
 use Rattle.rz_types_fields.proofs.Bodies.{array_is}
 use Rattle.rz_types_fields.specs.declared.tree.Tree.{Tree}
 use Rattle.rz_types_fields.specs.declared.tree.Tree.TheVariants as trees
@@ -231,10 +232,13 @@ read_array-returns-clause-met t c =
     ∙ ap (λ (f : PlainField). met_behind f (met old.notes.items)) (sym (array_is c.args.array.now))
 
 pub read_case-read_choice-requires : goal.read_case-read_choice-requires
-read_case-read_choice-requires t c = (
-  search rules,
-  (fit_at c.args.cases.now c.in-Some.position c.index-cases-position.result c.in-Some.ensures.within c.index-cases-position.is c.requires.fits, (c.requires.at, c.requires.marks)),
-)
+read_case-read_choice-requires t c =
+    let one = c.index-cases-position.result in
+    let deep = at_most size-Case c.args.cases.now c.in-Some.position one c.in-Some.ensures.within in
+    let same = ap size-Case c.index-cases-position.is in (
+      omega (arith, deep, same),
+      (fit_at c.args.cases.now c.in-Some.position one c.in-Some.ensures.within c.index-cases-position.is c.requires.fits, (c.requires.at, c.requires.marks)),
+    )
 
 pub read_case-returns-in-Some-clause-step : goal.read_case-returns-in-Some-clause-step
 read_case-returns-in-Some-clause-step t c =
