@@ -3,13 +3,13 @@
 ghost use Rattle.std.specs.Prelude.{◌≡◌, ◌<◌, ◌^◌, ℕ, List, IfOk, drop, length};
 ghost use Rattle.std.specs.declared.result.Result.{Result as result_of};
 ghost use Rattle.rz_stmt_items.specs.Line.{line_of};
-ghost use Rattle.rz_core.specs.Stop.{◌>>=◌, Meets, Gives, OnFault, seen};
+ghost use Rattle.rz_core.specs.Stop.{Meets, Gives, OnFault, seen};
 ghost use Rattle.rz_core.specs.Message.{IsNameable};
 ghost use Rattle.rz_core.specs.declared.fault.Fault.{Fault as fault};
 ghost use Rattle.rz_stmt_items.specs.Item.{plain_item, plain_items};
 ghost use Rattle.rz_stmt_items.specs.Places.{AreItemsWithin};
 ghost use Rattle.rz_stmt_items.specs.Match.{IsMatch};
-ghost use Rattle.rz_stmt_items.specs.Matched.{case_matched, choice, counted, item_for, matched, row_matched, rows_matched, whole_matched};
+ghost use Rattle.rz_stmt_items.specs.Matched.{case_matched, choice_matched, counted, item_for, matched, row_matched, rows_matched};
 ghost use Rattle.rz_types_fields.specs.declared.tree.Tree.{Tree as tree};
 ghost use Rattle.rz_types_fields.specs.Row.{IsRow};
 ghost use Rattle.rz_types.specs.Cases.{AreNamesApart, AreNamesApartIn, AreNamesApartWithin};
@@ -288,7 +288,7 @@ fn row_for(
     facts: &Facts,
 ) -> Result<Tree, Stop<Fault>>
     requires { AreNamesApart (plain_case case.now).row }
-    ensures { Gives (whole_matched (row_matched facts.now (plain_case case.now).row mark (plain_items items.now)) (plain_items items.now) >>= choice (plain_case case.now).name) result }
+    ensures { Gives (choice_matched facts.now mark (plain_case case.now) (plain_items items.now)) result }
 {
     match match_all(alloc, case.row.as_slice(), items, mark, facts) {
         Ok(row) => Ok(Tree::Choice(case.name.copy(alloc)?, row)),

@@ -73,9 +73,12 @@ rows_for-loop-turn-preserved t c =
     c.loop-turn.before one (plain_items (drop c.loop-turn.before c.args.items.now)) first.0 (plain_items (drop (c.loop-turn.before + 1) c.args.items.now)) first.1 c.loop-turn.invariant
     (line_of c.args.items.now c.in-Ok.line) c.in-Ok.ensures)
 
-pub match_row-item_for-requires-clause-apart : goal.match_row-item_for-requires-clause-apart
-match_row-item_for-requires-clause-apart t c =
-    (apart_next c.args.fields.now c.loop-field.field-index c.field-item.result c.loop-field-test.true c.field-item.is c.loop-field.invariant.apart).0
+pub match_row-item_for-requires : goal.match_row-item_for-requires
+match_row-item_for-requires t c = (
+  search rules,
+  search rules,
+  (apart_next c.args.fields.now c.loop-field.field-index c.field-item.result c.loop-field-test.true c.field-item.is c.loop-field.invariant.apart).0,
+)
 
 pub array_for-rows_for-requires : goal.array_for-rows_for-requires
 array_for-rows_for-requires t c =
@@ -101,8 +104,8 @@ case_for-returns-in-Some t c =
     c.as_slice.ensures (c.in-Some.ensures.named c.requires.differ))))
     c.row_for.ensures
 
-pub case_for-returns-in-None : goal.case_for-returns-in-None
-case_for-returns-in-None t c =
+pub case_for-returns-in_ok-no_case-in-None : goal.case_for-returns-in_ok-no_case-in-None
+case_for-returns-in_ok-no_case-in-None t c =
     matched_none c.args.facts.now c.args.mark c.args.name.now.bytes (plain_items c.args.items.now) (plain_cases c.args.cases.now)
     (ap (λ (n : List ℕ). case_named n (plain_cases c.args.cases.now)) (sym c.as_slice.ensures) ∙ c.in-None.ensures.named c.requires.differ)
     ∙ ap (λ (fault : Fault). Err fault) (sym c.in_ok-no_case-in-None.ensures)
