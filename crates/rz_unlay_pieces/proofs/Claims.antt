@@ -4,7 +4,7 @@ use Rattle.std.specs.Option.{is_some}
 use Rattle.std.specs.Prelude.{if◌then◌else◌}
 use Rattle.rz_expr.specs.Environment.{Key}
 use Rattle.rz_types_fields.specs.Field.{PlainBody}
-use Rattle.rz_types_fields.specs.Known.{known, meeting, met, met_noted, noted, noting, AreRowsNoted}
+use Rattle.rz_types_fields.specs.Known.{known, meeting, met, met_noted, noting, AreRowsNoted}
 use Rattle.rz_types_fields.specs.Passed.{outside}
 use Rattle.rz_types_fields.specs.RowLabels.{also_rows}
 use Rattle.rz_types_fields.specs.Solve.{is_same_key}

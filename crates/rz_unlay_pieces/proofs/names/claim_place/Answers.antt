@@ -1,11 +1,9 @@
-use Rattle.std.proofs.Common.{rules, w32, ℤ, List, Option, Some, ap, ◌∙◌}
+use Rattle.std.proofs.Common.{rules, w32, ℤ, Option, Some, ap, ◌∙◌}
 use Rattle.std.specs.Prelude.{if◌then◌else◌}
 use Rattle.std.proofs.lemmas.Int.{to_z-of_z}
 use mir.Syntax.{w128}
 use Rattle.rz_expr.specs.Environment.{place_key}
-use Rattle.rz_types_fields.specs.Known.{known}
 use Rattle.rz_types_fields.specs.Solve.{is_same_key}
-use Rattle.rz_types_fields.specs.declared.names.Note.{Note}
 use Rattle.rz_unlay_pieces.specs.Pieces.{agrees}
 use Rattle.rz_unlay_pieces.proofs.Claims.{claims, met_now}
 use Rattle.rz_unlay_pieces.proofs.names.claim_place.Goals as goal
