@@ -1,7 +1,6 @@
 use Rattle.rz_expr.specs.Term.{term_of}
 use Rattle.rz_expr.specs.Unvalued.{fault_of}
 use Rattle.rz_types_fields.specs.Known.{met}
-use Rattle.rz_types_fields.specs.Sees.{names_later}
 use Rattle.rz_unlay_pieces.specs.Seen.{sight_at}
 use Rattle.rz_unlay_pieces.proofs.Lateness.{late_named, late_unvalued}
 use Rattle.rz_unlay_pieces.proofs.late.is_late.Goals as goal

@@ -3,7 +3,6 @@ use Rattle.std.proofs.lemmas.Int.{to_z-of_z}
 use Rattle.rz_expr.specs.Term.{term_of}
 use Rattle.rz_expr.specs.Unvalued.{fault_of}
 use Rattle.rz_types_fields.specs.Known.{met}
-use Rattle.rz_types_fields.specs.Sees.{names_later}
 use Rattle.rz_unlay_pieces.specs.Seen.{sight_at}
 use Rattle.rz_unlay_pieces.proofs.Lateness.{late_named, late_unvalued, value_beside}
 use Rattle.rz_unlay_pieces.proofs.late.value_at.Goals as goal
