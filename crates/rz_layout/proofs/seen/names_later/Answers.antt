@@ -12,4 +12,4 @@ use Rattle.rz_layout.proofs.seen.names_later.Goals as goal
 pub returns : goal.returns
 returns c =
     c.is_some.ensures ∙ some_of mention_of c.first_mention.result ∙ ap is_some c.first_mention.ensures
-    ∙ found_any (is_later (met_in (known c.args.notes.now))) (mentions (term_of c.args.expr.now))
+    ∙ found_any (is_later (met_in (known c.args.notes.now.items))) (mentions (term_of c.args.expr.now))
