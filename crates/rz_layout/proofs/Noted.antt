@@ -72,7 +72,7 @@ pub entered_more : (which : Option RowOf) (body : PlainBody) (old mid new : List
 entered_more which body old mid new is it = record {
   front = is.more;
   more = it.more;
-  grew = it.grew ∙ ap (λ (front : List Note). front ++ it.more) is.grew ∙ append_assoc old is.more it.more;
+  grew = it.grew ∙ ap (λ (front : List Note). front ++ it.more) is.grew;
   values = is.values_are;
   others = it.others;
 }
@@ -293,28 +293,28 @@ module _ (facts : Facts) (fields : Bor (List Field)) (which : Option InRow) (row
     abbrev more : List Note
     more = within.more ++ grew.more
 
-    abbrev own : List Note
-    own = within.front ++ more
+    abbrev added : List Note
+    added = within.front ++ more
 
     abbrev has : Bool
     has = is_in_named (which_of which) || has_names (plain_body fields.now)
 
-    grown : after.notes.items ≡ old ++ own
+    grown : after.notes.items ≡ old ++ added
     grown =
         grew.grew
         ∙ ap (λ (front : List Note). front ++ grew.more) within.grew
-        ∙ append_assoc old (within.front ++ within.more) grew.more
-        ∙ ap (λ (l : List Note). old ++ l) (append_assoc within.front within.more grew.more)
+        ∙ append_assoc (old ++ within.front) within.more grew.more
+        ∙ append_assoc old within.front more
 
     others : (key : Key) (value : Option ℤ) → declares (plain_body fields.now) key ≡ false → noted value more key ≡ value
     others key value not_given =
         noted_append value within.more grew.more key ∙ grew.others key (noted value within.more key) not_given ∙ within.others key value not_given
 
     pub notes_back : new.notes.items ≡ old
-    notes_back = is.notes ∙ ap (λ (n : ℕ). take n after.notes.items) count ∙ ap (take (length old)) grown ∙ take-append_seam old own
+    notes_back = is.notes ∙ ap (λ (n : ℕ). take n after.notes.items) count ∙ ap (take (length old)) grown ∙ take-append_seam old added
 
-    own_back : drop around after.notes.items ≡ own
-    own_back = ap (λ (n : ℕ). drop n after.notes.items) count ∙ ap (drop (length old)) grown ∙ drop-append_seam old own
+    own_back : drop around after.notes.items ≡ added
+    own_back = ap (λ (n : ℕ). drop n after.notes.items) count ∙ ap (drop (length old)) grown ∙ drop-append_seam old added
 
     numbers_left : numbers_in before.late ++ map (closing (which_of which) (plain_body fields.now) (known after.notes.items)) (numbers_in after.late) ≡ numbers_in new.late
     numbers_left =
