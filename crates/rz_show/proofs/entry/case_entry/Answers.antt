@@ -1,4 +1,4 @@
-use Rattle.std.proofs.Common.{◌≡◌, ℕ, List, Some, sym, ap, ◌∙◌}
+use Rattle.std.proofs.Common.{ℕ, List, sym, ap, ◌∙◌}
 use Rattle.std.specs.Prelude.{option_map}
 use Rattle.rz_types_fields.specs.declared.field.Field.{Field}
 use Rattle.rz_types_fields.specs.declared.tree.Tree.{Tree}
@@ -11,18 +11,14 @@ use Rattle.rz_show.specs.Shown.{row_prints, rows_prints}
 use Rattle.rz_show_lines.specs.Print.{block}
 use Rattle.rz_show.proofs.entry.case_entry.Goals as goal
 
--- the case that was found
-found : (c : goal.At-choice_entry) → case_named (choice_in (option_map (λ v. v.now) c.args.value)) (plain_cases c.args.cases.now) ≡ Some (plain_case c.index-cases-position.result)
-found c =
-    found_case (choice_in (option_map (λ v. v.now) c.args.value)) c.choice_in.result.now c.args.cases.now c.in-Some.position c.index-cases-position.result c.in-Some.ensures.within
-    c.index-cases-position.is c.choice_in.ensures (c.in-Some.ensures.named c.requires.differ)
-
 pub choice_entry-requires : goal.choice_entry-requires
 choice_entry-requires c =
-    let one = plain_case c.index-cases-position.result in
     let name = choice_in (option_map (λ v. v.now) c.args.value) in
     let cases = plain_cases c.args.cases.now in
-    (named_widths name cases one c.requires.widths (found c), named_names name cases one c.requires.names (found c), apart_within name cases one c.requires.apart (found c))
+    let one = plain_case c.index-cases-position.result in
+    let found = found_case name c.choice_in.result.now c.args.cases.now c.in-Some.position c.index-cases-position.result c.in-Some.ensures.within
+    c.index-cases-position.is c.choice_in.ensures (c.in-Some.ensures.named c.requires.differ) in
+    (named_widths name cases one c.requires.widths found, named_names name cases one c.requires.names found, apart_within name cases one c.requires.apart found)
 
 pub returns-in-Some-clause-print : goal.returns-in-Some-clause-print
 returns-in-Some-clause-print c = λ hidden.
