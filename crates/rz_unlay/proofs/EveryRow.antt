@@ -45,7 +45,7 @@ module _ (known : Facts) (body : PlainBody) (bytes : List ℕ) where
 
     of_bytes : is_readable body ≡ true → length bytes ≤ 16777212 → Dec (AllByRecursion (λ byte. byte < 256) bytes) → Answer
     of_bytes readable short (yes all) = found readable short (each_small bytes all) (reading known body bytes) refl
-    of_bytes readable short (no some) = never (λ row spells. some (each_byte bytes spells.are_bytes))
+    of_bytes readable short (no some) = never (λ row spells. some (each_byte bytes spells.spelling.are_bytes))
 
     pub every_row : Answer
     every_row =

@@ -3,7 +3,7 @@ use Rattle.std.proofs.Common.{◌≡◌, ℕ, ◌+◌, ◌<◌, ◌≤◌, ◌&&
 use Rattle.std.specs.Option.{is_some}
 use Rattle.std.specs.Prelude.{if◌then◌else◌, nat_abs, option_map, ◌*◌, pos, ℤ}
 use Rattle.std.proofs.lemmas.List.{append-nil}
-use Rattle.rz_core.proofs.Tests.{none_some, true_false}
+use Rattle.rz_core.proofs.Tests.{true_false}
 use Rattle.rz_types_fields.specs.declared.field.Field.{Field}
 use Rattle.rz_types_fields.specs.declared.keys.CaseKey.{CaseKey}
 use Rattle.rz_types_fields.proofs.Bodies.{body_end, body_next}
@@ -149,20 +149,16 @@ found_exact exact found is width same = is ∙ ap (option_map capped) same
 
 pub found_no_rows : (width : Option ℕ) → IsFound (rows_width (Some (pos 0)) width) (Some 0)
 found_no_rows None total is = absurd cc
-found_no_rows (Some bits) total is = let none : 0 ≡ total = some_is (0 * bits) total is in ap Some (omega (arith, none))
+found_no_rows (Some bits) total is = ap Some (omega (arith, some_is (0 * bits) total is))
 
 capped_times : (n a : ℕ) → capped (n * capped a) ≡ capped (n * a)
 capped_times n a = grind (arith)
 
-pub found_rows : (count : ℤ) (exact found : Option ℕ) (bits : ℕ) → IsFound exact found → found ≡ Some bits → IsFound (rows_width (Some count) exact) (Some (capped (nat_abs count * bits)))
-found_rows count None found bits is some total same = absurd cc
-found_rows count (Some own) found bits is some total same =
-    let one : bits ≡ capped own = some_is bits (capped own) (sym some ∙ is own refl) in
-    ap Some (ap (λ (n : ℕ). capped (nat_abs count * n)) one ∙ capped_times (nat_abs count) own ∙ ap capped (some_is (nat_abs count * own) total same))
-
-pub found_none : (count : ℤ) (exact found : Option ℕ) → IsFound exact found → found ≡ None → IsFound (rows_width (Some count) exact) None
-found_none count None found is none total same = absurd cc
-found_none count (Some own) found is none total same = absurd (none_some (capped own) (sym none ∙ is own refl))
+pub found_rows : (count : ℤ) (exact found : Option ℕ) → IsFound exact found → IsFound (rows_width (Some count) exact) (option_map (λ (bits : ℕ). capped (nat_abs count * bits)) found)
+found_rows count None found is total same = absurd cc
+found_rows count (Some own) found is total same =
+    ap (option_map (λ (bits : ℕ). capped (nat_abs count * bits))) (is own refl)
+    ∙ ap Some (capped_times (nat_abs count) own ∙ ap capped (some_is (nat_abs count * own) total same))
 
 -- the widths of the first fields are found, where those of all are known
 pub record FoundSoFar (fields : List Field) (i : ℕ) (found : Option ℕ) (total : ℕ) : Type 0 where
@@ -181,7 +177,7 @@ both_known (Some a) None total is = absurd cc
 both_known (Some a) (Some b) total is = (a, b, refl, refl, some_is (a + b) total is)
 
 pub found_first : (fields : List Field) → AreFoundSoFar fields 0 (Some 0)
-found_first fields total is = record { done = 0; rest = total; left = is; is = refl; sum = refl }
+found_first fields total is = record { done = 0; rest = total; left = is; is = refl; sum = omega arith }
 
 pub found_more : (fields : List Field) (i : ℕ) (field : Field) → i < length fields → field ≡ get_or fields i field → (before found next : Option ℕ) → AreFoundSoFar fields i before
     → IsFound (fixed_width (plain_field field)) found → next ≡ option_map capped (plus before found) → AreFoundSoFar fields (i + 1) next

@@ -48,7 +48,7 @@ record KeyBits (width : ℤ) (fixed : Option Term) (bits : List Bool) : Type 0 w
 key_number : (facts : Facts) (seen : ℤ → ℤ → Option ℤ) (env : Environment) → HasPlaces env → (passed : Passed) (form : NumForm) (width : ℤ) (fixed : Option Term) (value : Option Tree) (bits : List Bool)
     → has_value fixed ≡ true → IsNumber form width fixed (see facts seen env) value bits → KeyBits width fixed bits
 key_number facts seen env has passed form width None value bits there it = absurd cc
-key_number facts seen env has passed form width (Some term) value bits there (v, is, valued, fits, are, solves) = by (constant_of term) refl there
+key_number facts seen env has passed form width (Some term) value bits there (v, is, valued, fits, are) = by (constant_of term) refl there
   where
     same : (c : ℤ) → ◌≡◌ {A = Result ℤ EvalFault} (Ok c) (Ok v) → c ≡ v
     same c is = cc

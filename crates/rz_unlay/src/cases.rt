@@ -150,10 +150,7 @@ fn rows_before(count: Option<i32>, row: &[Field]) -> Option<u64>
 {
     match count {
         Some(0) => Some(0),
-        Some(count) => match widths_before(row) {
-            Some(bits) => Some(times(count.unsigned_abs(), bits)),
-            None => None,
-        },
+        Some(count) => times(count, widths_before(row)),
         None => None,
     }
 }
@@ -170,11 +167,18 @@ fn widths_before(row: &[Field]) -> Option<u64>
     width
 }
 
-/// So many times so many bits, at most one more than a resource can have.
-fn times(count: u32, bits: u64) -> u64
-    ensures { result ≡ capped (count * bits) }
+/// So many times this width, where it is known; at most one more than a resource can have.
+fn times(count: i32, width: Option<u64>) -> Option<u64>
+    ensures { result ≡ option_map (λ bits. capped (nat_abs count * bits)) width }
 {
-    u64::from(count).saturating_mul(bits).min(MOST_BITS)
+    match width {
+        Some(bits) => Some(
+            u64::from(count.unsigned_abs())
+                .saturating_mul(bits)
+                .min(MOST_BITS),
+        ),
+        None => None,
+    }
 }
 
 /// Whether the key that a field is, where it is one, stands after so many bits.
