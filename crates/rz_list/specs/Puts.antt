@@ -13,8 +13,8 @@ abbrev pub put_of : Result (Unit {0}) Failed → Put
 put_of (Ok done) = puts.Done
 put_of (Err failed) = puts.Failed
 
--- The whole text was put, and the sink counts as many faults as before; or a front of it, up to a put that failed and that the
--- sink counted.
+-- The whole text was put, and the sink counts as many faults as before; or a front of it, up to a put that failed and
+-- that the sink counted.
 pub record PutsText {O : Type 0} (g : Ghosts O) (old new : O) (text : List ℕ) (result : Result (Unit {0}) Failed) : Type 0 where
   pub told : Puts text (g.stream old) (g.stream new) (put_of result)
   pub counted : g.faults old ≤ g.faults new

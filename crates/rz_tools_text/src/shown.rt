@@ -65,9 +65,9 @@ impl Known {
 }
 
 /// Puts the lines of a resource that is lent: the `resource` statement with the row that its bytes tell under the type
-/// that is declared for it, unless the row chooses a case whose name is a macro; and where there is no such row its `data`
-/// statement. Of the resource its name alone is copied. Every resource can be shown: `NoMemory` is the only refusal, and
-/// then nothing is put. (MPW DeRez.)
+/// that is declared for it, unless the row chooses a case whose name is a macro; and where there is no such row its
+/// `data` statement. Of the resource its name alone is copied. Every resource can be shown: `NoMemory` is the only
+/// refusal, and then nothing is put. (MPW DeRez.)
 pub fn put_resource<O: Sink>(
     alloc: Global,
     view: &ResView<'_>,
@@ -146,8 +146,8 @@ fn put_under<O: Sink>(
     }
 }
 
-/// The row that the bytes of a resource with these facts tell under the template that is declared for it, unless it chooses
-/// a case whose name is a macro.
+/// The row that the bytes of a resource with these facts tell under the template that is declared for it, unless it
+/// chooses a case whose name is a macro.
 fn row_told(
     alloc: Global,
     view: &ResView<'_>,

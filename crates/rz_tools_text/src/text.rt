@@ -1,4 +1,5 @@
-//! The text of a fork, which is put line by line: of the resources that are chosen, in order. What it is is in `specs/Put`.
+//! The text of a fork, which is put line by line: of the resources that are chosen, in order. What it is is in
+//! `specs/Put`.
 
 ghost use Rattle.std.specs.Prelude.{◌≡◌, ◌≤◌, ◌<◌, ◌^◌, ◌∷◌, [], ℕ, List, length, Ok};
 ghost use Rattle.rz_folder.specs.Counts.{Rose};
