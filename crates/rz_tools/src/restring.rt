@@ -1,5 +1,5 @@
-//! `restring`: the type files, the fork of the file, the catalogue, and the file of the fork with the texts of the catalogue in
-//! place. What it answers is in `specs/Restring`.
+//! `restring`: the type files, the fork of the file, the catalogue, and the file of the fork with the texts of the
+//! catalogue in place. What it answers is in `specs/Restring`.
 
 ghost use Rattle.std.specs.Prelude.{◌≡◌, ◌<◌, ◌+◌, ◌^◌, length, IfOk};
 ghost use Rattle.std.specs.FinMap as map;

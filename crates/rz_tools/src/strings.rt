@@ -1,5 +1,5 @@
-//! `strings`: the type files, the fork of the file, and the texts of its resources as a catalogue. What it answers is in
-//! `specs/Strings`.
+//! `strings`: the type files, the fork of the file, and the texts of its resources as a catalogue. What it answers is
+//! in `specs/Strings`.
 
 ghost use Rattle.std.specs.Prelude.{◌≡◌, ◌≢◌, ◌<◌, ◌^◌, [], ℕ, length, IfOk};
 ghost use Rattle.std.specs.FinMap as map;
