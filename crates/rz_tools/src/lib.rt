@@ -12,6 +12,7 @@
 #![tactic(auto)]
 
 mod answer;
+mod begin;
 mod derez;
 mod laws;
 mod list;
@@ -27,6 +28,7 @@ mod step;
 mod strings;
 mod types;
 
+pub use begin::begin;
 pub use laws::{
     catalogues_are_put_back, every_answer, one_answer, shown_forks_are_compiled_again,
     shown_forks_are_read_again,
