@@ -8,16 +8,16 @@
 #![tactic(auto)]
 
 mod epoch;
-mod given;
 mod hindrance;
 mod host;
 mod mem_host;
 mod real_host;
+mod start;
 #[cfg(test)]
 mod tests;
 
-pub use given::{Start, given};
 pub use hindrance::Hindrance;
 pub use host::{Host, NotText};
 pub use mem_host::MemHost;
 pub use real_host::RealHost;
+pub use start::{Start, given};

@@ -3,7 +3,7 @@
 
 ghost use Rattle.std.specs.Io.{WritesAtMost};
 
-use super::given::{moment_at, moment_of};
+use super::start::{moment_at, moment_of};
 use super::{MemHost, RealHost, given};
 use std::alloc::{AllocError, Global};
 use std::env::FillError;

@@ -2,7 +2,7 @@ use Rattle.std.proofs.Common.{map, refl}
 use Rattle.std.specs.String.{string_bytes}
 use Rattle.rz_tools.proofs.Beginning.{asked_by}
 use Rattle.rz_tools.specs.Begin.{hindered, runs}
-use Rattle.rz_tools.proofs.begin.begin.Goals as goal
+use Rattle.rz_tools.proofs.process.begin.Goals as goal
 
 pub run-requires : goal.run-requires
 run-requires g c =
