@@ -1,5 +1,5 @@
--- What the program does with what its process is given. It is said of what can be seen of the folder and the streams before and
--- after it, and of its exit status.
+-- What the program does with what its process is given. It is said of what can be seen of the folder and the streams
+-- before and after it, and of its exit status.
 use Rattle.std.specs.Prelude.{◌≡◌, ℕ, List, Option, Some, None, IfSome}
 use Rattle.rz_core.specs.declared.moment.Moment.{Moment}
 use Rattle.rz_folder.specs.Folder.{Files}
@@ -18,9 +18,9 @@ pub record OnlySays (line : List ℕ) (before after : World) : Type 0 where
   pub untouched : after ≡ record before { err = after.err; err_faults = after.err_faults }
   pub says : SaysText line before after
 
--- The program runs the words at the moment that its process is given, as the headline says, and its status is that of the outcome;
--- or its process is given none, and it says why. Where the host doesn't tell what the process is given, these are some words at some
--- moment, or some hindrance.
+-- The program runs the words at the moment that its process is given, as the headline says, and its status is that of
+-- the outcome; or its process is given none, and it says why. Where the host doesn't tell what the process is given,
+-- these are some words at some moment, or some hindrance.
 pub data Begins (process : Option Process) (before after : World) (status : ℕ) : Type 0 where
   runs : (words : List (List ℕ)) (moment : Moment) (result : Outcome) → IfSome process (λ process. BeginsWith process words moment)
       → Headline (record { words = words; moment = moment; before = before; after = after; result = result }) → status ≡ status_of result

@@ -12,8 +12,8 @@ abbrev pub words_of : List (List ℕ) → List (List ℕ)
 words_of [] = []
 words_of (name ∷ words) = words
 
--- the variable that tells a build its moment, as the decimal of the seconds since the first second of 1970, in place of the clock.
--- (SOURCE_DATE_EPOCH, reproducible-builds.org)
+-- the variable that tells a build its moment, as the decimal of the seconds since the first second of 1970, in place
+-- of the clock. (SOURCE_DATE_EPOCH, reproducible-builds.org)
 abbrev pub source_date_epoch : List ℕ
 source_date_epoch = codes "SOURCE_DATE_EPOCH"
 

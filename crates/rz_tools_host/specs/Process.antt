@@ -6,8 +6,9 @@ use Rattle.rz_core.specs.declared.stop.Stop.{Stop}
 use Rattle.rz_core.specs.declared.stop.Stop.TheVariants.{Refused, NoMemory}
 use Rattle.rz_tools_host.specs.declared.host.NotText.{NotText}
 
--- What a process is given: the bytes of its arguments, of which the first is the program's name; the bytes that its environment
--- has for a name, where it has any; and the whole seconds since the first second of 1970 that its clock tells, where it tells them.
+-- What a process is given: the bytes of its arguments, of which the first is the program's name; the bytes that its
+-- environment has for a name, where it has any; and the whole seconds since the first second of 1970 that its clock
+-- tells, where it tells them.
 pub record Process : Type 0 where
   pub args : List (List ℕ)
   pub variables : List ℕ → Option (List ℕ)

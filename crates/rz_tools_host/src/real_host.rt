@@ -11,8 +11,8 @@ use std::io::ErrorKind;
 use std::rt::{Clock, Env};
 use std::time::{SystemTime, UNIX_EPOCH};
 
-/// The process that runs: its arguments, its environment and the host's clock. This is the trusted edge: it hands on what
-/// std gives, and it tells nothing of that. What is proved is that each call is safe and ends.
+/// The process that runs: its arguments, its environment and the host's clock. This is the trusted edge: it hands on
+/// what std gives, and it tells nothing of that. What is proved is that each call is safe and ends.
 #[derive(Drop)]
 pub struct RealHost<R> {
     runtime: R,
@@ -28,8 +28,8 @@ impl<R: Env + Clock + Drop> RealHost<R> {
 impl<R: Env + Clock + Drop> Host for RealHost<R> {
     ghost process = { λ _. None };
 
-    /// The arguments as std gives them. `Refused` is every error of std's but want of memory: of the host's own arguments
-    /// that is one that isn't UTF-8.
+    /// The arguments as std gives them. `Refused` is every error of std's but want of memory: of the host's own
+    /// arguments that is one that isn't UTF-8.
     fn args(&self, alloc: Global) -> Result<Vec<String>, Stop<NotText>> {
         match env::args(&(&self.runtime, alloc)) {
             Ok(args) => Ok(listed(alloc, args)?),

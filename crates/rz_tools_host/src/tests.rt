@@ -1,5 +1,5 @@
-//! Tests of the edge over a runtime that gives what it is told: which words and which moment a run has, or why it doesn't
-//! begin. The same over a host in memory.
+//! Tests of the edge over a runtime that gives what it is told: which words and which moment a run has, or why it
+//! doesn't begin. The same over a host in memory.
 
 ghost use Rattle.std.specs.Io.{WritesAtMost};
 
