@@ -1,6 +1,5 @@
-use Rattle.std.proofs.Common.{◌≡◌, ◌∙◌, ◌*◌, ℕ, ℤ, rules, w32, sym, subst, List, Option, Some}
+use Rattle.std.proofs.Common.{◌≡◌, ◌∙◌, ◌*◌, ℕ, ℤ, rules, w32, ap, sym, subst, List, Option, Some}
 use Rattle.std.proofs.lemmas.Int.{to_z-of_z}
-use Rattle.std.specs.Int.RustNames.{FitsSigned}
 use Rattle.std.specs.Prelude.{nat_abs, option_map}
 use Rattle.rz_types_fields.proofs.Bodies.{array_is}
 use Rattle.rz_types_fields.specs.declared.field.Field.{Field}
@@ -24,8 +23,8 @@ width_before-returns-in_default t c = found_exact (fixed_width (plain_field c.ar
 pub rows_before-returns-in-Some : goal.rows_before-returns-in-Some
 rows_before-returns-in-Some t c =
     let exact = fixed_widths (plain_body c.args.row.now) in
-    let fits : FitsSigned w32 c.in-Some.count = search rules in
-    let made : c.times.result ≡ option_map (λ (bits : ℕ). capped (nat_abs c.in-Some.count * bits)) c.widths_before.result = simp to_z-of_z at c.times.ensures in
+    let made : c.times.result ≡ option_map (λ (bits : ℕ). capped (nat_abs c.in-Some.count * bits)) c.widths_before.result =
+    c.times.ensures ∙ ap (λ (n : ℤ). option_map (λ (bits : ℕ). capped (nat_abs n * bits)) c.widths_before.result) (to_z-of_z w32 c.in-Some.count (search rules)) in
     subst (λ (count : Option ℤ). IsFound (rows_width count exact) c.times.result) (sym c.in-Some.is)
     (subst (IsFound (rows_width (Some c.in-Some.count) exact)) (sym made) (found_rows c.in-Some.count exact c.widths_before.result c.widths_before.ensures))
 
