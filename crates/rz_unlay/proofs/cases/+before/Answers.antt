@@ -1,11 +1,9 @@
-use Rattle.std.proofs.Common.{◌≡◌, ◌∙◌, ◌*◌, ℕ, ℤ, rules, w32, ap, sym, subst, List, Option, Some}
-use Rattle.std.proofs.lemmas.Int.{to_z-of_z}
-use Rattle.std.specs.Prelude.{nat_abs, option_map}
+use Rattle.std.proofs.Common.{◌∙◌, ℕ, sym, subst, List, Option}
 use Rattle.rz_types_fields.proofs.Bodies.{array_is}
 use Rattle.rz_types_fields.specs.declared.field.Field.{Field}
 use Rattle.rz_types_fields.specs.declared.field.Field.TheViews.{out-ArrayField}
 use Rattle.rz_types.specs.Field.{plain_body, plain_field, PlainField}
-use Rattle.rz_types.specs.Width.{capped, fixed_width, fixed_widths, rows_width}
+use Rattle.rz_types.specs.Width.{fixed_width, fixed_widths, rows_width}
 use Rattle.rz_unlay.specs.Fits.{IsFound}
 use Rattle.rz_unlay.proofs.KeySteps.{found_exact, found_first, found_last, found_more, found_rows}
 use Rattle.rz_unlay.proofs.LeafSteps.{array_field}
@@ -23,10 +21,7 @@ width_before-returns-in_default t c = found_exact (fixed_width (plain_field c.ar
 pub rows_before-returns-in-Some : goal.rows_before-returns-in-Some
 rows_before-returns-in-Some t c =
     let exact = fixed_widths (plain_body c.args.row.now) in
-    let made : c.times.result ≡ option_map (λ (bits : ℕ). capped (nat_abs c.in-Some.count * bits)) c.widths_before.result =
-    c.times.ensures ∙ ap (λ (n : ℤ). option_map (λ (bits : ℕ). capped (nat_abs n * bits)) c.widths_before.result) (to_z-of_z w32 c.in-Some.count (search rules)) in
-    subst (λ (count : Option ℤ). IsFound (rows_width count exact) c.times.result) (sym c.in-Some.is)
-    (subst (IsFound (rows_width (Some c.in-Some.count) exact)) (sym made) (found_rows c.in-Some.count exact c.widths_before.result c.widths_before.ensures))
+    subst (λ (width : Option ℕ). IsFound (rows_width c.args.count exact) width) (sym c.rows_width.ensures) (found_rows c.args.count exact c.widths_before.result c.widths_before.ensures)
 
 pub widths_before-loop-field-init : goal.widths_before-loop-field-init
 widths_before-loop-field-init t c = found_first c.args.row.now
