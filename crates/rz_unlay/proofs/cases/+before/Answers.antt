@@ -1,4 +1,4 @@
-use Rattle.std.proofs.Common.{◌∙◌, ℤ, sym, subst, List, Option, Some}
+use Rattle.std.proofs.Common.{◌∙◌, ℕ, sym, subst, List, Option}
 use Rattle.rz_types_fields.proofs.Bodies.{array_is}
 use Rattle.rz_types_fields.specs.declared.field.Field.{Field}
 use Rattle.rz_types_fields.specs.declared.field.Field.TheViews.{out-ArrayField}
@@ -21,8 +21,7 @@ width_before-returns-in_default t c = found_exact (fixed_width (plain_field c.ar
 pub rows_before-returns-in-Some : goal.rows_before-returns-in-Some
 rows_before-returns-in-Some t c =
     let exact = fixed_widths (plain_body c.args.row.now) in
-    subst (λ (count : Option ℤ). IsFound (rows_width count exact) c.times.result) (sym c.in-Some.is)
-    (subst (IsFound (rows_width (Some c.in-Some.count) exact)) (sym c.times.ensures) (found_rows c.in-Some.count exact c.widths_before.result c.widths_before.ensures))
+    subst (λ (width : Option ℕ). IsFound (rows_width c.args.count exact) width) (sym c.rows_width.ensures) (found_rows c.args.count exact c.widths_before.result c.widths_before.ensures)
 
 pub widths_before-loop-field-init : goal.widths_before-loop-field-init
 widths_before-loop-field-init t c = found_first c.args.row.now
