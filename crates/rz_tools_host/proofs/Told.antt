@@ -1,5 +1,5 @@
 -- What a host that tells gives: words and a moment, or none.
-use Rattle.std.proofs.Common.{◌≡◌, ℕ, ◌+◌, ◌<◌, suc, zero, ℤ, pos, negsuc, List, [], ◌∷◌, ◌++◌, map, take, drop, length, Option, Some, None, Err, arith, refl, sym, ap, subst, ◌∙◌}
+use Rattle.std.proofs.Common.{◌≡◌, ℕ, ◌+◌, suc, zero, ℤ, pos, negsuc, List, [], ◌∷◌, ◌++◌, map, take, drop, length, Option, Some, None, Err, arith, refl, sym, ap, subst, ◌∙◌}
 use Rattle.std.specs.Prelude.{IfSome, IsSomeAnd, IsUtf8, option_map}
 use Rattle.std.specs.Fmt.{decimal}
 use Rattle.std.specs.List.{All}

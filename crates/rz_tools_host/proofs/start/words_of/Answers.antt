@@ -1,5 +1,4 @@
-use Rattle.std.proofs.Common.{◌≡◌, String, Vec, map, string_bytes, sym, ap, subst, ◌∙◌}
-use Rattle.std.proofs.Common.{Global}
+use Rattle.std.proofs.Common.{◌≡◌, Global, String, Vec, map, string_bytes, sym, ap, subst, ◌∙◌}
 use Rattle.std.specs.Prelude.{IsUtf8}
 use Rattle.std.specs.List.{All}
 use Rattle.std.proofs.lemmas.Bool.{eqb-true}
