@@ -1,6 +1,5 @@
 -- Compiling and reading are inverse.
-use Rattle.std.proofs.Common.{◌≡◌, ◌↔◌, ℕ, ◌<◌, ◌≤◌, true, List, length, Some, Result, Ok, subst}
-use Rattle.std.specs.Prelude.{slice_index}
+use Rattle.std.proofs.Common.{◌≡◌, ◌↔◌, ℕ, true, List, Some, Result, Ok, subst}
 use Rattle.rz_core.proofs.Once.{same_ok}
 use Rattle.rz_core.specs.declared.facts.Facts.{Facts}
 use Rattle.rz_layout.specs.Compiled.{IsCompiled}
