@@ -11,7 +11,7 @@ use Rattle.rz_core.specs.Lists.{with_front}
 use Rattle.rz_core.specs.declared.resource.Resource.{Resource}
 use Rattle.rz_fork.proofs.Grouping.{has_kind, with_front_append}
 use Rattle.rz_fork.proofs.Resources.{HasKind}
-use Rattle.rz_fork.specs.Image.{group_of, grouped, kinds_of, new_kind}
+use Rattle.rz_fork.specs.Image.{group_of, grouped, new_kind}
 
 -- One type.
 
