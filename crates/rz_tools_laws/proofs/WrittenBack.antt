@@ -1,7 +1,6 @@
 -- What `derez` writes of the fork of a list, `rez` writes as the same bytes again.
 use Rattle.std.proofs.Common.{◌≡◌, inl, ℕ, Bool, false, List, [], ◌∷◌, ◌++◌, Some, None, Ok, refl, sym, ap, subst, ◌∙◌}
 use Rattle.std.specs.FinMap as finite
-use Rattle.std.specs.declared.result.Result.{Result}
 use Rattle.rz_core.specs.declared.moment.Moment.{Moment}
 use Rattle.rz_core.specs.declared.resource.Resource.{Resource}
 use Rattle.rz_folder.specs.Folder.{Files}
@@ -9,7 +8,6 @@ use Rattle.rz_bridge_files.specs.Contents.{fork_in}
 use Rattle.rz_bridge_files.specs.Names.{raw}
 use Rattle.rz_bridge_files.specs.Written.{written_as}
 use Rattle.rz_bridge_form.specs.declared.form.Form.{Form}
-use Rattle.rz_bridge_form.specs.declared.form.Form.TheVariants.{Raw}
 use Rattle.rz_fork.specs.Contents.{Fork}
 use Rattle.rz_fork.specs.Image.{fork_of}
 use Rattle.rz_pre.specs.declared.condition.Tool.TheVariants as tools
