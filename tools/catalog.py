@@ -13,10 +13,10 @@ what it is given.
 """
 import sys
 
-from catalogues import entries_of, message, roman_text, tokens_of_catalogue
-from forms import Refused
-from lists import key_text
-from shown import pieces
+from model.catalogues import entries_of, message, roman_text, tokens_of_catalogue
+from model.forms import Refused
+from model.lists import key_text
+from model.shown import pieces
 
 
 def entries_in(name):
