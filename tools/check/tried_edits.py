@@ -59,8 +59,9 @@ class Repository:
         os.chmod(os.path.join(room, "bin/rt"), 0o755)
         for name, text in FILES.items():
             self.write(name, text)
-        os.mkdir(os.path.join(room, "tools"))
-        shutil.copy2(SCRIPT, os.path.join(room, "tools"))
+        os.makedirs(os.path.join(room, "tools", "check"))
+        for script in (SCRIPT, os.path.join(os.path.dirname(SCRIPT), "top.py")):
+            shutil.copy2(script, os.path.join(room, "tools", "check"))
 
     def write(self, name, text):
         path = os.path.join(self.room, name)

@@ -102,7 +102,7 @@ def mutated(chance, data):
 
 def mutants(seed, count):
     """Files that are damaged by chance, of all forms."""
-    from forms import double, hqx, macbin, single
+    from model.forms import double, hqx, macbin, single
     chance = random.Random(seed)
     forms = [lambda file: file.res, double, single, macbin, hqx]
     for number in range(count):
