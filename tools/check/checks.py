@@ -4,7 +4,8 @@
     python3 tools/check/checks.py
 
 The files of cases that a script writes are what it would write now, and a second reading shows what they show; the
-documents name what is there, and wrong links are found; docs/MESSAGES.md has each message; the help text describes each option; the edits of
+documents name what is there, and wrong links are found; the laws of docs/PROOFS.md are those of the sources;
+docs/MESSAGES.md has each message; the help text describes each option; the edits of
 wrong-bodies/ and must-fail/ apply, and tools/check/wrong_bodies.py finds those that don't. With the program that ./rezkit runs:
 ./test finds programs that are wrong; ./rezkit tells why it runs no program; tools/install installs it; the commands that
 README.md, docs/TOUR.md, docs/MESSAGES.md, docs/DAMAGED.md, docs/TEMPLATES.md, docs/TYPES.md, docs/TRANSLATING.md,
@@ -47,7 +48,7 @@ def checks(program):
     scripts = sorted(glob.glob("tools/cases/*_cases.py"))
     found += [(script, [script, "--check"], None) for script in scripts if "--check" in text_of(script)]
     found.append(("tools/cases/fork_bytes.py", ["tools/cases/fork_bytes.py", "--check", *sorted(cases)], None))
-    for script in ("tools/calls.py", "tools/help.py", "tools/check/wrong_bodies.py"):
+    for script in ("tools/calls.py", "tools/laws.py", "tools/help.py", "tools/check/wrong_bodies.py"):
         found.append((script, [script, "--check"], None))
     for name in ("links", "wrong_links", "messages", "tried_edits"):
         found.append(("tools/check/%s.py" % name, ["tools/check/%s.py" % name], None))
