@@ -14,7 +14,7 @@ what it is given.
 import sys
 
 from model.catalogues import entries_of, message, roman_text, tokens_of_catalogue
-from model.forms import Refused
+from model.faults import Refused
 from model.lists import key_text
 from model.shown import pieces
 

@@ -10,8 +10,9 @@ import sys
 
 import top  # noqa: F401
 from casefile import Book
+from model.faults import Refused
 from model.fork import admitted, image
-from model.forms import File, Refused, dated, form_of, hqx, macbin, read_form, single
+from model.forms import File, dated, form_of, hqx, macbin, read_form, single
 
 BOOK = Book("broken.cases", "A fork and files of other forms with one thing broken.",
             "Written by tools/cases/broken_cases.py, each answer by hand and by the second readings of fork.py and forms.py.")
@@ -23,9 +24,6 @@ N63 = macbin(File(name=b"n" * 63, res=bytes(128)))
 APP = dated(File(res=ONE))
 BOTH = single(File(name=b"a", data=b"\0", res=ONE))
 A = hqx(File(name=b"a", data=b"\0"))
-NAMES = {402: "DataAreaOutside", 403: "MapOutside", 404: "ShortMap", 405: "TypeListOutside", 406: "TypesOutside",
-         407: "ReferencesOutside", 408: "DataOutside", 410: "Repeated", 421: "ShortHeader", 422: "BadMagic",
-         423: "EntryOutside", 426: "Truncated", 427: "NewerVersion", 442: "BadLetter"}
 
 
 def put(data, at, digits):
@@ -70,7 +68,7 @@ FORMS = [
 
 
 def line_of(number, *kept):
-    return "error %d %s: %s\n" % (number, NAMES[number], " ".join(map(str, kept)))
+    return "error %s\n" % Refused(number, *kept)
 
 
 def told(read, *given):

@@ -12,9 +12,9 @@ import sys
 
 import top  # noqa: F401
 from casefile import Book
-from model.forms import (FIRST_DATE, MAGICS, MOST, File, Refused, crc, dated, entries_of, form_of, hqx, macbin, parts_of,
+from model.faults import Refused
+from model.forms import (FIRST_DATE, MAGICS, MOST, File, crc, dated, entries_of, form_of, hqx, macbin, parts_of,
                    read_form, single, written)
-from model.lists import NAMES
 
 BOOK = Book("carried.cases", "Files from each form to each form, and all that AppleDouble, AppleSingle and MacBinary may have.",
             "Written by tools/cases/carried_cases.py, every byte by tools/model/forms.py.")
@@ -86,7 +86,7 @@ def refuse(name, held, says, to="raw", form=None):
         written(to, told(held, form))
         assert False, name
     except Refused as fault:
-        came = "%d %s: %s" % (fault.number, NAMES[fault.number], fault.kept)
+        came = str(fault)
         assert came == says, (name, came)
     case(name, words_of(held, to, form), held, gone=["o/" + FORMS[to]], status=2, err="rezkit: error %s\n" % says)
 

@@ -9,7 +9,9 @@ DATA = os.path.join(TOP, "crates", "rezkit_cases", "data")
 
 
 class Book:
-    """The lines of a case file."""
+    """The lines of a case file. No two cases that a script writes have one name."""
+
+    names = set()
 
     def __init__(self, name, *says):
         self.name, self.lines, self.count = name, [], 0
@@ -21,6 +23,8 @@ class Book:
 
     def case(self, name, words, files=(), keys=(), status=0, leaves=(), gone=(), out="", err=""):
         """A case: `files` and `leaves` are pairs of a name and a content, `keys` further lines."""
+        assert name not in self.names, name
+        self.names.add(name)
         self.count += 1
         self.lines += ["case " + name, "words " + words] + list(keys)
         for file, data in files:

@@ -14,9 +14,10 @@ import top  # noqa: F401
 from casefile import Book
 from model.case_lines import spelled
 from model.catalogues import entry_text, message, restring, strings
+from model.faults import Refused
 from model.fork import admitted, fork_of, image
 from model.fork_shapes import each, held, laid, named, reference
-from model.forms import MAGICS, File, Refused, form_of, single, written
+from model.forms import MAGICS, File, form_of, single, written
 from model.case_reader import read_cases
 
 BOOK = Book("catalog.cases", "Catalogues of texts by `strings`, and texts put back by `restring`.",

@@ -14,10 +14,11 @@ import sys
 import top  # noqa: F401
 from casefile import Book
 from fork_cases import SHAPES
-from model.breaks import NAMES, breaks, text_of
+from model.breaks import breaks, text_of
+from model.faults import Refused
 from model.fork import admitted, image, number
 from model.fork_shapes import ABSENT, each, held, laid, named, reference
-from model.forms import File, Refused, double, form_of, hqx, macbin, read_form, single, written
+from model.forms import File, double, form_of, hqx, macbin, read_form, single, written
 
 BOOK = Book("det.cases", "All broken rules of a fork, told by `det`.",
             "Written by tools/cases/det_cases.py, each list by hand or by the second reading of tools/model/breaks.py.")

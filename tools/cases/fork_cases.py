@@ -11,14 +11,13 @@ import sys
 
 import top  # noqa: F401
 from casefile import Book
-from list_book import Cases, resource
+from list_book import Runs, resource
 from model.fork import admitted, image, number
 from model.fork_shapes import ABSENT, each, held, laid, named, reference
-from model.forms import File, form_of, read_form, written
-from model.lists import (All, Bad, Head, Id, Name, Range, Resource, change, data, delete, include, key_text, quoted, shown,
-                   text_of)
+from model.forms import File, written
+from model.lists import All, Bad, Head, Id, Name, Range, Resource, change, data, delete, include, shown
 
-FORKS = Cases(Book("forks.cases", "Forks that share bytes, names and lists, types without references, and repeated keys.",
+FORKS = Runs(Book("forks.cases", "Forks that share bytes, names and lists, types without references, and repeated keys.",
                    "Written by tools/cases/fork_cases.py. What each run leaves is told by tools/model/lists.py."))
 NOTHING = (";", None)
 FORMS = ("raw", "double", "single", "macbin", "hqx")

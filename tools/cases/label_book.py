@@ -9,10 +9,11 @@ import re
 import top  # noqa: F401
 from casefile import Book
 from model import shown
+from model.faults import Refused
 from model.fork import image, spelled as bytes_spelled
 from model.label_reading import read
 from model.label_spelling import is_spelled
-from model.label_types import (Align, Array, Fill, Number, Points, Refused, Switch, bits_at, byte, byte_at, field_bits, integer, items_text, key,
+from model.label_types import (Align, Array, Fill, Number, Points, Switch, bits_at, byte, byte_at, field_bits, integer, items_text, key,
                          long_at, longint, num, number, points, text, type_text, word_at)
 from model.labels import FACTS, bytes_of, check
 
@@ -29,9 +30,7 @@ def agree(same, *says):
 
 
 class Cases:
-    """The cases of a book, of which none has another's name."""
-
-    names = set()
+    """The cases of `rez`: of a type and a row, or of a source by hand."""
 
     def __init__(self, name, script, says, read_back=None):
         self.book = Book(name, says, WRITTEN % script)
@@ -44,8 +43,6 @@ class Cases:
 
     def add(self, name, source, resources, error, words="rez s.r -o x", keys=(), files=()):
         """A case with its source, and the resources or the line that come."""
-        assert name not in self.names, name
-        self.names.add(name)
         self.book.case(name, words, [("s.r", source)] + list(files), keys, 2 if error else 0,
                        [] if error else [("x", image(resources))], (), "", "rezkit: %s\n" % error if error else "")
 
@@ -83,8 +80,6 @@ class Cases:
 class Shown:
     """Cases of `derez` of types with labels, and of `rez` on what it shows."""
 
-    names = set()
-
     def __init__(self, name, script, says):
         self.book = Book(name, says, WRITTEN_OF_SHOWN % script)
         self.say = self.book.say
@@ -104,8 +99,6 @@ class Shown:
 
     def add(self, name, types, resources, told, out=None, again=True):
         """A case of `derez` of resources, of which the model told which ones are shown, and the text back."""
-        assert name not in self.names, name
-        self.names.add(name)
         fork = image(resources)
         text = shown.derez(["f", "t.r"], {"f": fork, "t.r": types.encode()})
         agree(told == "".join(line[0] for line in text.split("\n") if re.match("(resource|data) '", line)),

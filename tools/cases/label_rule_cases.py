@@ -11,8 +11,8 @@ import sys
 
 import top  # noqa: F401
 from label_book import Cases, WRONG
-from model.label_types import (Array, Fill, Format, Label, Switch, at, at_row, bits_at, byte, byte_at, integer, key, long_at, longint,
-                         number, points, row_of, rows_of, text, word_at)
+from model.label_types import (Array, Fill, Format, Label, Switch, at, at_row, bits_at, byte, byte_at, integer, key,
+                               long_at, number, points, row_of, rows_of, text, word_at)
 
 RULES = Cases("label_rules.cases", "label_rule_cases.py", "Where labels may stand, how they are named, and what is no label.")
 

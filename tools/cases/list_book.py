@@ -10,10 +10,8 @@ def resource(kind, ident, name="", attr=0, content=b""):
     return kind.encode("mac_roman"), ident, name.encode("mac_roman"), attr, content
 
 
-class Cases:
-    """The cases of a book, of which none has another's name."""
-
-    names = set()
+class Runs:
+    """The cases of a book, each a run of lists.py."""
 
     def __init__(self, book):
         self.book = book
@@ -23,8 +21,6 @@ class Cases:
 
     def add(self, name, words, run, before, after, gone, err, keys, warned=""):
         """A case of a run, whose line on `err` is as it was written by hand."""
-        assert name not in self.names, name
-        self.names.add(name)
         status, out, line = ends(run)
         wanted = "rezkit: %s\n" % err if err else ""
         assert line == wanted, (name, line, wanted)

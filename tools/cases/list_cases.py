@@ -10,7 +10,7 @@ import sys
 
 import top  # noqa: F401
 from casefile import Book
-from list_book import Cases, resource
+from list_book import Runs, resource
 from model.fork import image, number
 from model.forms import MAGICS, File, checked, crc, dated, double, hqx, hqx_head, hqx_text, macbin, single
 from model.lists import All, Bad, Head, Id, Name, Range, Source, Stray, change, data, delete, include, read, wrong
@@ -49,7 +49,7 @@ def cut_fork():
     return ONE[:15] + b"\x2E" + ONE[16:308]
 
 
-lists, append, formed = Cases(LISTS), Cases(APPEND), Cases(FORMS)
+lists, append, formed = Runs(LISTS), Runs(APPEND), Runs(FORMS)
 
 
 def which_resources():

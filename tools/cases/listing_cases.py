@@ -16,9 +16,9 @@ import top  # noqa: F401
 from casefile import Book
 from det_cases import BASE, ONE, RULES, TWO, Changes, put, told
 from fork_cases import SHAPES
-from model.breaks import NAMES
+from model.faults import NAMES, Refused
 from model.fork import image
-from model.forms import File, Refused, crc, dated, double, entries_of, form_of, hqx, hqx_head, hqx_text, macbin, parts_of, single, written
+from model.forms import File, crc, dated, double, entries_of, form_of, hqx, hqx_head, hqx_text, macbin, parts_of, single, written
 from model.listing import text_of
 
 BOOK = Book("listing.cases", "What `list` prints of files of each form.",

@@ -337,12 +337,9 @@ class Rows:
     def __init__(self):
         self.book = Book("rows.cases", "What bytes tell under fields, that it gives the bytes again, and how it is shown.",
                          "Written by tools/cases/row_cases.py, where all that comes stands by hand, and is told by tools/model/shown.py.")
-        self.names = set()
 
     def case(self, name, words, files, leaves=(), out="", keys=()):
-        """A case that no other has the name of."""
-        assert name not in self.names, name
-        self.names.add(name)
+        """A case that is done."""
         self.book.case(name, words, files, keys, 0, leaves, (), out)
 
     def read(self, line, head):

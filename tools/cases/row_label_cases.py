@@ -11,8 +11,8 @@ import sys
 
 import top  # noqa: F401
 from label_book import Cases, KINDS, WRONG
-from model.label_types import (Align, Array, Expr, Fill, Format, Label, Switch, at, at_row, bits_at, byte, byte_at, fact, field_bits,
-                         integer, key, long_at, longint, num, number, points, row_of, rows_of, text, word_at)
+from model.label_types import (Align, Array, Expr, Fill, Format, Label, Switch, at, at_row, bits_at, byte, byte_at,
+                               fact, field_bits, integer, key, longint, num, number, points, row_of, rows_of, text)
 from model.labels import FACTS
 
 ROWS = Cases("row_labels.cases", "row_label_cases.py",

@@ -13,8 +13,9 @@ import sys
 import top  # noqa: F401
 from label_book import KINDS, Shown, WRONG
 from model import label_wrong
-from model.label_types import (Align, Array, Fill, Format, Label, Refused, Switch, at, at_row, bits_at, byte, byte_at, field_bits, integer, key,
-                         longint, num, number, points, row_of, rows_of, text, word_at)
+from model.faults import Refused
+from model.label_types import (Align, Array, Fill, Format, Label, Switch, at, at_row, bits_at, byte, byte_at,
+                               field_bits, integer, key, longint, num, number, points, row_of, rows_of, text)
 from model.labels import FACTS, bytes_of, width_of
 
 SHOWN = Shown("row_shown.cases", "row_shown_cases.py",

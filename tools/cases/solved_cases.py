@@ -11,8 +11,8 @@ import sys
 
 import top  # noqa: F401
 from label_book import Shown, WRONG
-from model.label_types import (Align, Array, Expr, Fill, Label, Points, Switch, at, bits_at, byte, byte_at, fact, field_bits, integer,
-                         key, long_at, longint, num, number, points, rows_of, text, word_at)
+from model.label_types import (Align, Array, Expr, Fill, Label, Switch, at, bits_at, byte, byte_at, fact, field_bits,
+                               integer, key, longint, num, number, points, rows_of, text, word_at)
 
 SOLVED = Shown("solved.cases", "solved_cases.py", "What derez shows where a number tells the place of a label behind it.")
 FAR, FROM = at("e"), at("s")

@@ -623,12 +623,9 @@ class Statements:
     def __init__(self):
         self.book = Book("statements.cases", "The form of each statement, what it means, and what is no statement.",
                          "Written by tools/cases/statement_cases.py, where all that comes stands by hand.")
-        self.names = set()
 
     def row(self, text, wanted, words, files):
         """The case of a row, and one of what is shown."""
-        assert text not in self.names, text
-        self.names.add(text)
         source, (wanted, _, items) = expanded(text), wanted.partition(" SHOWS ")
         fault = re.fullmatch("(?:([0-9]+): )?([0-9]{3} .*)", wanted)
         if fault:

@@ -17,9 +17,10 @@ import top  # noqa: F401
 from casefile import Book
 from model import shown
 from model.case_lines import spelled
+from model.faults import Refused
 from model.fork import image
-from model.forms import File, Refused, double, hqx, macbin, single, written
-from model.templates import FIELDS, NAMES, fields_of, types_of
+from model.forms import File, double, hqx, macbin, single, written
+from model.templates import FIELDS, types_of
 
 BOOK = Book("tmpl.cases", "Types from 'TMPL' resources: `rez` and `derez` with -tmpl.",
             "Written by tools/cases/tmpl_cases.py, each message and what is shown by hand, the texts by tools/model/shown.py and tools/model/templates.py.")
@@ -27,7 +28,6 @@ STRINGS = bytes.fromhex("05436F756E74 4F434E54 012A 4C535443 0454657874 50535452
 TWO_STRINGS = bytes.fromhex("0002 0141 024243")
 LIST = "OCNT LSTC DBYT LSTE"
 BROKEN = "LSTE"
-NAMED = set()
 
 
 def entries(codes):
@@ -52,12 +52,10 @@ def fork_of(kind, contents):
 
 
 def message(number, ident, place):
-    return "rezkit: error %d %s: %d %d\n" % (number, NAMES[number], ident, place)
+    return "rezkit: error %s\n" % Refused(number, ident, place)
 
 
 def case(name, words, files, *rest, **more):
-    assert name not in NAMED, name
-    NAMED.add(name)
     BOOK.case(name, words, files, *rest, **more)
 
 
@@ -512,9 +510,7 @@ def came_of(file):
     try:
         types_of(file)
     except Refused as fault:
-        names = {**NAMES, 401: "ShortHeader", 403: "MapOutside", 410: "Repeated", 421: "ShortHeader", 423: "EntryOutside", 426: "Truncated",
-                 427: "NewerVersion", 441: "NoStart", 443: "NoEnd"}
-        return "%d %s: %s" % (fault.number, names[fault.number], fault.kept)
+        return str(fault)
     return ""
 
 

@@ -4,8 +4,8 @@ A fault is a number, an offset in the fork and a value. Faults stand by rule, an
 """
 import itertools
 
-NAMES = {401: "ShortHeader", 402: "DataAreaOutside", 403: "MapOutside", 404: "ShortMap", 405: "TypeListOutside",
-         406: "TypesOutside", 407: "ReferencesOutside", 408: "DataOutside", 409: "NameOutside", 410: "Repeated"}
+from model.faults import NAMES
+
 MOST_TYPES, MOST_REFERENCES, MOST_PLACE = 8192, 16384, 1 << 24
 NO_NAME = 0xFFFF
 

@@ -5,8 +5,9 @@ one that tells its form.
 """
 import re
 
+from model.faults import Refused
 from model.fork import admitted, image
-from model.forms import Refused, form_of, read_form
+from model.forms import form_of, read_form
 
 RUNS = [re.compile(re.escape(bytes([byte])) + b"+") for byte in range(256)]  # of one byte each, which Python matches fast
 

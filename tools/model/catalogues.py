@@ -8,18 +8,15 @@ A resource is a tuple of type, id, name, attributes and bytes. An entry is a tup
 """
 import re
 
+from model.faults import Refused
 from model.fork import admitted, image
-from model.forms import File, Refused, form_of, read_form, written
+from model.forms import File, form_of, read_form, written
 from model.label_forms import fields_from, shown_row
 from model.label_reading import read
-from model.label_types import Refused as NoBytes
 from model.labels import bytes_of
-from model.lists import MOMENT, NAMES, key_text, quoted
+from model.lists import MOMENT, key_text, quoted
 from model.shown import all_facts, declarations_of, found, pieces, program_of, row_by_both, tokens_of
 
-FAULTS = {
-    **NAMES, 102: "BadText", 107: "OpenComment", 108: "OpenString", 109: "BadEscape", 113: "BadHex", 115: "WordTooLong", 302: "DataFull",
-    461: "BadEntry", 462: "NoLeaf", 463: "EntryTwice", 464: "TextRefused"}
 MOST = 16777212
 PROTECTED, READ_ONLY = 8, 0x80
 
@@ -69,7 +66,7 @@ class Tree:
         row = with_leaves(self.row, iter(texts))
         try:
             data = bytes_of(self.body, row, self.facts)
-        except NoBytes:
+        except Refused:
             return None
         return data if read(self.body, data, self.facts) == row else None
 
@@ -397,4 +394,4 @@ def message(fault, catalogue=None):
     """The line of a fault, of which those of a catalogue tell its name."""
     line = getattr(fault, "line", None)
     place = "" if line is None else "%s:%s: " % (catalogue, line)
-    return "%serror %d %s%s" % (place, fault.number, FAULTS[fault.number], "" if fault.kept is None else ": " + fault.kept)
+    return "%serror %s" % (place, fault)

@@ -9,7 +9,7 @@ the scripts that write cases:
 import re
 import sys
 
-from model.forms import Refused
+from model.faults import Refused
 
 RESOURCE = re.compile(
     r"""# fork '(?P<type>.{4})' (?P<id>-?\d+)(?: "(?P<name>[^"]*)")?(?: (?P<attr>[0-9A-F]{2}))?(?: = (?P<bytes>.*))?$""")

@@ -7,17 +7,10 @@ import binascii
 import re
 import struct
 
+from model.faults import Refused
+
 ALPHABET = "!\"#$%&'()*+,-012345689@ABCDEFGHIJKLMNPQRSTUVXYZ[`abcdefhijklmpqr"
 MOST = 33554432
-
-
-class Refused(Exception):
-    """A fault: its number, and what it keeps, as a message says it, or None."""
-
-    def __init__(self, number, *kept):
-        Exception.__init__(self, number, *kept)
-        self.number = number
-        self.kept = " ".join(str(each) for each in kept) if kept else None
 
 
 class File:

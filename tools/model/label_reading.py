@@ -5,8 +5,9 @@ the document: `is_readable` goes over the fields with the names that are known, 
 same names and their values. It looks for one row only, and believes none: what it found counts if labels.py lays it to
 the same bytes. label_search.py tries all rows in its place.
 """
-from model.label_types import (Align, Array, Expr, Fill, Label, Number, Points, Refused, Switch, Text, UNITS, in_row, value_of,
-                         words_in)
+from model.faults import Refused
+from model.label_types import (Align, Array, Fill, Label, Number, Points, Switch, Text, UNITS, in_row, value_of,
+                               words_in)
 from model.labels import bytes_of, constant, expressions, formats_in, joined, own_names, stored, takes, width_of
 
 MOST_VALUES = 1048576

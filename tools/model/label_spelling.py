@@ -4,7 +4,8 @@ All pieces get their places first. Then every name has its value at once, and ea
 the finished bits say. Which numbers are late is read off from what their values read. label_cases.py and
 random_labels.py ask this of all that labels.py lays.
 """
-from model.label_types import Align, Array, Fill, Label, Number, Points, Refused, Text, number, UNITS, value_of, words_in
+from model.faults import Refused
+from model.label_types import Align, Array, Fill, Label, Number, Points, Text, UNITS, value_of, words_in
 from model.labels import (Late, Names, Sight, bytes_bits, expressions, formats_in, in_range, joined, may_be_size, number_bits,
                     own_names, stored, takes, width_of)
 

@@ -4,22 +4,7 @@ A field is a tuple of what its text says, and an expression is built by Python's
 """
 from collections import namedtuple
 
-NAMES = {207: "OutOfRange", 211: "ZeroDivisor", 212: "UnknownLabel", 213: "LaterData", 214: "SizeLater", 215: "BadShift",
-         216: "TextTooLong", 222: "BadFormat", 223: "BadIndex", 230: "LabelTwice", 231: "ArrayTwice", 232: "CaseTwice", 233: "KeyMissing",
-         235: "KeyDistance", 237: "ElementWithoutValues", 238: "BadWidth", 301: "ResourceTooLong"}
-
-
-class Refused(Exception):
-    """A fault: its number, and what it keeps, or None."""
-
-    def __init__(self, number, kept=None):
-        Exception.__init__(self, number, kept)
-        self.number, self.kept = number, kept
-
-    def __str__(self):
-        kept = "" if self.kept is None else ': "%s"' % self.kept if isinstance(self.kept, str) else ": %d" % self.kept
-        return "%d %s%s" % (self.number, NAMES[self.number], kept)
-
+from model.faults import Refused
 
 # Expressions: a tree of tuples, which Python's operators build.
 

@@ -7,8 +7,9 @@ of all labels at hand, each number has to be what its expression says. label_cas
 A row is a list with a value for each field that takes an item: a number, bytes, a tuple of numbers for a point or a
 rectangle, a list of rows, or a pair of the name of a case and a row.
 """
-from model.label_types import (Align, Array, Expr, Fill, Format, Label, Number, Points, Refused, Switch, Text, UNITS, in_row,
-                         value_of, words_in, wrapped)
+from model.faults import Refused
+from model.label_types import (Align, Array, Expr, Fill, Format, Label, Number, Points, Switch, Text, UNITS, in_row,
+                               value_of, words_in)
 
 MOST = 16777212 * 8
 
@@ -96,7 +97,7 @@ def check(body):
             count[0] += 1
             if isinstance(field, (Label, Array)) and field.name:
                 if field.name.lower() in seen[type(field)]:
-                    raise Refused(230 if isinstance(field, Label) else 231, field.name)
+                    raise Refused(230 if isinstance(field, Label) else 231, '"%s"' % field.name)
                 seen[type(field)].add(field.name.lower())
             if isinstance(field, Array) and not any(takes(each) for each in field.row):
                 raise Refused(237, position)
@@ -110,7 +111,7 @@ def check(body):
                     distance = [width_of(each) for each in row[:next(k for k,
                         each in enumerate(row) if isinstance(each, Number) and each.key)]]
                     if None in distance or (place and sum(distance) != before):
-                        raise Refused(235, field.cases[place][0])
+                        raise Refused(235, '"%s"' % field.cases[place][0])
                     before = sum(distance)
 
     def named(fields, around):
@@ -120,7 +121,7 @@ def check(body):
         for field in fields:
             for kind, name in [each for expr in expressions(field) for each in words_in(expr.tree)]:
                 if name.lower() not in can[kind]:
-                    raise Refused(212, name)
+                    raise Refused(212, '"%s"' % name)
             entered = {field.name.lower()} if isinstance(field, Array) and field.name else set()
             for row in inner(field):
                 named(row, dict(can, row=can["row"] | entered))

@@ -4,22 +4,12 @@ It knows nothing of the code and reads no source: whoever writes a case says eac
 (`data`, `include`, `read`, `change`, `delete`, `wrong`), and the run applies the calls. list_cases.py writes the cases.
 """
 from model import forms
+from model.faults import Refused
 from model.fork import admitted, image
 
 MOMENT = 2082844800  # the first second of 1970, counted from 1904
-NAMES = {
-    101: "MissingFile", 110: "BadNumber", 111: "BadCharacter", 201: "Syntax", 204: "BadId", 205: "NeedsAppend",
-    207: "OutOfRange", 211: "ZeroDivisor", 215: "BadShift", 216: "TextTooLong", 218: "NoSuchResource", 219: "Protected",
-    220: "ReadOnlyMap", 221: "TooDeep", 301: "ResourceTooLong", 302: "DataFull", 303: "MapFull", 304: "NamesFull",
-    401: "ShortHeader", 402: "DataAreaOutside", 403: "MapOutside", 404: "ShortMap", 405: "TypeListOutside",
-    406: "TypesOutside", 407: "ReferencesOutside", 408: "DataOutside", 409: "NameOutside", 410: "Repeated",
-    421: "ShortHeader", 422: "BadMagic", 423: "EntryOutside", 424: "BadCrc", 425: "BadName", 426: "Truncated",
-    427: "NewerVersion", 428: "ForkTooLong", 441: "NoStart", 442: "BadLetter", 443: "NoEnd", 444: "BadCrc",
-    445: "Truncated", 446: "RunAtStart", 447: "BadName",
-}
 SETS = {"sysheap": 0x40, "purgeable": 0x20, "locked": 0x10, "protected": 0x08, "preload": 0x04, "changed": 0x02}
 CLEARS = {"appheap": 0x40, "nonpurgeable": 0x20, "unlocked": 0x10, "unprotected": 0x08, "nonpreload": 0x04, "unchanged": 0x02}
-Refused = forms.Refused
 
 
 class ReadFault(Exception):
@@ -476,8 +466,7 @@ def ends(run):
         return 0, run.run() or "", ""
     except Refused as fault:
         place = getattr(fault, "place", None)
-        kept = "" if fault.kept is None else ": " + fault.kept
-        return 2, "", "rezkit: %serror %d %s%s\n" % (place + ": " if place else "", fault.number, NAMES[fault.number], kept)
+        return 2, "", "rezkit: %serror %s\n" % (place + ": " if place else "", fault)
     except ReadFault:
         return 3, "", "rezkit: read fault\n"
     except WriteFault:

@@ -17,7 +17,6 @@ expressions and lists. Rows of types with labels or formats are told by label_re
 resources are told by both, which have to agree.
 """
 import re
-import sys
 from datetime import datetime, timedelta
 
 from model.forms import form_of, read_form

@@ -3,10 +3,10 @@
 It knows nothing of the code. Each list of a template is read by itself, and becomes the text of the fields of a `type`
 statement, of which shown.py makes a declaration.
 """
+from model.faults import Refused
 from model.fork import admitted
-from model.forms import Refused, form_of, read_form
+from model.forms import form_of, read_form
 
-NAMES = {451: "TornEntry", 452: "UnknownCode", 453: "ListUnbalanced", 454: "CountUnpaired", 455: "EmptyElement", 456: "ListTooDeep"}
 FIELDS = {
     "DBYT": "byte", "DWRD": "integer", "DLNG": "longint", "HBYT": "hex byte", "HWRD": "hex integer", "HLNG": "hex longint",
     "FBYT": "fill byte", "FWRD": "fill word", "FLNG": "fill long", "AWRD": "align word", "ALNG": "align long",

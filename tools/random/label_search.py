@@ -14,13 +14,13 @@ import sys
 
 import top  # noqa: F401
 from random_types import some_bytes, some_type
-from model.label_reading import (LENGTHS, NoRow, array_name, can_solve, is_own, is_label, least_width, read, solved, is_readable,
-                           steps_to)
+from model.faults import Refused
+from model.label_reading import (LENGTHS, NoRow, array_name, can_solve, is_own, least_width, read, solved,
+                                 is_readable, steps_to)
 from model.label_spelling import is_spelled, width_at
-from model.label_types import (Align, Array, Fill, Label, Number, Points, Refused, Switch, Text, UNITS, type_text, value_of,
+from model.label_types import (Align, Array, Fill, Label, Number, Points, Switch, Text, UNITS, type_text, value_of,
                          words_in)
-from model.labels import (FACTS, Names, Sight, bytes_bits, bytes_of, constant, expressions, inner, own_names, takes,
-                    width_of)
+from model.labels import FACTS, Names, Sight, bytes_bits, bytes_of, expressions, inner, own_names, takes, width_of
 
 # Which types can be read, told from the places of all fields.
 

@@ -24,8 +24,9 @@ import tempfile
 from top import TOP
 from model.breaks import breaks, text_of
 from model.case_reader import read_cases
+from model.faults import Refused
 from model.fork import admitted, image
-from model.forms import ALPHABET, MAGICS, File, Refused, checked, crc, form_of, hqx_head, hqx_text, macbin, read_form, written
+from model.forms import ALPHABET, MAGICS, File, checked, crc, form_of, hqx_head, hqx_text, macbin, read_form, written
 from model.shown import resource_text
 from running import program_to_run
 

@@ -21,8 +21,9 @@ import tempfile
 import top  # noqa: F401
 from random_rows import labelled, unlabelled
 from model.catalogues import entries_in, entry_text, message, restring, strings
+from model.faults import Refused
 from model.fork import image
-from model.forms import File, Refused, written
+from model.forms import File, written
 from model.shown import declarations_of, tokens_of
 from running import program_to_run
 

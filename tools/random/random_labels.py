@@ -12,9 +12,10 @@ import sys
 
 import top  # noqa: F401
 from model.case_lines import content
+from model.faults import Refused
 from model.fork import image
 from model.label_spelling import is_spelled
-from model.label_types import (Align, Array, Expr, Fill, Format, Label, Number, Points, Refused, Switch, Text, at, at_row,
+from model.label_types import (Align, Array, Expr, Fill, Format, Label, Number, Points, Switch, Text, at, at_row,
                          bits_at, byte_at, fact, items_text, key, long_at, num, number, row_of, rows_of, type_text, word_at)
 from model.labels import FACTS, bytes_of, check, row_labels, takes
 

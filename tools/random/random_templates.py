@@ -18,10 +18,11 @@ import sys
 import tempfile
 
 import top  # noqa: F401
+from model.faults import Refused
 from model.fork import image
-from model.forms import File, Refused, written
+from model.forms import File, written
 from model.shown import Reader, derez, tokens_of
-from model.templates import COUNTS, FIELDS, LISTS, NAMES, types_of
+from model.templates import COUNTS, FIELDS, LISTS, types_of
 from running import program_to_run
 
 CODES = [*FIELDS, *COUNTS, *LISTS, "LSTE"]
@@ -169,7 +170,7 @@ def wanted(templates, make):
     try:
         types = types_of(templates)
     except Refused as fault:
-        return make.fork([]), "", "rezkit: error %d %s: %d %d\n" % (fault.number, NAMES[fault.number], *fault.args[1:])
+        return make.fork([]), "", "rezkit: error %s\n" % fault
     fork = make.fork(types)
     return fork, derez(["f", "-tmpl", "t"], {"f": fork, "t": templates}), ""
 

@@ -7,8 +7,9 @@ random_rows.py stand on it.
 import random
 
 import top  # noqa: F401
-from model.label_types import (Align, Array, Expr, Fill, Format, Label, Number, Points, Refused, Switch, Text, at, at_row, bits_at,
-                         byte_at, fact, key, long_at, num, number, row_of, rows_of, text, word_at, words_in)
+from model.faults import Refused
+from model.label_types import (Align, Array, Fill, Format, Label, Number, Points, Switch, Text, at, at_row, bits_at,
+                               byte_at, fact, key, long_at, num, number, row_of, rows_of, text, word_at, words_in)
 from model.label_wrong import WRONG
 from model.labels import Laid, bytes_of, check, takes
 
