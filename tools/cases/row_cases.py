@@ -18,6 +18,8 @@ import top  # noqa: F401
 from casefile import Book
 from model import shown
 from model.fork import image
+from model.label_reading import read
+from model.type_files import declarations_of, found, tokens_of
 
 NUMBERS = r"""
 // the ends of each width
@@ -292,7 +294,7 @@ def expanded(text):
 
 
 def row_text(row):
-    """A row of tools/model/shown.py as the tables spell it."""
+    """A row as the tables spell it."""
     return " ".join(value_text(value) for value in row)
 
 
@@ -301,18 +303,16 @@ def value_text(value):
     if isinstance(value, bytes):
         return shown.quoted(value, '"')
     if isinstance(value, list):
-        return "[%s]" % " ".join(str(number) for number in value)
-    if isinstance(value, tuple) and value[0] == "rows":
-        return "{%s}" % "|".join(row_text(row) for row in value[1])
-    if isinstance(value, tuple):
-        return "%s(%s)" % (value[1], row_text(value[2]))
-    return str(value)
+        return "{%s}" % "|".join(row_text(row) for row in value)
+    if isinstance(value, tuple) and isinstance(value[0], str):
+        return "%s(%s)" % (value[0], row_text(value[1]))
+    return "[%s]" % " ".join(map(str, value)) if isinstance(value, tuple) else str(value)
 
 
 def row_of(types, resource):
-    """The row that tools/model/shown.py finds for a resource, as the tables spell it."""
-    fields = shown.found(shown.declarations_of(shown.tokens_of(types)), resource[0], resource[1])
-    row = shown.row_by_both(fields, resource[4], resource + (0,))
+    """The row that tools/model/label_reading.py finds for a resource, as the tables spell it."""
+    fields = found(declarations_of(tokens_of(types)), resource[0], resource[1])
+    row = read(fields, resource[4], shown.all_facts(resource))
     return "none" if row is None else row_text(row)
 
 

@@ -1,7 +1,6 @@
 """Catalogues of texts, and texts put back: a second, plain reading of what docs/LANGUAGE.md says of `strings` and `restring`.
 
-It knows nothing of the code. The row of a resource is the one that label_reading.py finds, and of which shown.py finds the
-same where it can tell it; a changed row counts if labels.py lays it, and label_reading.py finds the same row in the bytes.
+It knows nothing of the code. The row of a resource is the one that label_reading.py finds; a changed row counts if labels.py lays it, and label_reading.py finds the same row in the bytes.
 A catalogue is cut into lines and tokens by a lexer of its own. catalog_cases.py and random_catalogues.py stand on it.
 
 A resource is a tuple of type, id, name, attributes and bytes. An entry is a tuple of type, id, leaf, text and line.
@@ -11,11 +10,11 @@ import re
 from model.faults import Refused
 from model.fork import admitted, image
 from model.forms import File, form_of, read_form, written
-from model.label_forms import fields_from, shown_row
 from model.label_reading import read
 from model.labels import bytes_of
 from model.lists import MOMENT, key_text, quoted
-from model.shown import all_facts, declarations_of, found, pieces, program_of, row_by_both, tokens_of
+from model.shown import all_facts, pieces
+from model.type_files import declarations_of, found, program_of, tokens_of
 
 MOST = 16777212
 PROTECTED, READ_ONLY = 8, 0x80
@@ -73,12 +72,8 @@ class Tree:
 
 def tree_of(table, resource, moment):
     """The tree of a resource, or None."""
-    fields = found(table, resource[0], resource[1])
-    if fields is None:
-        return None
-    body, facts = fields_from(fields), all_facts(tuple(resource) + (moment,))
-    row = read(body, resource[4], facts)
-    assert row_by_both(fields, resource[4], tuple(resource) + (moment,)) == (None if row is None else shown_row(body, row))
+    body, facts = found(table, resource[0], resource[1]), all_facts(tuple(resource) + (moment,))
+    row = None if body is None else read(body, resource[4], facts)
     return None if row is None else Tree(body, facts, row)
 
 

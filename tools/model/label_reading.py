@@ -255,13 +255,14 @@ class Reader:
     """The bits of a resource from the front, and how many values were read."""
 
     def __init__(self, data, facts):
-        self.number, self.length, self.facts = int.from_bytes(data, "big"), 8 * len(data), facts
+        self.data, self.length, self.facts = data, 8 * len(data), facts
         self.at, self.values = 0, 0
 
     def part(self, first, width):
         if first + width > self.length:
             raise NoRow
-        return self.number >> (self.length - first - width) & (1 << width) - 1
+        end = (first + width + 7) // 8
+        return int.from_bytes(self.data[first // 8:end], "big") >> (8 * end - first - width) & (1 << width) - 1
 
     def take(self, width):
         self.at += width
@@ -365,10 +366,12 @@ class Reader:
     def rows(self, field, here, outermost):
         out, lines, count = [], [], here.known.counts[array_name(field)] if is_counted(field, here.known) else field.count
         end, rest = (None, 0) if count is not None else self.end_of(here, outermost)
+        labels = own_names(field.row, Label)
         while (len(out) < count if count is not None else self.at < end if end is not None else self.length - rest - self.at >= 8):
             self.values_more(1)
-            lines.append(here.known.inner(array_name(field), len(lines) + 1))
-            out.append(self.body(field.row, lines[-1], False))
+            line = here.known.inner(array_name(field), len(lines) + 1)
+            out.append(self.body(field.row, line, False))
+            lines.append(line if labels else None)
         if end is not None and self.at != end:
             raise NoRow
         here.known.end(field, lines)

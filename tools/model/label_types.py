@@ -1,4 +1,4 @@
-"""Types with labels as lists of fields, with their expressions, and their text. labels.py lays their rows.
+"""Types as lists of fields, with their expressions, and their text. labels.py lays their rows.
 
 A field is a tuple of what its text says, and an expression is built by Python's operators: `at("e") - at("s")`.
 """
@@ -184,7 +184,7 @@ def words_in(tree):
 # Fields.
 
 Label = namedtuple("Label", "name")
-Number = namedtuple("Number", "form width fixed key says", defaults=(None, False, ""))
+Number = namedtuple("Number", "form width fixed key says symbols", defaults=(None, False, "", ()))
 Text = namedtuple("Text", "form size fixed says", defaults=(None, None, ""))
 Points = namedtuple("Points", "count fixed", defaults=(None,))
 Fill = namedtuple("Fill", "unit count", defaults=(None,))

@@ -355,7 +355,11 @@ class Laid:
         elif isinstance(field, Align):
             self.push([0] * (-len(self.bits) % UNITS[field.unit]))
         elif isinstance(field, Array):
-            names.ended(field, [self.body(field.row, row, names, field.name, k + 1) for k, row in enumerate(value)])
+            labels, lines = own_names(field.row, Label), []
+            for k, row in enumerate(value):
+                line = self.body(field.row, row, names, field.name, k + 1)
+                lines += [line] * bool(labels)
+            names.ended(field, lines)
         else:
             self.body(dict(field.cases)[value[0]], value[1], names)
 

@@ -24,7 +24,7 @@ from model.catalogues import entries_in, entry_text, message, restring, strings
 from model.faults import Refused
 from model.fork import image
 from model.forms import File, written
-from model.shown import declarations_of, tokens_of
+from model.type_files import declarations_of, tokens_of
 from running import program_to_run
 
 FORMS = ("raw", "double", "single", "macbin", "hqx")

@@ -5,7 +5,7 @@
 
 Each two cases have one random declaration and resources of it: most spell a row, and some of these are changed in a
 byte, cut or lengthened; now and then a name is a live macro. Every other declaration has labels, by random_types.py. The
-first case has what `derez` shows, and the second has this text behind the type file, from which `rez` must make the fork
+first case has what `derez` shows, and the second has this text after the type file, from which `rez` must make the fork
 again. This is no part of the gate: the program can be tried against it for as long as one likes.
 """
 import random
@@ -16,7 +16,8 @@ from random_types import LONG, changed, row_bytes, some_type
 from model import shown
 from model.fork import fork_of
 from model.label_reading import read
-from model.label_types import type_text
+from model.label_types import FORMS as WIDTHS, type_text
+from model.type_files import declarations_of, tokens_of
 
 NAMES = ["one", "Two", "three", "locked", "true", "kFour", "_five", "ONE"]
 FORMS = ["byte", "integer", "longint", "boolean", "char", "bitstring"]
@@ -25,7 +26,7 @@ FORMS = ["byte", "integer", "longint", "boolean", "char", "bitstring"]
 def some_number():
     """A number field: its words and its symbols."""
     form = random.choice(FORMS)
-    width = shown.FORMS[form] or random.choice([1, 2, 3, 7, 8, 9, 15, 16, 24, 31, 32])
+    width = WIDTHS.get(form) or random.choice([1, 2, 3, 7, 8, 9, 15, 16, 24, 31, 32])
     text = random.choice(["", "", "unsigned "]) + random.choice(["", "", "hex ", "decimal ", "octal ", "binary ", "literal "])
     text += form + ("[%d]" % width if form == "bitstring" else "")
     low = 0 if form in ("boolean", "char") else -2 ** (width - 1)
@@ -90,57 +91,7 @@ class Declaration:
         return text + " " + last
 
 
-# The bits of a random row.
-
-def bits_of(number, width):
-    return "{:0{}b}".format(number % 2 ** width, width) if width else ""
-
-
-def some_text(field, counts, facts):
-    letters = [0, 39, 34, 92, 97, 98, 233, 255]
-    text = bytes(random.choice(letters[field["form"] == "cstring":]) for _ in range(random.choice([0, 1, 2, 3, 16, 17, 64, 65])))
-    if field["form"] == "string" and field["size"] is not None:
-        text = text[:shown.value_of(field["size"], counts, facts)].rstrip(b"\0")
-    return text
-
-
-def row_bits(fields, facts, counts, before=0):
-    """The bits of a random row, which begin at a bit."""
-    counts = dict(counts)
-    for field in fields:
-        if field["is"] == "array":
-            field["rows"] = field["count"] if field["count"] is not None else random.randrange(4)
-            if field["name"]:
-                counts[field["name"]] = field["rows"]
-    out = ""
-    for field in fields:
-        at = before + len(out)
-        if field["is"] == "number":
-            low, high = 0, 2 ** field["width"] - 1
-            values = [low, high, random.randrange(high + 1)] + [value for _, value in field["symbols"]]
-            value = random.choice(values) if field["fixed"] is None else shown.value_of(field["fixed"], counts, facts)
-            out += bits_of(value, field["width"])
-        elif field["is"] == "points":
-            for k in range(field["count"]):
-                value = random.choice([0, 1, 32768, 65535]) if field["fixed"] is None else shown.value_of(field["fixed"][k], counts, facts)
-                out += bits_of(value, 16)
-        elif field["is"] == "text":
-            text = some_text(field, counts, facts)
-            if field["fixed"] is not None:
-                text = b"".join(shown.part_bytes(each, facts) for each in field["fixed"])
-            stored = shown.text_bits(field, text, counts, facts)
-            out += bits_of(int.from_bytes(stored, "big"), 8 * len(stored))
-        elif field["is"] == "fill":
-            out += "0" * field["bits"]
-        elif field["is"] == "align":
-            out += "0" * (-at % field["bits"])
-        elif field["is"] == "array":
-            for _ in range(field["rows"]):
-                out += row_bits(field["row"], facts, counts, before + len(out))
-        else:
-            out += row_bits(random.choice(field["cases"])[1], facts, counts, at)
-    return out
-
+# Resources.
 
 def some_head(ident):
     name = bytes(random.choice(b'ab"\\\0\xE9') for _ in range(random.choice([0, 0, 1, 5, 65, 130])))
@@ -148,26 +99,11 @@ def some_head(ident):
     return b"Rand", ident, name, attr, b""
 
 
-def labelled_resource(body, ident):
-    """A resource of a type with labels."""
+def some_resource(body, ident):
+    """A resource of a type, or bytes near to those of one."""
     head = some_head(ident)
     content = row_bytes(body, shown.all_facts(head), LONG)
     return head[:4] + (changed(content) if random.random() < 0.4 else content,)
-
-
-def some_resource(fields, ident):
-    facts = some_head(ident)
-    bits = row_bits(fields, facts, {})
-    bits += "0" * (-len(bits) % 8)
-    content = bytearray(int(bits[at:at + 8], 2) for at in range(0, len(bits), 8))
-    change = random.random()
-    if change < 0.2 and content:
-        content[random.randrange(len(content))] = random.choice([0, 1, 255, random.randrange(256)])
-    elif change < 0.25:
-        content = content[:random.randrange(len(content) + 1)]
-    elif change < 0.3:
-        content += bytes([random.choice([0, 1])])
-    return facts[:4] + (bytes(content),)
 
 
 def text_lines(text):
@@ -185,27 +121,26 @@ def some_idents():
     return random.sample(range(-3, 4), random.randrange(1, 4))
 
 
+def declared(types):
+    """The fields of the one type that a text declares."""
+    return declarations_of(tokens_of(types))[0][3]
+
+
 def labelled():
-    """A declaration with labels, and resources of it."""
+    """A declaration with labels, and resources of it. Its text, when it is read, is the same declaration."""
     body = some_type(2, 3)
-    resources = [labelled_resource(body, ident) for ident in some_idents()]
+    resources = [some_resource(body, ident) for ident in some_idents()]
     types = type_text(body, "Rand")
-    fields = shown.declarations_of(shown.tokens_of(types))[0][3]
     for each in resources:
-        row = read(body, each[4], shown.all_facts(each))
-        assert (row is None) == (shown.row_by_both(fields, each[4], each) is None), types
+        facts = shown.all_facts(each)
+        assert read(body, each[4], facts) == read(declared(types), each[4], facts), types
     return types, resources
 
 
 def unlabelled():
     """A declaration without labels, and resources of it."""
-    while True:
-        types = "type 'Rand' { %s };\n" % Declaration().whole()
-        fields = shown.declarations_of(shown.tokens_of(types))[0][3]
-        try:
-            return types, [some_resource(fields, ident) for ident in some_idents()]
-        except shown.NoRow:
-            pass
+    types = "type 'Rand' { %s };\n" % Declaration().whole()
+    return types, [some_resource(declared(types), ident) for ident in some_idents()]
 
 
 def cases(k):

@@ -21,8 +21,11 @@ import top  # noqa: F401
 from model.faults import Refused
 from model.fork import image
 from model.forms import File, written
-from model.shown import Reader, derez, tokens_of
+from model.label_types import Align, Fill, Number, Points, Text, UNITS
+from model.labels import width_of
+from model.shown import derez
 from model.templates import COUNTS, FIELDS, LISTS, types_of
+from model.type_files import Reader, tokens_of
 from running import program_to_run
 
 CODES = [*FIELDS, *COUNTS, *LISTS, "LSTE"]
@@ -115,23 +118,21 @@ class Maker:
         """Bytes of a row of fields from a place on."""
         out = b""
         for field in fields:
-            kind = field["is"]
-            if kind == "number" and field["fixed"] is not None:
-                less, name = (1, field["fixed"][1][1]) if field["fixed"][0] == "-" else (0, field["fixed"][1])
+            if isinstance(field, Number) and field.fixed is not None:
+                tree = field.fixed.tree
+                less, name = (1, tree[1][1]) if tree[0] == "-" else (0, tree[1])
                 counts[name] = self.rows(at + len(out))
                 out += ((counts[name] - less) % 65536).to_bytes(2, "big")
-            elif kind == "number":
-                out += self.bytes(field["width"] // 8)
-            elif kind == "points":
-                out += self.bytes(8)
-            elif kind == "text":
+            elif isinstance(field, (Number, Points, Fill)):
+                out += bytes(width_of(field) // 8) if isinstance(field, Fill) else self.bytes(width_of(field) // 8)
+            elif isinstance(field, Text):
                 text = self.bytes(self.some(0, 1, 2, 3, 20))
-                out += {"pstring": bytes([len(text)]) + text, "cstring": text.replace(b"\0", b"") + b"\0"}.get(field["form"], text)
-            elif kind in ("fill", "align"):
-                out += bytes(field["bits"] // 8 if kind == "fill" else -(at + len(out)) % (field["bits"] // 8))
+                out += {"pstring": bytes([len(text)]) + text, "cstring": text.replace(b"\0", b"") + b"\0"}.get(field.form, text)
+            elif isinstance(field, Align):
+                out += bytes(-(at + len(out)) % (UNITS[field.unit] // 8))
             else:
-                for _ in range(counts[field["name"]] if field["name"] else self.rows(at + len(out))):
-                    out += self.row_of(field["row"], counts, at + len(out))
+                for _ in range(counts[field.name] if field.name else self.rows(at + len(out))):
+                    out += self.row_of(field.row, counts, at + len(out))
         return out
 
     def content(self, fields):

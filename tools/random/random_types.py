@@ -258,7 +258,8 @@ def some_row(body, texts=SHORT):
         if not takes(field):
             continue
         if isinstance(field, Number):
-            out.append(PICK([0, 1, 2, 3, 5, 255, random.randrange(2 ** field.width)]) % 2 ** field.width)
+            given = [value for _, value in field.symbols]
+            out.append(PICK([0, 1, 2, 3, 5, 255, random.randrange(2 ** field.width)] + given) % 2 ** field.width)
         elif isinstance(field, Text):
             out.append(PICK(texts))
         elif isinstance(field, Points):
