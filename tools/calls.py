@@ -4,11 +4,11 @@
     python3 tools/calls.py            writes docs/CALLS.md, which the repository doesn't keep
     python3 tools/calls.py --check    writes nothing, and says whether the page can be written
 
-Of each library of crates.txt but those of tests it lists, from the sources alone: the first sentence of the crate; each
-public type that contracts see as something else, or that has invariants; each public call with its parameters, the first
-sentence of its comment, and its clauses with the definitions that they cite; its laws likewise; and its definitions,
-first those that the contract of `run` rests on. The status is 1 if a definition that a clause cites doesn't stand where its
-`ghost use` says; else it is 0.
+Of each library of crates.txt but those of tests it lists, from the sources alone: the first sentence of the crate;
+each public type that contracts see as something else, or that has invariants; each public call with its parameters,
+the first sentence of its comment, and its clauses with the definitions that they cite; its laws likewise; and its
+definitions, first those that the contract of `run` rests on. The status is 1 if a definition that a clause cites
+doesn't stand where its `ghost use` says; else it is 0.
 """
 import os
 import re

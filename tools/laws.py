@@ -4,9 +4,9 @@
     python3 tools/laws.py            writes docs/PROOFS.md
     python3 tools/laws.py --check    says whether docs/PROOFS.md is what would be written now
 
-In the sections SECTIONS a line `- `NAME`: ..` tells a law. It is one of the crates that the last line names which is links
-to crates alone, and a colon. Which laws stand there is chosen by hand. The status is 1 if a crate has no such law, and with
---check if a text is another.
+In the sections SECTIONS a line `- `NAME`: ..` tells a law. It is one of the crates that the last line names which is
+links to crates alone, and a colon. Which laws stand there is chosen by hand. The status is 1 if a crate has no such
+law, and with --check if a text is another.
 """
 import os
 import re

@@ -1,11 +1,12 @@
 #!/usr/bin/env python3
-"""Writes carried.cases: files from each form to each form, and all that AppleDouble, AppleSingle and MacBinary may have.
+"""Writes carried.cases: files from each form to each form, and all that AppleDouble, AppleSingle and MacBinary may
+have.
 
     python3 tools/cases/carried_cases.py [--check]
 
 What is read stands here by hand: as a file, or by what_is_kept, the table of docs/FORMATS.md that says what a form
-carries; and each fault as its message. The readers of forms.py have to come to the same, and its writers give the bytes.
-With --check nothing is written, and the status is 1 where the file would change.
+carries; and each fault as its message. The readers of forms.py have to come to the same, and its writers give the
+bytes. With --check nothing is written, and the status is 1 where the file would change.
 """
 import struct
 import sys

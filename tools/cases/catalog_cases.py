@@ -3,9 +3,9 @@
 
     python3 tools/cases/catalog_cases.py [--check]
 
-What comes is told by catalogues.py, a second reading of docs/LANGUAGE.md. Beside it stand by hand each line of `err`, the
-bytes of resources by rows that are known from elsewhere, the stored form of each text, and the texts of each row. With
---check nothing is written, and the status is 1 where the file would change.
+What comes is told by catalogues.py, a second reading of docs/LANGUAGE.md. Beside it stand by hand each line of `err`,
+the bytes of resources by rows that are known from elsewhere, the stored form of each text, and the texts of each row.
+With --check nothing is written, and the status is 1 where the file would change.
 """
 import itertools
 import sys

@@ -3,8 +3,8 @@
 
     python3 tools/cases/date_cases.py [--check]
 
-It knows nothing of the code. Bytes and shown text are put together here of the moment's parts, and each fault is written
-by hand. With --check nothing is written, and the status is 1 where the file would change.
+It knows nothing of the code. Bytes and shown text are put together here of the moment's parts, and each fault is
+written by hand. With --check nothing is written, and the status is 1 where the file would change.
 """
 import sys
 from datetime import datetime, timedelta

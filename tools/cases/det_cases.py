@@ -3,10 +3,10 @@
 
     python3 tools/cases/det_cases.py [--check]
 
-Each list is that of tools/model/breaks.py, a second reading of docs/FORMATS.md. Beside it stand by hand the lines of each rule
-that is broken alone, of each bound and of the examples, and which rules of two can be told together. The forks of the last
-part are changed by a sequence of numbers of its own. With --check nothing is written, and the status is 1 where the file
-would change.
+Each list is that of tools/model/breaks.py, a second reading of docs/FORMATS.md. Beside it stand by hand the lines of
+each rule that is broken alone, of each bound and of the examples, and which rules of two can be told together. The
+forks of the last part are changed by a sequence of numbers of its own. With --check nothing is written, and the
+status is 1 where the file would change.
 """
 import itertools
 import sys

@@ -11,8 +11,8 @@ In a case file, comment lines before a content name what its fork holds, and the
     # length 308                          the fork is cut, or filled with zeros, to so many bytes
     # put 15 2E                           bytes from an offset on are changed
 
-The lines after them that begin with a bar are replaced. With --check nothing is written, and the status is 1 where a file
-would change.
+The lines after them that begin with a bar are replaced. With --check nothing is written, and the status is 1 where a
+file would change.
 """
 import sys
 

@@ -4,8 +4,8 @@
     python3 tools/cases/fork_cases.py [--check]
 
 Each fork is put together by fork_shapes.py, its resources stand beside it by hand, and fork.py has to read the same
-from its bytes. What a run leaves is told by lists.py, and each line of `err` stands here by hand. With --check nothing is
-written, and the status is 1 where the file would change.
+from its bytes. What a run leaves is told by lists.py, and each line of `err` stands here by hand. With --check
+nothing is written, and the status is 1 where the file would change.
 """
 import sys
 

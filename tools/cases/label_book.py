@@ -1,4 +1,5 @@
-"""A case file of types with labels: each row stands as fields and values, and in part with its bytes or its fault by hand.
+"""A case file of types with labels: each row stands as fields and values, and in part with its bytes or its fault by
+hand.
 
 labels.py tells what comes, and what label_spelling.py says of the bytes must be the same. Of `derez` label_reading.py
 tells which bytes are rows, and shown.py, which reads the text of the type, has to say so too. label_cases.py,

@@ -3,8 +3,8 @@
 
     python3 tools/cases/list_cases.py [--check]
 
-Each statement stands here twice, as text and as a call of lists.py, and each line of `err` is written by hand and compared
-with what the run says. With --check nothing is written, and the status is 1 where a file would change.
+Each statement stands here twice, as text and as a call of lists.py, and each line of `err` is written by hand and
+compared with what the run says. With --check nothing is written, and the status is 1 where a file would change.
 """
 import sys
 

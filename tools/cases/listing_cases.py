@@ -3,10 +3,10 @@
 
     python3 tools/cases/listing_cases.py [--check]
 
-The text of each file is that of tools/model/listing.py, a second reading of docs/LANGUAGE.md. Beside it stand by hand the lines
-of the examples, of each form, of each date and of each form of a name, and the message of each rule that is broken. Forks
-with changes by chance are those of the sequence of det_cases.py. With --check nothing is written, and the status is 1 where
-the file would change.
+The text of each file is that of tools/model/listing.py, a second reading of docs/LANGUAGE.md. Beside it stand by hand
+the lines of the examples, of each form, of each date and of each form of a name, and the message of each rule that is
+broken. Forks with changes by chance are those of the sequence of det_cases.py. With --check nothing is written, and
+the status is 1 where the file would change.
 """
 import re
 import struct

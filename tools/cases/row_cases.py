@@ -3,13 +3,13 @@
 
     python3 tools/cases/row_cases.py [--check]
 
-Each line of the tables has fields, after ` @ ` bytes in hexadecimal, and after ` => ` by hand what comes. In the tables of
-rows that is the row: numbers without a sign, a text in quote marks, the numbers of a point in brackets, the rows of an array
-in braces with `|` between them, and a case as its name with its row in parentheses; `none` where there is no row; and
-`unreadable` where nothing is read under the fields, with items after it that give the bytes. In the others it is the text
-of a resource, with `¶` for each line end. `«TEXT×N»` is TEXT N times, and a line that begins with `//` says what is tried.
-What tools/model/shown.py tells has to be the same, or the script stops. With --check nothing is written, and the status is 1
-where the file would change.
+Each line of the tables has fields, after ` @ ` bytes in hexadecimal, and after ` => ` by hand what comes. In the
+tables of rows that is the row: numbers without a sign, a text in quote marks, the numbers of a point in brackets, the
+rows of an array in braces with `|` between them, and a case as its name with its row in parentheses; `none` where
+there is no row; and `unreadable` where nothing is read under the fields, with items after it that give the bytes. In
+the others it is the text of a resource, with `¶` for each line end. `«TEXT×N»` is TEXT N times, and a line that
+begins with `//` says what is tried. What tools/model/shown.py tells has to be the same, or the script stops. With
+--check nothing is written, and the status is 1 where the file would change.
 """
 import re
 import sys

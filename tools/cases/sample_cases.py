@@ -3,8 +3,8 @@
 
     python3 tools/cases/sample_cases.py [--check]
 
-It knows nothing of the code: the fork has the layout of tools/model/fork.py, and the text is what docs/LANGUAGE.md says of
-rows. With --check nothing is written, and the status is 1 where the file would change.
+It knows nothing of the code: the fork has the layout of tools/model/fork.py, and the text is what docs/LANGUAGE.md
+says of rows. With --check nothing is written, and the status is 1 where the file would change.
 """
 import sys
 

@@ -3,11 +3,11 @@
 
     python3 tools/cases/statement_cases.py [--check]
 
-The tables below have a source on each line, in which `|` is a line end and `«TEXT×N»` is TEXT N times, and after ` => ` by
-hand what comes: the resources of the fork, as comments of tools/model/fork.py name them, with ` & ` between them, `nothing`, or
-a fault with what it keeps, after its line and a colon where that isn't the first. After ` SHOWS ` stand the items that
-`derez` shows of the first resource, with `¶` between their lines. A line that begins with `//` says what is tried. With
---check nothing is written, and the status is 1 where the file would change.
+The tables below have a source on each line, in which `|` is a line end and `«TEXT×N»` is TEXT N times, and after
+` => ` by hand what comes: the resources of the fork, as comments of tools/model/fork.py name them, with ` & ` between
+them, `nothing`, or a fault with what it keeps, after its line and a colon where that isn't the first. After ` SHOWS `
+stand the items that `derez` shows of the first resource, with `¶` between their lines. A line that begins with `//`
+says what is tried. With --check nothing is written, and the status is 1 where the file would change.
 """
 import re
 import sys

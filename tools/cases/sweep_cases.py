@@ -3,10 +3,10 @@
 
     python3 tools/cases/sweep_cases.py [--check]
 
-What a run must leave of which a call failed is no part of a case: crates/rezkit_cases/README.md has the rules. Here stand
-the calls of each command, by hand: its reads and then its writes, or those of its output or of what it says, which put its
-pieces and then flush it. `derez` puts each line by itself, so the pieces of its output are the lines that the case wants. With --check nothing is written,
-and the status is 1 where the file would change.
+What a run must leave of which a call failed is no part of a case: crates/rezkit_cases/README.md has the rules. Here
+stand the calls of each command, by hand: its reads and then its writes, or those of its output or of what it says,
+which put its pieces and then flush it. `derez` puts each line by itself, so the pieces of its output are the lines
+that the case wants. With --check nothing is written, and the status is 1 where the file would change.
 """
 import functools
 import os

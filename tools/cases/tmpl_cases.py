@@ -3,11 +3,11 @@
 
     python3 tools/cases/tmpl_cases.py [--check]
 
-Templates stand here as lists of codes. Of each fork stands by hand which of its resources are shown by their fields, and
-the texts are those of tools/model/shown.py, which has the declarations from tools/model/templates.py, a second reading of what a
-template is. Each such text is compiled again under the same templates. What `rez` makes of items stands by hand too, and
-so does each message; tools/model/templates.py has to come to the same refusals. With --check nothing is written, and the status
-is 1 where the file would change.
+Templates stand here as lists of codes. Of each fork stands by hand which of its resources are shown by their fields,
+and the texts are those of tools/model/shown.py, which has the declarations from tools/model/templates.py, a second
+reading of what a template is. Each such text is compiled again under the same templates. What `rez` makes of items
+stands by hand too, and so does each message; tools/model/templates.py has to come to the same refusals. With --check
+nothing is written, and the status is 1 where the file would change.
 """
 import itertools
 import re

@@ -4,11 +4,11 @@
     python3 tools/cases/type_cases.py [--check]
 
 For each resource below stand its items and its bytes, both written by hand: the bytes by the layouts in Inside
-Macintosh, never by the program. Of each two cases are made: `derez` shows the items, and `rez` makes the bytes of them.
-The type file of a case is the declaration as it stands in types/Types.r or types/Texts.r, with what it needs of the
-lines before it; a macro is one line there, for tools/model/shown.py, which knows no joined lines. A file with padding that
-isn't zero is also shown as a whole, and its texts go out and back. With --check nothing is written, and the status is 1
-where the file would change, or if a type of the two files has no resource here.
+Macintosh, never by the program. Of each two cases are made: `derez` shows the items, and `rez` makes the bytes of
+them. The type file of a case is the declaration as it stands in types/Types.r or types/Texts.r, with what it needs of
+the lines before it; a macro is one line there, for tools/model/shown.py, which knows no joined lines. A file with
+padding that isn't zero is also shown as a whole, and its texts go out and back. With --check nothing is written, and
+the status is 1 where the file would change, or if a type of the two files has no resource here.
 
 Items stand as derez shows them, but for the layout: several on a line with `; ` between them, no commas and no blanks
 in front, and a string of hexadecimal digits as `$` and pieces, as fork.py spells bytes.

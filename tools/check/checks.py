@@ -5,17 +5,17 @@
 
 The files of cases that a script writes are what it would write now, and a second reading shows what they show; the
 documents name what is there, and wrong links are found; the laws of docs/PROOFS.md are those of the sources;
-docs/MESSAGES.md has each message; the help text describes each option; the edits of
-wrong-bodies/ and must-fail/ apply, and tools/check/wrong_bodies.py finds those that don't. With the program that ./rezkit runs:
-./test finds programs that are wrong; ./rezkit tells why it runs no program; tools/install installs it; the commands that
+docs/MESSAGES.md has each message; the help text describes each option; the edits of wrong-bodies/ and must-fail/
+apply, and tools/check/wrong_bodies.py finds those that don't. With the program that ./rezkit runs: ./test finds
+programs that are wrong; ./rezkit tells why it runs no program; tools/install installs it; the commands that
 README.md, docs/TOUR.md, docs/MESSAGES.md, docs/DAMAGED.md, docs/TEMPLATES.md, docs/TYPES.md, docs/TRANSLATING.md,
-docs/PORTING.md, docs/ARCHIVING.md and docs/LOOKING.md show print what stands there; SOURCE_DATE_EPOCH is the moment of a
-run; odd words, names and limits of the host are met; editors/ has each word of the language and shows sources and errors as
-it should. With the case runner that `rt ci` built, case files that are broken or differ are told. Without `rt` that check
-is skipped, as is any check whose program isn't there, and the line of the check says so.
+docs/PORTING.md, docs/ARCHIVING.md and docs/LOOKING.md show print what stands there; SOURCE_DATE_EPOCH is the moment
+of a run; odd words, names and limits of the host are met; editors/ has each word of the language and shows sources
+and errors as it should. With the case runner that `rt ci` built, case files that are broken or differ are told.
+Without `rt` that check is skipped, as is any check whose program isn't there, and the line of the check says so.
 
-The tests of the workbench are run by pytest, a file of them as one check, with the Python that sees Debian's packages. Where
-pytest or a module that the tests need is missing, the line says so, and the tests are skipped.
+The tests of the workbench are run by pytest, a file of them as one check, with the Python that sees Debian's
+packages. Where pytest or a module that the tests need is missing, the line says so, and the tests are skipped.
 
 The checks run side by side, as many as there are cores. The last line is `quick checks: N passed, N failed, N skipped`.
 A check is one, but of the workbench each test. The status is 1 if one fails.
@@ -42,7 +42,8 @@ def checks(program):
     found = []
     cases = sorted(glob.glob("crates/rezkit_cases/data/*.cases"), key=os.path.getsize, reverse=True)
     for part in range(PARTS):
-        found.append(("tools/check/shown_texts.py (part %d of %d)" % (part + 1, PARTS), ["tools/check/shown_texts.py", *cases[part::PARTS]], None))
+        name = "tools/check/shown_texts.py (part %d of %d)" % (part + 1, PARTS)
+        found.append((name, ["tools/check/shown_texts.py", *cases[part::PARTS]], None))
     for name in ("tour", "epoch", "edge", "editors", "first_answer", "wrong_programs", "installed"):
         found.append(("tools/check/%s.py" % name, ["tools/check/%s.py" % name, program], program))
     scripts = sorted(glob.glob("tools/cases/*_cases.py"))

@@ -3,10 +3,11 @@
 
     python3 tools/check/edge.py [PROGRAM]
 
-PROGRAM is the one that ./rezkit runs unless another is named. A run has the words after the program's name, and none begins
-if one of them isn't UTF-8. Names at which no file can stand are missing files; files that have the names of temporary ones
-hinder no write; and a file that is longer than the process may write is a write fault that leaves what was there. What
-comes otherwise than it stands here, by hand, is printed. The status is 1 if anything does. The quick checks run it.
+PROGRAM is the one that ./rezkit runs unless another is named. A run has the words after the program's name, and none
+begins if one of them isn't UTF-8. Names at which no file can stand are missing files; files that have the names of
+temporary ones hinder no write; and a file that is longer than the process may write is a write fault that leaves what
+was there. What comes otherwise than it stands here, by hand, is printed. The status is 1 if anything does. The quick
+checks run it.
 """
 import os
 import resource

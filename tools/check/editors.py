@@ -4,11 +4,11 @@
     python3 tools/check/editors.py [PROGRAM]
 
 The words are read from the tables of the language: crates/rz_words (reserved words, attributes, functions) and
-crates/rz_pre_source (directives). Each stands in the Vim syntax and in the TextMate grammar, and these have no other. At
-PLACES of examples/ the colours are those that stand there: of Vim, without a window, and of the grammar, by a small
-reading of its rules. `:make` in Vim goes to the line of an error, by a Makefile and by `:compiler rezkit`, with PROGRAM
-(crates/rezkit/out/rezkit unless another is named). What differs is printed, and the status is 1 then. Where there is no
-vim or no program, the line at the end says that it wasn't tried.
+crates/rz_pre_source (directives). Each stands in the Vim syntax and in the TextMate grammar, and these have no other.
+At PLACES of examples/ the colours are those that stand there: of Vim, without a window, and of the grammar, by a
+small reading of its rules. `:make` in Vim goes to the line of an error, by a Makefile and by `:compiler rezkit`, with
+PROGRAM (crates/rezkit/out/rezkit unless another is named). What differs is printed, and the status is 1 then. Where
+there is no vim or no program, the line at the end says that it wasn't tried.
 """
 import json
 import os

@@ -3,10 +3,10 @@
 
     python3 tools/check/epoch.py [PROGRAM]
 
-PROGRAM is the one that ./rezkit runs unless another is named. A value that is the decimal of a number of seconds up to the
-end of 2039 is the moment of the run: `$$Date` and `$$Time` tell it, and a file of MacBinary has it as its dates. Any other
-value ends the program with status 5 before it does anything. Without the variable the date is that of the clock.
-What differs is printed. The status is 1 if anything does. The quick checks run it.
+PROGRAM is the one that ./rezkit runs unless another is named. A value that is the decimal of a number of seconds up
+to the end of 2039 is the moment of the run: `$$Date` and `$$Time` tell it, and a file of MacBinary has it as its
+dates. Any other value ends the program with status 5 before it does anything. Without the variable the date is that
+of the clock. What differs is printed. The status is 1 if anything does. The quick checks run it.
 """
 import datetime
 import os

@@ -1,14 +1,16 @@
 #!/usr/bin/env python3
-"""Looks what ./rezkit does before it runs a program: which program it takes, what it says if it takes none, and how long.
+"""Looks what ./rezkit does before it runs a program: which program it takes, what it says if it takes none, and how
+long.
 
     python3 tools/check/first_answer.py [PROGRAM]
 
-PROGRAM is the one that ./rezkit runs unless another is named. It is put into a copy of what ./rezkit needs, and tools/ship
-writes prebuilt/ there, with a command `rt` that tells a version and does nothing else. Then ./rezkit is run without `rt`:
-as it stands, with a changed source, a damaged program, a program of another sum, a stale record and so on; with a program
-that can't be loaded, on another processor, through a link, in a read-only folder, from another folder, eight at once. Last
-it is run with an `rt` that seems to prove the program. What ./rezkit has to write and to say stands here by hand, and each
-run has to end in less than a second of processor time. What comes otherwise is printed, and the status is 1.
+PROGRAM is the one that ./rezkit runs unless another is named. It is put into a copy of what ./rezkit needs, and
+tools/ship writes prebuilt/ there, with a command `rt` that tells a version and does nothing else. Then ./rezkit is
+run without `rt`: as it stands, with a changed source, a damaged program, a program of another sum, a stale record and
+so on; with a program that can't be loaded, on another processor, through a link, in a read-only folder, from another
+folder, eight at once. Last it is run with an `rt` that seems to prove the program. What ./rezkit has to write and to
+say stands here by hand, and each run has to end in less than a second of processor time. What comes otherwise is
+printed, and the status is 1.
 """
 import os
 import resource

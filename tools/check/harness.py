@@ -4,9 +4,9 @@
     python3 tools/check/harness.py [PROGRAM]
 
 PROGRAM is crates/rezkit_cases/out/rezkit_cases unless another is named. Cases that are wrong on purpose are in
-crates/rezkit_cases/data/wrong.cases; here stands what no case file can say of itself: that a broken file is refused with
-the line at which it breaks, and what is printed of a case that differs. What is printed otherwise than it stands here, by
-hand, is printed with what came. The status is 1 if anything is. The quick checks run it.
+crates/rezkit_cases/data/wrong.cases; here stands what no case file can say of itself: that a broken file is refused
+with the line at which it breaks, and what is printed of a case that differs. What is printed otherwise than it stands
+here, by hand, is printed with what came. The status is 1 if anything is. The quick checks run it.
 """
 import os
 import subprocess

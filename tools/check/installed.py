@@ -3,9 +3,10 @@
 
     python3 tools/check/installed.py [PROGRAM]
 
-PROGRAM is the one that ./rezkit runs, which tools/install has to take. It is installed twice into a folder whose name has a
-blank. Then the program compiles an installed example with the installed types, the scripts that the documents call are run,
-and each document, type file and example has to be there. What comes otherwise is printed, and the status is 1.
+PROGRAM is the one that ./rezkit runs, which tools/install has to take. It is installed twice into a folder whose name
+has a blank. Then the program compiles an installed example with the installed types, the scripts that the documents
+call are run, and each document, type file and example has to be there. What comes otherwise is printed, and the
+status is 1.
 """
 import glob
 import os

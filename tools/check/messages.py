@@ -4,9 +4,9 @@
     python3 tools/check/messages.py
 
 Each fault that crates/rz_core/src/message.rt names has a row of a table in docs/MESSAGES.md, which begins with its
-number and name, and a line of output there, but 452, which no command says. tools/check/tour.py looks whether the commands
-there print these lines. No case of crates/rezkit_cases that is refused ends with the line of a warning, of which there is
-one, 240. What is wrong is printed, and the status is 1 if anything is.
+number and name, and a line of output there, but 452, which no command says. tools/check/tour.py looks whether the
+commands there print these lines. No case of crates/rezkit_cases that is refused ends with the line of a warning, of
+which there is one, 240. What is wrong is printed, and the status is 1 if anything is.
 """
 import glob
 import os

@@ -4,17 +4,18 @@
     python3 tools/check/run_cases.py [--program PROGRAM] [FILE..]
 
 PROGRAM is the one that ./rezkit runs unless another is named, and each FILE is a case file; without one, all files of
-crates/rezkit_cases/data are meant, which have to have as many cases as crates/rezkit_cases/stdout says. Each case is run in
-a folder of its own that has the files of the case, at its moment (SOURCE_DATE_EPOCH), as many side by side as there are
-cores. Its status, every file that is there after the run, standard output and standard error must be those of the case.
-A case that is wrong on purpose must differ in the places that it names, and in no others.
+crates/rezkit_cases/data are meant, which have to have as many cases as crates/rezkit_cases/stdout says. Each case is
+run in a folder of its own that has the files of the case, at its moment (SOURCE_DATE_EPOCH), as many side by side as
+there are cores. Its status, every file that is there after the run, standard output and standard error must be those
+of the case. A case that is wrong on purpose must differ in the places that it names, and in no others.
 
-Some cases can't be shown by a host: a call that fails, a room that is too small, a sweep, a file whose name no file can
-have, a word that no process can get, a moment that SOURCE_DATE_EPOCH can't say. What a case asks for decides this, never
-what comes. They are counted apart, with the reason, and must be at most 300.
+Some cases can't be shown by a host: a call that fails, a room that is too small, a sweep, a file whose name no file
+can have, a word that no process can get, a moment that SOURCE_DATE_EPOCH can't say. What a case asks for decides
+this, never what comes. They are counted apart, with the reason, and must be at most 300.
 
-Of a case that differs each place is shown, with the first byte that differs. The last line is `N passed, N failed`, with
-`, N skipped` for the cases that were counted apart. The status is 1 if a case differs or a case file can't be read.
+Of a case that differs each place is shown, with the first byte that differs. The last line is `N passed, N failed`,
+with `, N skipped` for the cases that were counted apart. The status is 1 if a case differs or a case file can't be
+read.
 """
 import argparse
 import collections

@@ -5,8 +5,8 @@
     python3 tools/check/shown_texts.py --print WORDS crates/rezkit_cases/data/shown.cases
 
 With --print the text of the cases whose names hold the words is printed. Cases of other commands, cases with another
-status than 0, and those that shown.py doesn't read are passed over, and counted. What differs is printed, and the status is
-1 then.
+status than 0, and those that shown.py doesn't read are passed over, and counted. What differs is printed, and the
+status is 1 then.
 """
 import sys
 

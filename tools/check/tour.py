@@ -4,13 +4,14 @@
     python3 tools/check/tour.py [--write] [PROGRAM]
 
 In the code blocks of WALKS a line that begins with `$ ` is a command, lines that begin with `> ` right after it go on
-with it, and what follows, up to the next command or the end of the block, is its output. The commands of the documents
-of one walk are run in their order, by `sh`, in a folder of their own that has `examples`, `types`, `tools`, `workbench`
-and, as `./rezkit`, the built program (the one that ./rezkit runs unless another is named). A command is skipped if it
-names a tool of TOOLS that isn't installed, or a program of MODULES whose module isn't; and so is a later one of the
-document if it prints something else, since it may lack what the skipped one makes. What differs is printed, and with
-`--write` put into the document. The examples of the man page (tools/help.py) are run too: each has to end with the status 0
-and to print what EXAMPLES_PRINT says. The status is 1 if anything differs. The quick checks run it.
+with it, and what follows, up to the next command or the end of the block, is its output. The commands of the
+documents of one walk are run in their order, by `sh`, in a folder of their own that has `examples`, `types`, `tools`,
+`workbench` and, as `./rezkit`, the built program (the one that ./rezkit runs unless another is named). A command is
+skipped if it names a tool of TOOLS that isn't installed, or a program of MODULES whose module isn't; and so is a
+later one of the document if it prints something else, since it may lack what the skipped one makes. What differs is
+printed, and with `--write` put into the document. The examples of the man page (tools/help.py) are run too: each has
+to end with the status 0 and to print what EXAMPLES_PRINT says. The status is 1 if anything differs. The quick checks
+run it.
 """
 import functools
 import os

@@ -1,11 +1,12 @@
 #!/usr/bin/env python3
-"""Looks that tools/check/wrong_bodies.py finds edits that don't apply or weren't tried, and writes down which were refused.
+"""Looks that tools/check/wrong_bodies.py finds edits that don't apply or weren't tried, and writes down which were
+refused.
 
     python3 tools/check/tried_edits.py
 
-It makes a small repository of one crate with a few edits, and a command `rt` that refuses all edits but those whose names
-begin with `proved`. What tools/check/wrong_bodies.py prints there stands here by hand. What comes otherwise is printed, and the
-status is 1.
+It makes a small repository of one crate with a few edits, and a command `rt` that refuses all edits but those whose
+names begin with `proved`. What tools/check/wrong_bodies.py prints there stands here by hand. What comes otherwise is
+printed, and the status is 1.
 """
 import os
 import shutil
@@ -72,8 +73,9 @@ class Repository:
     def look(self, says, words, out, status):
         """Runs the script with these words: what it has to print, and the status."""
         path = os.path.join(self.room, "bin") + os.pathsep + os.environ.get("PATH", os.defpath)
-        ran = subprocess.run([sys.executable, "tools/check/wrong_bodies.py", *words], cwd=self.room, env=dict(os.environ, PATH=path),
-                             stdin=subprocess.DEVNULL, stdout=subprocess.PIPE, stderr=subprocess.STDOUT)
+        ran = subprocess.run([sys.executable, "tools/check/wrong_bodies.py", *words], cwd=self.room,
+                             env=dict(os.environ, PATH=path), stdin=subprocess.DEVNULL, stdout=subprocess.PIPE,
+                             stderr=subprocess.STDOUT)
         came = ran.stdout.decode("utf-8", "replace"), ran.returncode
         self.count += 1
         if came != (out, status):

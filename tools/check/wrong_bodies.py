@@ -5,21 +5,23 @@
     python3 tools/check/wrong_bodies.py CRATE..    those of these crates
     python3 tools/check/wrong_bodies.py --check    whether all apply, and were tried once
 
-A file `crates/CRATE/wrong-bodies/NAME.edit` is a must-fail edit: it turns the meaning of a public function. The gate tries
-the edits of each folder `must-fail`, and for that it proves the crate a second time from nothing. Only the crates that are
-cheapest to prove have such a folder, with one edit each. All other edits stand in folders that the gate doesn't read, and
-this script tries them. Run it over a crate after a change of the crate's src/ or specs/.
+A file `crates/CRATE/wrong-bodies/NAME.edit` is a must-fail edit: it turns the meaning of a public function. The gate
+tries the edits of each folder `must-fail`, and for that it proves the crate a second time from nothing. Only the
+crates that are cheapest to prove have such a folder, with one edit each. All other edits stand in folders that the
+gate doesn't read, and this script tries them. Run it over a crate after a change of the crate's src/ or specs/.
 
 The script needs `rt`, Rattle's command. It copies the crates, names the folders `must-fail` in the copy, and has
-`rt must-fail` try them there, over what `rt` kept of the proofs in `out/`. So it takes about a minute for a crate whose
-libraries are built (`rt lib` in the crate's folder builds them), and else as long as these take to be proved. What is tried
-is told a line each. Of each edit that was refused it writes the line in tools/check/wrong_bodies.txt: the name, and the sum of the
-crate's src/ and specs/, without the lines that are comments, and of the edit, for which it was refused. It removes the line
-of an edit that wasn't. The status is 1 if an edit isn't refused, or can't be tried.
+`rt must-fail` try them there, over what `rt` kept of the proofs in `out/`. So it takes about a minute for a crate
+whose libraries are built (`rt lib` in the crate's folder builds them), and else as long as these take to be proved.
+What is tried is told a line each. Of each edit that was refused it writes the line in tools/check/wrong_bodies.txt:
+the name, and the sum of the crate's src/ and specs/, without the lines that are comments, and of the edit, for which
+it was refused. It removes the line of an edit that wasn't. The status is 1 if an edit isn't refused, or can't be
+tried.
 
-With --check it needs no `rt` and changes nothing. The status is 1 if an edit of wrong-bodies/ or must-fail/ doesn't apply
-(the text after each `old:` stands in its file exactly once, where the pairs before it have been applied), or if one of
-wrong-bodies/ has no line in tools/check/wrong_bodies.txt. Edits whose sum is another now are printed, which is no failure.
+With --check it needs no `rt` and changes nothing. The status is 1 if an edit of wrong-bodies/ or must-fail/ doesn't
+apply (the text after each `old:` stands in its file exactly once, where the pairs before it have been applied), or if
+one of wrong-bodies/ has no line in tools/check/wrong_bodies.txt. Edits whose sum is another now are printed, which is
+no failure.
 """
 import glob
 import hashlib

@@ -3,10 +3,11 @@
 
     python3 tools/check/wrong_programs.py [PROGRAM]
 
-PROGRAM is the one that ./rezkit runs unless another is named. A few cases, which stand here, are run by tools/check/run_cases.py:
-first with the program itself, which must pass, then with small scripts around it, each wrong in one place: a byte of a
-message, a byte of a fork, a status, a file too many. Then come case files that are broken. What tools/check/run_cases.py prints
-of each stands here by hand. What comes otherwise is printed, and the status is 1.
+PROGRAM is the one that ./rezkit runs unless another is named. A few cases, which stand here, are run by
+tools/check/run_cases.py: first with the program itself, which must pass, then with small scripts around it, each
+wrong in one place: a byte of a message, a byte of a fork, a status, a file too many. Then come case files that are
+broken. What tools/check/run_cases.py prints of each stands here by hand. What comes otherwise is printed, and the
+status is 1.
 """
 import os
 import subprocess

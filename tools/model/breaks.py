@@ -1,4 +1,5 @@
-"""All broken rules of a resource fork, found by the table of docs/FORMATS.md alone: a second reading that knows nothing of the code.
+"""All broken rules of a resource fork, found by the table of docs/FORMATS.md alone: a second reading that knows
+nothing of the code.
 
 A fault is a number, an offset in the fork and a value. Faults stand by rule, and within a rule in the order of the map.
 """

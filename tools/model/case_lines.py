@@ -1,7 +1,7 @@
 """How a case file spells a file or a stream: the lines of its content.
 
-A fork with the layout of docs/FORMATS.md stands after the comments that fork_bytes.py reads, and a file of another form after
-one that tells its form.
+A fork with the layout of docs/FORMATS.md stands after the comments that fork_bytes.py reads, and a file of another
+form after one that tells its form.
 """
 import re
 

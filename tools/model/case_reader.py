@@ -1,6 +1,7 @@
 """Reads the case files of crates/rezkit_cases, whose README has the format, as strictly as the proved case runner does.
 
-A second reader of the format: `read_cases` gives the cases of a file, or raises Malformed at the line that breaks a rule.
+A second reader of the format: `read_cases` gives the cases of a file, or raises Malformed at the line that breaks a
+rule.
 """
 import re
 

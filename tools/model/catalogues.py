@@ -1,7 +1,9 @@
-"""Catalogues of texts, and texts put back: a second, plain reading of what docs/LANGUAGE.md says of `strings` and `restring`.
+"""Catalogues of texts, and texts put back: a second, plain reading of what docs/LANGUAGE.md says of `strings` and
+`restring`.
 
-It knows nothing of the code. The row of a resource is the one that label_reading.py finds; a changed row counts if labels.py lays it, and label_reading.py finds the same row in the bytes.
-A catalogue is cut into lines and tokens by a lexer of its own. catalog_cases.py and random_catalogues.py stand on it.
+It knows nothing of the code. The row of a resource is the one that label_reading.py finds; a changed row counts if
+labels.py lays it, and label_reading.py finds the same row in the bytes. A catalogue is cut into lines and tokens by a
+lexer of its own. catalog_cases.py and random_catalogues.py stand on it.
 
 A resource is a tuple of type, id, name, attributes and bytes. An entry is a tuple of type, id, leaf, text and line.
 """

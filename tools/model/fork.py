@@ -1,7 +1,7 @@
 """The bytes of resource forks, written and read by the layout of docs/FORMATS.md alone.
 
-A resource is a tuple of type, id, name, attribute byte and bytes. A comment of a case file names one so, as does a line of
-the scripts that write cases:
+A resource is a tuple of type, id, name, attribute byte and bytes. A comment of a case file names one so, as does a
+line of the scripts that write cases:
 
     # fork 'Test' 128 "name" 20 = 0102    a resource: type, id, name, attribute byte, bytes
     # fork 'Test' 129                     one with no name, attributes 0 and no bytes

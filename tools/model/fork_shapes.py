@@ -1,7 +1,8 @@
 """Forks of other layouts than the one that rezkit writes, put together by the layout of docs/FORMATS.md alone.
 
-References may share bytes, names and lists, types may have no references, and the parts may stand in any order. A fork is
-made of its types, of reference lists, of a data area and of names, whose places are counted in bytes by whoever makes it.
+References may share bytes, names and lists, types may have no references, and the parts may stand in any order. A
+fork is made of its types, of reference lists, of a data area and of names, whose places are counted in bytes by
+whoever makes it.
 """
 from model.fork import number
 

@@ -1,4 +1,5 @@
-"""Files in the forms raw, AppleDouble, AppleSingle, MacBinary and BinHex, written and read by the layouts of docs/FORMATS.md alone.
+"""Files in the forms raw, AppleDouble, AppleSingle, MacBinary and BinHex, written and read by the layouts of
+docs/FORMATS.md alone.
 
 It knows nothing of the code. The CRC is that of Python's binascii; the fields, the run codes and the letters of BinHex
 are written and read here a second time. bridge_cases.py, carried_cases.py and lists.py stand on it.

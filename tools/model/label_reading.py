@@ -1,9 +1,9 @@
 """Types with labels that can be read, and the row that bytes are: a second, plain reading of docs/LANGUAGE.md.
 
-It knows nothing of the code. A type is a list of fields of label_types.py, and the rules are asked of it as they stand in
-the document: `is_readable` goes over the fields with the names that are known, and `read` goes over the bits with the
-same names and their values. It looks for one row only, and believes none: what it found counts if labels.py lays it to
-the same bytes. label_search.py tries all rows in its place.
+It knows nothing of the code. A type is a list of fields of label_types.py, and the rules are asked of it as they
+stand in the document: `is_readable` goes over the fields with the names that are known, and `read` goes over the bits
+with the same names and their values. It looks for one row only, and believes none: what it found counts if labels.py
+lays it to the same bytes. label_search.py tries all rows in its place.
 """
 from model.faults import Refused
 from model.label_types import (Align, Array, Fill, Label, Number, Points, Switch, Text, UNITS, in_row, value_of,

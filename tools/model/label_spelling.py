@@ -1,7 +1,7 @@
 """Whether bits are those of a row of a type with labels: the definition, and not the way to get there.
 
-All pieces get their places first. Then every name has its value at once, and each number, size and string has to be what
-the finished bits say. Which numbers are late is read off from what their values read. label_cases.py and
+All pieces get their places first. Then every name has its value at once, and each number, size and string has to be
+what the finished bits say. Which numbers are late is read off from what their values read. label_cases.py and
 random_labels.py ask this of all that labels.py lays.
 """
 from model.faults import Refused

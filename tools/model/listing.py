@@ -1,4 +1,5 @@
-"""What `list` prints of a file, by docs/LANGUAGE.md and docs/FORMATS.md alone: a second reading that knows nothing of the code.
+"""What `list` prints of a file, by docs/LANGUAGE.md and docs/FORMATS.md alone: a second reading that knows nothing of
+the code.
 
 The file is read by forms.py and its fork by fork.py. The calendar is that of Python's datetime.
 """

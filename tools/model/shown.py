@@ -12,13 +12,13 @@ from model.type_files import declarations_of, found, program_of, templates_of, t
 
 
 def all_facts(facts):
-    """The facts of a resource and of the moment by their names. The moment, in seconds after the first one of 1970, stands after
-    the parts of the resource; without it the moment is that second."""
+    """The facts of a resource and of the moment by their names. The moment, in seconds after the first one of 1970, stands
+    after the parts of the resource; without it the moment is that second."""
     now = datetime(1970, 1, 1) + timedelta(seconds=(facts[5:] + (0,))[0])
-    return {"ID": facts[1], "Type": int.from_bytes(facts[0], "big"), "Attributes": facts[3], "Name": facts[2], "Year": now.year,
-            "Month": now.month, "Day": now.day, "Hour": now.hour, "Minute": now.minute, "Second": now.second,
-            "Weekday": now.isoweekday() % 7 + 1, "Date": now.strftime("%Y-%m-%d").encode(), "Time": now.strftime("%H:%M:%S").encode(),
-            "Version": b"V1.0"}
+    return {"ID": facts[1], "Type": int.from_bytes(facts[0], "big"), "Attributes": facts[3], "Name": facts[2],
+            "Year": now.year, "Month": now.month, "Day": now.day, "Weekday": now.isoweekday() % 7 + 1,
+            "Hour": now.hour, "Minute": now.minute, "Second": now.second, "Date": now.strftime("%Y-%m-%d").encode(),
+            "Time": now.strftime("%H:%M:%S").encode(), "Version": b"V1.0"}
 
 
 def uses_hidden(fields, row, hidden):
@@ -88,7 +88,8 @@ def items_of(fields, row, hidden):
         elif isinstance(field, Points):
             out.append(["{%s}" % ", ".join(str(signed(each, 16)) for each in value)])
         elif isinstance(field, Text):
-            out.append([hex_text(each) for each in pieces(value, 16)] if field.says else [quoted(each, '"') for each in pieces(value, 64)])
+            texts = map(hex_text, pieces(value, 16)) if field.says else (quoted(each, '"') for each in pieces(value, 64))
+            out.append(list(texts))
         elif isinstance(field, Array):
             out.append(("{", [item for each in value for item in items_of(field.row, each, hidden)]))
         else:

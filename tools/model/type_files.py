@@ -1,7 +1,7 @@
 """Type files: their tokens and macros, and their declarations as lists of fields of label_types.py.
 
-A second, plain reading of docs/LANGUAGE.md, which knows nothing of the code. Type files with conditionals are beyond it:
-NotImplementedError.
+A second, plain reading of docs/LANGUAGE.md, which knows nothing of the code. Type files with conditionals are beyond
+it: NotImplementedError.
 """
 import re
 

@@ -1,13 +1,14 @@
 #!/usr/bin/env python3
-"""Compares tools/model/label_reading.py with a search through all rows, for random types with labels and short resources.
+"""Compares tools/model/label_reading.py with a search through all rows, for random types with labels and short
+resources.
 
     python3 tools/random/label_search.py SEED COUNT
 
-Of each type it is asked field by field whether it can be read, with what is known told from the places of all fields and
-not on the way. Of each resource all rows that could stand there are tried: each length of a string and each number of
-rows. One is its row if labels.py lays it to the same bytes, label_spelling.py says so too, and every solving number
-solves to what the row has. There may be one such row at most, and label_reading.py has to find it. What differs is
-printed, and the status is 1.
+Of each type it is asked field by field whether it can be read, with what is known told from the places of all fields
+and not on the way. Of each resource all rows that could stand there are tried: each length of a string and each
+number of rows. One is its row if labels.py lays it to the same bytes, label_spelling.py says so too, and every
+solving number solves to what the row has. There may be one such row at most, and label_reading.py has to find it.
+What differs is printed, and the status is 1.
 """
 import random
 import sys

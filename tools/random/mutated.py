@@ -3,13 +3,14 @@
 
     python3 tools/random/mutated.py [PROGRAM [COUNT [SEED]]]
 
-PROGRAM is the one that ./rezkit runs, COUNT 4,000 and SEED 1 unless others are named. Each file is a fork of resources of the
-cases in crates/rezkit_cases/data, in one of the forms raw, AppleDouble, AppleSingle, MacBinary and BinHex, of which something is changed:
-fields of the fork, bits, bytes, or how long it is, before or after it is put into its form, with check sums that are
-computed again or not. `derez` shows it, `det` tells what is broken, and `bridge` carries it to a form. What comes has to be
-what fork.py, breaks.py and forms.py say, which know the layouts of docs/FORMATS.md and nothing of the code: the first
-broken rule, or each byte of the text and of the files. Printed is how often each answer came. The status is 1 if another
-came, or the program ended in another way. This is no part of the gate.
+PROGRAM is the one that ./rezkit runs, COUNT 4,000 and SEED 1 unless others are named. Each file is a fork of
+resources of the cases in crates/rezkit_cases/data, in one of the forms raw, AppleDouble, AppleSingle, MacBinary and
+BinHex, of which something is changed: fields of the fork, bits, bytes, or how long it is, before or after it is put
+into its form, with check sums that are computed again or not. `derez` shows it, `det` tells what is broken, and
+`bridge` carries it to a form. What comes has to be what fork.py, breaks.py and forms.py say, which know the layouts
+of docs/FORMATS.md and nothing of the code: the first broken rule, or each byte of the text and of the files. Printed
+is how often each answer came. The status is 1 if another came, or the program ended in another way. This is no part
+of the gate.
 """
 import collections
 import glob

@@ -1,14 +1,15 @@
 #!/usr/bin/env python3
-"""Runs `strings` and `restring` on random types, forks and catalogues, and compares what the built program says with a second reading.
+"""Runs `strings` and `restring` on random types, forks and catalogues, and compares what the built program says with
+a second reading.
 
     python3 tools/random/random_catalogues.py [PROGRAM [COUNT [SEED]]]
 
-PROGRAM is the one that ./rezkit runs, COUNT 2,000 and SEED 1 unless others are named. Each fork has resources of one random
-type, as random_rows.py makes them, in one of the forms raw, AppleDouble, AppleSingle, MacBinary and BinHex. `strings` has to
-write the catalogue that catalogues.py tells, and `restring` has to write the same file, or the same message, for five
-catalogues: that of the fork itself, and others with changed texts, in another order, with an entry too many, or with
-something changed in their bytes. Printed is how often each answer came. The status is 1 if another came. This is no part
-of the gate.
+PROGRAM is the one that ./rezkit runs, COUNT 2,000 and SEED 1 unless others are named. Each fork has resources of one
+random type, as random_rows.py makes them, in one of the forms raw, AppleDouble, AppleSingle, MacBinary and BinHex.
+`strings` has to write the catalogue that catalogues.py tells, and `restring` has to write the same file, or the same
+message, for five catalogues: that of the fork itself, and others with changed texts, in another order, with an entry
+too many, or with something changed in their bytes. Printed is how often each answer came. The status is 1 if another
+came. This is no part of the gate.
 """
 import collections
 import os

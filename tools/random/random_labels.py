@@ -4,8 +4,8 @@
     python3 tools/random/random_labels.py SEED COUNT > FOLDER/random.cases
 
 Each case has one random declaration and one row of it, and the fork that `rez` makes, or the line on `err`. Of a row
-that has bytes, tools/model/label_spelling.py must say that they are its own; else the script ends with status 1. This is no
-part of the gate: the program can be tried against it for as long as one likes.
+that has bytes, tools/model/label_spelling.py must say that they are its own; else the script ends with status 1. This
+is no part of the gate: the program can be tried against it for as long as one likes.
 """
 import random
 import sys

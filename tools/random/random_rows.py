@@ -4,9 +4,9 @@
     python3 tools/random/random_rows.py SEED COUNT > FOLDER/random.cases
 
 Each two cases have one random declaration and resources of it: most spell a row, and some of these are changed in a
-byte, cut or lengthened; now and then a name is a live macro. Every other declaration has labels, by random_types.py. The
-first case has what `derez` shows, and the second has this text after the type file, from which `rez` must make the fork
-again. This is no part of the gate: the program can be tried against it for as long as one likes.
+byte, cut or lengthened; now and then a name is a live macro. Every other declaration has labels, by random_types.py.
+The first case has what `derez` shows, and the second has this text after the type file, from which `rez` must make
+the fork again. This is no part of the gate: the program can be tried against it for as long as one likes.
 """
 import random
 import sys

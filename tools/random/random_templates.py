@@ -3,12 +3,12 @@
 
     python3 tools/random/random_templates.py [PROGRAM [COUNT [SEED]]]
 
-PROGRAM is the one that ./rezkit runs, COUNT 10,000 and SEED 1 unless others are named. Each list of entries is one that
-declares fields, or such a one that is changed or cut, or lists about as deep as may be, or entries by chance. It stands in
-a file of templates, beside others, in one of the forms. `derez` shows a fork of resources under it, whose bytes are of its
-fields, or nearly, or by chance; each text with a `resource` statement is compiled again, which must give the fork. What
-comes has to be what templates.py and shown.py say, which know nothing of the code. Printed is how often each answer came.
-The status is 1 if another came. This is no part of the gate.
+PROGRAM is the one that ./rezkit runs, COUNT 10,000 and SEED 1 unless others are named. Each list of entries is one
+that declares fields, or such a one that is changed or cut, or lists about as deep as may be, or entries by chance. It
+stands in a file of templates, beside others, in one of the forms. `derez` shows a fork of resources under it, whose
+bytes are of its fields, or nearly, or by chance; each text with a `resource` statement is compiled again, which must
+give the fork. What comes has to be what templates.py and shown.py say, which know nothing of the code. Printed is how
+often each answer came. The status is 1 if another came. This is no part of the gate.
 """
 import collections
 import os

@@ -1,6 +1,7 @@
 """What the tests of the workbench share: how its programs are run, and files that are made by a second writer.
 
-The files come from tools/model/fork.py and tools/model/forms.py, which write what docs/FORMATS.md says and know nothing of rezkit.
+The files come from tools/model/fork.py and tools/model/forms.py, which write what docs/FORMATS.md says and know
+nothing of rezkit.
 """
 import os
 import random
