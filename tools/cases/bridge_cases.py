@@ -99,7 +99,7 @@ def from_form_to_form():
 
 
 def data_files():
-    BOOK.say("What -to double does to the file that has the data file's name: it is written first, and nothing asks.")
+    BOOK.say("What -to double does to the file that has the data file's name: it is written first, without asking.")
     both = macbin(T.but(name=b"App"))
     header = double(T.but(name=b"App"))
     case("the data file is the file that is read", "bridge App -to double -o ._App", [("App", both)],

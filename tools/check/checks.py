@@ -11,7 +11,7 @@ programs that are wrong; ./rezkit tells why it runs no program; tools/install in
 README.md, docs/TOUR.md, docs/MESSAGES.md, docs/DAMAGED.md, docs/TEMPLATES.md, docs/TYPES.md, docs/TRANSLATING.md,
 docs/PORTING.md, docs/ARCHIVING.md and docs/LOOKING.md show print what stands there; SOURCE_DATE_EPOCH is the moment
 of a run; odd words, names and limits of the host are met; editors/ has each word of the language and shows sources
-and errors as it should. With the case runner that `rt ci` built, case files that are broken or differ are told.
+and errors as it should. With the case runner that `rt ci` built, broken or failing case files are reported.
 Without `rt` that check is skipped, as is any check whose program isn't there, and the line of the check says so.
 
 The tests of the workbench are run by pytest, a file of them as one check, with the Python that sees Debian's
