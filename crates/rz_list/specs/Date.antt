@@ -24,8 +24,8 @@ date_after (suc months) year month days =
     else if month == 12 then date_after months (year + 1) 1 (days - 31)
     else date_after months year (month + 1) (days - days_in_month (pos year) month)
 
--- The date and the time so many seconds after the first second of 1904. No seconds are no date, and from 2040 on the seconds
--- are told themselves. The years before it have 1632 months.
+-- The date and the time so many seconds after the first second of 1904. No seconds are no date, and from 2040 on the
+-- seconds are told themselves. The years before it have 1632 months.
 unfoldable pub date_told : (seconds : ℕ) → List ℕ
 date_told seconds =
     if seconds == 0 then codes "none"

@@ -58,8 +58,8 @@ fn moment_at(seconds: u32) -> Option<Moment>
     Moment::of_unix(Moment::FIRST + i64::from(seconds))
 }
 
-/// Writes a date, which counts in seconds from the first of 1904: its day and its time in the clock's zone, whatever that
-/// is; `none` where it is 0, and from 2040 on its seconds.
+/// Writes a date, which counts in seconds from the first of 1904: its day and its time in the clock's zone, whatever
+/// that is; `none` where it is 0, and from 2040 on its seconds.
 pub fn date(seconds: u32, line: &mut Line)
     ensures { line.new ≡ cut (line.old ++ date_told seconds) }
 {

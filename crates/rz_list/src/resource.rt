@@ -15,8 +15,8 @@ use rz_folder::Sink;
 use rz_fork::ResView;
 use rz_show_lines::{Line, attributes};
 
-/// Puts the line of a resource: one piece where it has no name, else what stands before the name, the name in pieces, and
-/// what stands after it.
+/// Puts the line of a resource: one piece where it has no name, else what stands before the name, the name in pieces,
+/// and what stands after it.
 pub fn put_resource<O: Sink>(view: &ResView<'_>, out: &mut O) -> Result<(), Failed>
     ensures { PutsText O.Sink out.old out.new (resource_line (lent view.now)) result }
 {

@@ -1,4 +1,5 @@
-//! The text of a file, which is put piece by piece. What it is stands in `specs/Text`, of what the code holds in `specs/Held`.
+//! The text of a file, which is put piece by piece. What it is stands in `specs/Text`, of what the code holds in
+//! `specs/Held`.
 
 ghost use Rattle.std.specs.Prelude.{◌≡◌, ◌≤◌, ◌++◌, codes, length, Ok};
 ghost use Rattle.std.specs.List.{flat_map};
@@ -30,12 +31,14 @@ pub struct FileText {
 }
 
 impl FileText {
-    /// Puts the text, and flushes the sink: after `Done` the whole text is out, and nothing is held back. `Failed` is that
-    /// of the first put that failed, or of the flush: nothing is put after a put that failed. It takes no memory.
+    /// Puts the text, and flushes the sink: after `Done` the whole text is out, nothing is held back, and the sink
+    /// counts as many faults as before. `Failed` is that of the first put that failed, or of the flush: nothing is put
+    /// after a put that failed. It takes no memory.
     pub fn put<O: Sink>(&self, out: &mut O) -> Put
         requires { IsWhole self.now }
         ensures told { PutsOut (text_of self.now) (O.stream out.old) (O.stream out.new) (Ok result) }
         ensures counted { O.faults out.old ≤ O.faults out.new }
+        ensures quiet { result ≡ Put.Done → O.faults out.new ≡ O.faults out.old }
         ensures cause { result ≡ Put.Failed → Rose (O.faults out.old) (O.faults out.new) }
     {
         match self.put_whole(out) {

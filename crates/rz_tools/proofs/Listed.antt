@@ -47,7 +47,7 @@ module _ {F E : Type 0} (g : Ghosts F) (asked : DetAsked) {old new : F} where
   -- what stopped the command
   pub list_stopped : (names : List (List ℕ)) (warnings : List Fault) → names ≡ [] → warnings ≡ [] → (halt : Halt Fault) (stop : Halt Failing) → IsBeside names warnings (Err halt) (Err stop)
       → (plan : Result Plan (Halt E)) → IfOk plan (λ plan. EndsIn stop (answer_of plan)) → IfOk plan (λ plan. IsWellFormed (answer_of plan)) → IfOk plan (λ plan. AreWritable (answer_of plan).writes)
-      → IfOk plan (λ plan. IsRefused plan.outcome) → (plan ≡ Err halts.ReadFault → stop ≡ halts.ReadFault) → Finds g old new {X = List ℕ} (Err halt) (HasList asked) (λ text. Unit {0}) IsUnplaced
+      → IfOk plan (λ plan. IsRefused plan.outcome) → (plan ≡ Err halts.ReadFault → stop ≡ halts.ReadFault) → Finds g old new (Err halt) (HasList asked) (λ text. Unit {0}) IsUnplaced
       → Plans g old new plan (AnswersList asked)
   list_stopped names warnings no_names no_warnings halt stop beside plan ends fits writes refused read finds =
       plans_as g plan

@@ -67,6 +67,12 @@ module _ (making : Making) (before after : World) (files : after.files ≡ befor
   text_ends put said result same is told cause says =
       subst (CarriesOut (shown making) before after) (sym is) (text_carried put told cause (subst (λ (s : List ℕ). SaysText (said_behind put s) before after) same says))
 
+-- a run that is done has put its text
+pub end_done : (put : Result Put NoMemoryAlone) → end_of put ≡ Done → put ≡ Ok puts.Done
+end_done (Ok puts.Done) is = refl
+end_done (Ok puts.Failed) is = absurd (cc is)
+end_done (Err refused) is = absurd (cc is)
+
 -- the same of what is to be carried out, where that is the text of a fork
 module _ (reply : Reply) (fork : ForkShown) (same : reply ≡ replies.Text fork) (result : Outcome) where
   pub text_replied : (text : List ℕ) → IsTextOf fork.text text → (before after : World) → CarriesOut (shown (making_with text fork)) before after result

@@ -65,8 +65,8 @@ pub record MeansAgain (known : Known) (text : List ℕ) (list : List Resource) :
 abbrev pub AreShort : List Resource → Type 0
 AreShort list = AllByRecursion (λ r. length r.bytes ≤ most_bytes) list
 
--- the answer to words that are `rez` with a file of this text as the one source, whatever else they ask for but to begin
--- with a file or with its templates: the file of the same resources, or the fault of what such a file may hold
+-- the answer to words that are `rez` with a file of this text as the one source, whatever else they ask for but to
+-- begin with a file or with its templates: the file of the same resources, or the fault of what such a file may hold
 abbrev pub CompilesAlone : List ℕ → List Resource → Type 0
 CompilesAlone text list =
     (words : List (List ℕ)) (asked : RezAsked) (files : Files) (moment : Moment) (name : List ℕ) (output : Result (List ℕ) Fault)
@@ -82,8 +82,8 @@ HoldsFile form bytes = (file : MacFile) → file_in None form bytes [] ≡ Ok fi
 abbrev pub OfFile : {X E : Type 0} → Option Form → List ℕ → (Files → Result X E → Type 0) → Files → Result X E → Type 0
 OfFile form name answers files answer = answers files answer × IfOk answer (λ value. IfSome (finite.get files name) (HoldsFile form))
 
--- where the fork's file holds such a fork, the type files mean something, and a text is out that under it means again the
--- resources that are shown
+-- where the fork's file holds such a fork, the type files mean something, and a text is out that under it means again
+-- the resources that are shown
 abbrev pub ShowsAgain : Moment → DeRezAsked → Files → Option Stream → Option Stream → Type 0
 ShowsAgain moment asked files before after =
     (bytes : List ℕ) → finite.get files asked.file ≡ Some bytes → (fork : Fork) → fork_in None asked.from bytes ≡ Ok fork

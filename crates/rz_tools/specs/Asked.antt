@@ -1,5 +1,5 @@
--- Which files a command may read: those that its words name, those that its sources include, and those that their statements
--- name. (MPW Rez.)
+-- Which files a command may read: those that its words name, those that its sources include, and those that their
+-- statements name. (MPW Rez.)
 use Rattle.std.specs.Prelude.{◌≡◌, ◌⊎◌, ℕ, true, List, ◌∷◌, ◌++◌, map, Ok}
 use Rattle.rz_folder.specs.Folder.{Files}
 use Rattle.rz_folder.specs.MayRead.{IsIt, IsOneOf}

@@ -22,14 +22,14 @@ use Rattle.rz_tools_output.specs.Base.{base_held, Base}
 use Rattle.rz_tools_output.specs.Output.{IsOutput}
 use Rattle.rz_types_table.specs.Table.{Declaration}
 
--- as a catalogue, at whatever position of the list of files, the text is entries that give the list again where they are put
--- into it; or, where protected resources may not be changed, the refusal (219) of the first entry for one
+-- as a catalogue, at whatever position of the list of files, the text is entries that give the list again where they
+-- are put into it; or, where protected resources may not be changed, the refusal (219) of the first entry for one
 abbrev pub IsPutBack : List Declaration → Moment → List Resource → List ℕ → Type 0
 IsPutBack types moment list text =
     (file : ℕ) → (entries : List Entry) × HasEntries file text (Ok entries) × ((over : Bool) → Applied types moment over list entries (own_answer over list entries))
 
--- where the fork's file holds a fork, the type files mean something, and the text of exactly the catalogue is out that the
--- fork's resources have under them, which gives these resources again
+-- where the fork's file holds a fork, the type files mean something, and the text of exactly the catalogue is out that
+-- the fork's resources have under them, which gives these resources again
 abbrev pub ListsBack : Moment → StringsAsked → Files → Option Stream → Option Stream → Type 0
 ListsBack moment asked files before after =
     (bytes : List ℕ) → finite.get files asked.file ≡ Some bytes → (fork : Fork) → fork_in None asked.from bytes ≡ Ok fork
@@ -37,9 +37,9 @@ ListsBack moment asked files before after =
     × IsCatalogue compiled.work.types moment fork.list entries × Told (IsOut (entries_text entries)) before after
     × IsPutBack compiled.work.types moment fork.list (entries_text entries)
 
--- The file that is written is that of the fork's resources with the texts of the catalogue's entries in place: no entry is refused,
--- each resource stays as it is but for these texts and what a type computes of them, and the catalogue of the new resources is
--- that of the old ones with these texts.
+-- The file that is written is that of the fork's resources with the texts of the catalogue's entries in place: no entry
+-- is refused, each resource stays as it is but for these texts and what a type computes of them, and the catalogue of
+-- the new resources is that of the old ones with these texts.
 pub record IsChangedFile (moment : Moment) (asked : RestringAsked) (files : Files) (bytes : List ℕ) : Type 0 where
   pub compiled : Compiled
   pub types : TypesAre moment asked.types files (Ok compiled)

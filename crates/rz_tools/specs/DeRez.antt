@@ -26,8 +26,8 @@ use Rattle.rz_tools_text.specs.Text.{ShowsEach}
 
 -- What it is asked for.
 
--- the fork and the form of its file, the types that alone are shown, where there are any, and those that aren't; and the type
--- files
+-- the fork and the form of its file, the types that alone are shown, where there are any, and those that aren't; and
+-- the type files
 pub record DeRezAsked : Type 0 where
   pub file : List ℕ
   pub from : Option Form
@@ -56,8 +56,8 @@ abbrev pub HasForkText : Known → DeRezAsked → Result Fork Fault → Result (
 HasForkText known asked (Ok fork) answer = (text : List ℕ) × ShowsEach known (chosen asked.only asked.skip fork.list) text × (answer ≡ Ok text)
 HasForkText known asked (Err fault) answer = answer ≡ Err fault
 
--- the text of the fork of the file that its name holds, in the form that the words give or that it has; 101 where there is
--- none
+-- the text of the fork of the file that its name holds, in the form that the words give or that it has; 101 where there
+-- is none
 abbrev pub HasFileText : Known → DeRezAsked → Option (List ℕ) → Result (List ℕ) Fault → Type 0
 HasFileText known asked None answer = answer ≡ Err (missing_file None asked.file)
 HasFileText known asked (Some bytes) answer = HasForkText known asked (fork_in None asked.from bytes) answer

@@ -56,11 +56,13 @@ pub record IsInverse (run : Run) (files : Files) : Type 0 where
   pub strings : (asked : StringsAsked) → IsStrings run.words asked → ListsBack run.moment asked files run.before.out run.after.out
   pub restring : (asked : RestringAsked) → IsRestring run.words asked → LeavesOthers run.moment asked files run.after.files
 
--- The headline. Where the folder tells its files, the run is exact for them. Where it tells none, as the host's, words that need no
--- file are answered as they are over whatever files.
+-- The headline. Where the folder tells its files, the run is exact for them. Where it tells none, as the host's, words
+-- that need no file are answered as they are over whatever files. Nothing that failed is tried again: after Done the
+-- output counts as many faults as before.
 pub record Headline (run : Run) : Type 0 where
   pub whole : IsWhole run
   pub exact : IfSome run.before.files (IsExact run)
   pub fileless : NeedNoFile run.words → (files : Files) → IsExact run files
   pub usage : (position : ℕ) → IsUsage run position
+  pub quiet : run.result ≡ Done → run.after.out_faults ≡ run.before.out_faults
   pub inverse : run.result ≡ Done → IfSome run.before.files (IsInverse run)

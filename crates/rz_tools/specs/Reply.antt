@@ -45,8 +45,8 @@ IsSound (replies.Plan plan) = IsWellFormed (answer_of plan) × AreWritable (answ
 IsSound (replies.Text fork) = IsShown fork
 IsSound (replies.List text) = IsWhole text
 
--- The reply of a call that only read: where the folder tells its files, each answer that it stands for is one of these. It can be
--- carried out, and it is Usage only with the position of a misplaced word.
+-- The reply of a call that only read: where the folder tells its files, each answer that it stands for is one of these.
+-- It can be carried out, and it is Usage only with the position of a misplaced word.
 pub record Replies {F E : Type 0} (g : Ghosts F) (old new : F) (result : Result Reply (Halt E)) (answers : Files → Answer → Type 0) (Misplaced : ℕ → Type 0) : Type 0 where
   pub answered : IfSome (g.files old) (λ files. IfOk result (λ reply. EachAnswer reply (answers files)))
   pub sound : IfOk result IsSound

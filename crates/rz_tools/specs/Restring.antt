@@ -1,5 +1,5 @@
--- What `restring` means: the file of a fork with the texts of a catalogue in the place of those of its resources, under the types
--- that the type files declare.
+-- What `restring` means: the file of a fork with the texts of a catalogue in the place of those of its resources, under
+-- the types that the type files declare.
 use Rattle.std.specs.Prelude.{◌≡◌, ℕ, Bool, false, List, [], ◌∷◌, ◌++◌, codes, drop, get_or, length, unwrap_or, Option, Some, None, Err}
 use Rattle.std.specs.FinMap as map
 use Rattle.std.specs.declared.result.Result.{Result}
@@ -25,8 +25,8 @@ use Rattle.rz_tools.specs.Sources.{Compiled, SaidBeside}
 use Rattle.rz_tools.specs.Types.{types_items, TypesAre, TypesAsked}
 use Rattle.rz_types_table.specs.Table.{Declaration}
 
--- What it is asked for: the fork and the form of its file, the catalogue, whether texts of protected resources may be changed, the
--- name of the file to write, and the type files.
+-- What it is asked for: the fork and the form of its file, the catalogue, whether texts of protected resources may be
+-- changed, the name of the file to write, and the type files.
 pub record RestringAsked : Type 0 where
   pub file : List ℕ
   pub from : Option Form
@@ -56,7 +56,8 @@ IsRestring words asked = (items : List Item) × IsCommand words (record { name =
 abbrev pub target_named : List ℕ → Target
 target_named name = record { name = name; form = None; kind = None; creator = None; read_only = false }
 
--- the entries of the catalogue that its name holds, which stands at this position of the list of files; 101 where there is none
+-- the entries of the catalogue that its name holds, which stands at this position of the list of files; 101 where there
+-- is none
 abbrev pub HasCatalogueFile : ℕ → List ℕ → Option (List ℕ) → Result (List Entry) Fault → Type 0
 HasCatalogueFile file name None answer = answer ≡ Err (missing_file None name)
 HasCatalogueFile file name (Some source) answer = HasEntries file source answer

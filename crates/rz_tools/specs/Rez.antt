@@ -25,9 +25,10 @@ use Rattle.rz_tools.specs.Sources.{Begins, Compiled, HasWork, IsProgramOf, SaidB
 
 -- What it is asked for.
 
--- The sources, the paths for included files and for the files of statements, and the definitions; the file of templates, where
--- one is given; whether types may be declared again, whether the fork starts from the file that has the name of the file to
--- write, whether protected resources may be replaced, changed and removed; and the file to write.
+-- The sources, the paths for included files and for the files of statements, and the definitions; the file of
+-- templates, where one is given; whether types may be declared again, whether the fork starts from the file that has
+-- the name of the file to write, whether protected resources may be replaced, changed and removed; and the file to
+-- write.
 pub record RezAsked : Type 0 where
   pub files : List (List ℕ)
   pub paths : List (List ℕ)
@@ -93,8 +94,8 @@ IsMadeUnder moment asked files program types =
 abbrev pub IsMadeOf : Moment → RezAsked → Files → State → Result Making Failing → Type 0
 IsMadeOf moment asked files program = Then (Begins program (TypesOf asked.tmpl files)) (IsMadeUnder moment asked files program)
 
--- The file that the sources mean: their program, the types of the file of templates, what else there is to begin with, what the
--- statements make of it, and the file of that; or the first fault of these, in this order.
+-- The file that the sources mean: their program, the types of the file of templates, what else there is to begin with,
+-- what the statements make of it, and the file of that; or the first fault of these, in this order.
 abbrev pub Compiles : Moment → RezAsked → Files → Result Making Failing → Type 0
 Compiles moment asked files =
     Then (IsProgramOf (around_of moment asked files) asked.files asked.paths asked.defs) (IsMadeOf moment asked files)

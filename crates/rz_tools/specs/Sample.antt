@@ -1,5 +1,5 @@
--- What `sample` means: a source of its own is compiled, the fork is shown, and the text compiled again; four numbers tell how
--- much each is. All of it happens in memory: no file is read or written.
+-- What `sample` means: a source of its own is compiled, the fork is shown, and the text compiled again; four numbers
+-- tell how much each is. All of it happens in memory: no file is read or written.
 use Rattle.std.specs.Prelude.{◌≡◌, ◌<◌, ◌^◌, ℕ, false, List, [], ◌∷◌, ◌++◌, length, codes, fold, None, Ok}
 use Rattle.std.specs.FinMap as finite
 use Rattle.std.specs.declared.result.Result.{Result}
@@ -65,7 +65,8 @@ sample_lines count fork text again =
     number_line (codes "resources ") count ++ number_line (codes "fork ") (length fork) ++ number_line (codes "text ") (length text)
     ++ number_line (codes "again ") (length again)
 
--- the lines of a sample, after a fork and its text, and after a fork; warnings, of which none is known to come, aren't said
+-- the lines of a sample, after a fork and its text, and after a fork; warnings, of which none is known to come, aren't
+-- said
 abbrev pub IsSampledWith : ℕ → Moment → List ℕ → List ℕ → Result Making Failing → Type 0
 IsSampledWith count moment fork text =
     Then (CompilesAgain moment text) (λ again answer. answer ≡ Ok (record { bytes = sample_lines count fork text again.bytes; said = [] }))

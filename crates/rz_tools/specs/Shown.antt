@@ -1,5 +1,5 @@
--- What the calls that answer words promise beside the answer: where a run shows or lists a fork and is Done, its file holds a fork
--- of as few bytes as a file has.
+-- What the calls that answer words promise beside the answer: where a run shows or lists a fork and is Done, its file
+-- holds a fork of as few bytes as a file has.
 use Rattle.std.specs.Prelude.{◌≡◌, ℕ, List, Option, IfSome}
 use Rattle.std.specs.FinMap as finite
 use Rattle.rz_bridge_form.specs.declared.form.Form.{Form}

@@ -16,7 +16,8 @@ use Rattle.rz_tools_work.specs.Work.{Work}
 use Rattle.rz_tools.specs.Step.{Means, WarnedFault}
 use Rattle.rz_tools_answer.specs.Warning.{said_beside, warning_lines}
 
--- what the statements of sources made, which names, in whatever case, are macros after them, and the files that were opened
+-- what the statements of sources made, which names, in whatever case, are macros after them, and the files that were
+-- opened
 pub record Compiled : Type 0 where
   pub work : Work
   pub is_macro : List ℕ → Bool
@@ -55,7 +56,8 @@ HasWork around start program made =
 abbrev pub IsProgramOf : Around → List (List ℕ) → List (List ℕ) → List Def → Result State Failing → Type 0
 IsProgramOf around names paths defs = Unsaid (ProgramGoes around.files around.setting.tool names paths defs)
 
--- what the sources mean: their program, and what its statements make of the work to begin with; or the first fault of these
+-- what the sources mean: their program, and what its statements make of the work to begin with; or the first fault of
+-- these
 abbrev pub AreCompiled : Around → Work → List (List ℕ) → List (List ℕ) → List Def → Result Compiled Failing → Type 0
 AreCompiled around start names paths defs = Then (IsProgramOf around names paths defs) (HasWork around start)
 

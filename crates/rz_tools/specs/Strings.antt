@@ -54,8 +54,8 @@ abbrev pub HasCatalogue : Moment → List Declaration → Result Fork Fault → 
 HasCatalogue moment types (Ok fork) answer = (entries : List Entry) × IsCatalogue types moment fork.list entries × (answer ≡ Ok (entries_text entries))
 HasCatalogue moment types (Err fault) answer = answer ≡ Err fault
 
--- that of the file that its name holds, in the form that the words give or that it has; 101 where there is none, and 301 where
--- a resource is too long
+-- that of the file that its name holds, in the form that the words give or that it has; 101 where there is none, and
+-- 301 where a resource is too long
 abbrev pub HasFileCatalogue : Moment → List Declaration → StringsAsked → Option (List ℕ) → Result (List ℕ) Fault → Type 0
 HasFileCatalogue moment types asked None answer = answer ≡ Err (missing_file None asked.file)
 HasFileCatalogue moment types asked (Some bytes) answer = HasCatalogue moment types (short_fork_in asked.from bytes) answer

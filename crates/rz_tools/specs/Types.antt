@@ -19,8 +19,8 @@ use Rattle.rz_tools_work.specs.Work.{begun}
 use Rattle.rz_tools_tmpl.specs.Templates.{TypesOf}
 use Rattle.rz_tools.specs.Sources.{Begins, Compiled, HasWork, IsProgramOf}
 
--- the type files, the paths for included files, and the definitions; the file of templates, where one is given; and whether
--- types may be declared again
+-- the type files, the paths for included files, and the definitions; the file of templates, where one is given; and
+-- whether types may be declared again
 pub record TypesAsked : Type 0 where
   pub files : List (List ℕ)
   pub paths : List (List ℕ)
@@ -50,8 +50,8 @@ abbrev pub AreTyped : Moment → TypesAsked → Files → State → Result Compi
 AreTyped moment asked files program =
     Then (Begins program (TypesOf asked.tmpl files)) (λ types. HasWork (types_around moment asked files) (begun types []) program)
 
--- what the type files mean: their program, the types of the file of templates, and what the statements make; or the first fault
--- of these, in this order
+-- what the type files mean: their program, the types of the file of templates, and what the statements make; or the
+-- first fault of these, in this order
 abbrev pub TypesAre : Moment → TypesAsked → Files → Result Compiled Failing → Type 0
 TypesAre moment asked files = Then (IsProgramOf (types_around moment asked files) asked.files asked.paths asked.defs) (AreTyped moment asked files)
 

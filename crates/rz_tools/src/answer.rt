@@ -30,8 +30,8 @@ use rz_tools_output::{BridgeWords, DetWords, plan_bridge, plan_det};
 use std::alloc::Global;
 use std::convert::Infallible;
 
-/// What is to be carried out for words, with nothing of it carried out. All files that it needs are read, and all memory is
-/// taken but that of the text of a fork, which is made line by line while it is put.
+/// What is to be carried out for words, with nothing of it carried out. All files that it needs are read, and all
+/// memory is taken but that of the text of a fork, which is made line by line while it is put.
 pub fn answer<F: Folder>(
     alloc: Global,
     words: &[String],

@@ -87,8 +87,8 @@ pub fn answer_derez<F: Folder>(
     }
 }
 
-/// The text of the fork, or what stopped the command. The type files are read first, then the file of templates, then the
-/// statements of the type files, of which `type` alone takes effect, and then the fork.
+/// The text of the fork, or what stopped the command. The type files are read first, then the file of templates, then
+/// the statements of the type files, of which `type` alone takes effect, and then the fork.
 pub fn read_and_show<F: Folder>(
     alloc: Global,
     folder: &mut F,

@@ -1,4 +1,5 @@
-//! Laws of answers, of the text of `derez` and of catalogues. `run` rests on all but [`shown_forks_are_compiled_again`].
+//! Laws of answers, of the text of `derez` and of catalogues. `run` rests on all but
+//! [`shown_forks_are_compiled_again`].
 
 ghost use Rattle.std.specs.Prelude.{◌≡◌, List, [], ℕ, Ok};
 ghost use Rattle.rz_core.specs.declared.moment.Moment.{Moment};
@@ -67,8 +68,8 @@ pub fn one_answer()
     one_command();
 }
 
-/// A law, with nothing to run: words have an answer, whatever each name holds and at whatever moment; [`one_answer`] says
-/// that they have no other.
+/// A law, with nothing to run: words have an answer, whatever each name holds and at whatever moment; [`one_answer`]
+/// says that they have no other.
 pub fn every_answer()
     ensures { (words : List (List ℕ)) (files : Files) (moment : Moment) → (answer : Answer) × Answers words files moment answer }
 {
@@ -89,8 +90,8 @@ pub fn every_answer()
     every_application();
 }
 
-/// A law, with nothing to run: no reserved word is a macro after sources, if the definitions before them are of none: so
-/// no word of statements and attributes is.
+/// A law, with nothing to run: no reserved word is a macro after sources, if the definitions before them are of none:
+/// so no word of statements and attributes is.
 pub fn reserved_words_are_spared()
     ensures { (around : Around) (start : Work) (names paths : List (List ℕ)) (defs : List Def) (compiled : Compiled) → AreFree defs
         → AreCompiled around start names paths defs (Ok compiled) → SparesWords compiled.is_macro }
@@ -100,8 +101,8 @@ pub fn reserved_words_are_spared()
     attribute_words_are_spelled();
 }
 
-/// A law, with nothing to run: the text that is shown of a fork means again the resources that are shown, where each has
-/// at most 16,777,212 bytes: where the same types are declared, the same names are macros, none of them a word of
+/// A law, with nothing to run: the text that is shown of a fork means again the resources that are shown, where each
+/// has at most 16,777,212 bytes: where the same types are declared, the same names are macros, none of them a word of
 /// statements and attributes, `true` or `false`, and the moment is the same.
 pub fn shown_forks_are_read_again()
     ensures { (bytes : List ℕ) → IsFile bytes → (fork : Fork) → admitted bytes ≡ Ok fork → (only skip : List OsType) → AreShort (chosen only skip fork.list)
@@ -115,9 +116,9 @@ pub fn shown_forks_are_read_again()
     shown_text();
 }
 
-/// A law, with nothing to run: the text of a fork's catalogue, as the file of a catalogue at whatever position, is entries that
-/// give the fork's resources again where they are put into them; or, where protected resources may not be changed, the
-/// refusal (219) of the first entry for one.
+/// A law, with nothing to run: the text of a fork's catalogue, as the file of a catalogue at whatever position, is
+/// entries that give the fork's resources again where they are put into them; or, where protected resources may not be
+/// changed, the refusal (219) of the first entry for one.
 pub fn catalogues_are_put_back()
     ensures { (types : List Declaration) (moment : Moment) (bytes : List ℕ) → IsFile bytes → (fork : Fork) → admitted bytes ≡ Ok fork
         → (entries : List Entry) → IsCatalogue types moment fork.list entries → IsPutBack types moment fork.list (entries_text entries) }
@@ -129,9 +130,9 @@ pub fn catalogues_are_put_back()
 }
 
 /// A law, with nothing to run: as the one source of `rez` the text that is shown of a fork where no types are declared,
-/// and each resource that is shown has at most 16,777,212 bytes, is compiled to the file of the same resources, or to the
-/// first fault of such a file, whatever else the words ask for but `-a` and `-tmpl`: no definition of theirs makes a reserved
-/// word a macro.
+/// and each resource that is shown has at most 16,777,212 bytes, is compiled to the file of the same resources, or to
+/// the first fault of such a file, whatever else the words ask for but `-a` and `-tmpl`: no definition of theirs makes
+/// a reserved word a macro.
 pub fn shown_forks_are_compiled_again()
     ensures { (bytes : List ℕ) → IsFile bytes → (fork : Fork) → admitted bytes ≡ Ok fork → (only skip : List OsType) → AreShort (chosen only skip fork.list)
         → (known : Known) → known.types ≡ [] → (text : List ℕ) → ShowsEach known (chosen only skip fork.list) text

@@ -19,8 +19,8 @@ use rz_tools_text::facts_of;
 use rz_types_table::TypeTable;
 use std::alloc::Global;
 
-/// The catalogue of a fork's resources as text, under these types. `NoMemory` is the only refusal. Of the resources one at a
-/// time is read, and its entries are held.
+/// The catalogue of a fork's resources as text, under these types. `NoMemory` is the only refusal. Of the resources one
+/// at a time is read, and its entries are held.
 pub fn listed(
     alloc: Global,
     fork: &ForkView<'_>,

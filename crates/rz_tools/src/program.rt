@@ -23,18 +23,19 @@ use std::alloc::Global;
 /// `words` are the arguments after the program's name. They have exactly one answer, if the folder tells its files
 /// ([`every_answer`], [`one_answer`]).
 ///
-/// Usage comes exactly where the words are no command, and, if the folder tells its files, Refused only with the
-/// first fault. ReadFault and WriteFault come only where a read, or a write of the folder or of `out`, failed in this
-/// call. After Done the text is out, after all that `out` held back before, and `out` holds nothing back; if the text
-/// is empty, `out` may also be as before. After Usage, Refused and ReadFault the folder is as before and `out` has got nothing; after
-/// NoMemory the folder is as before, and `out` has got nothing, or a front of its text and not the whole text; after
-/// WriteFault the writes before the one that failed are done, and but for that one's file and a front of `out` all
-/// else is as before. No byte that was out is taken back. After `derez` of a fork, where the resources that are shown
-/// have at most 16,777,212 bytes each, the text on `out` means these resources again to `rez`. After `strings` the
-/// catalogue on `out`, put back under the same types, gives the resources of its fork again, or 219 where a protected
-/// one has a text and may not be changed. After `restring` the row of each resource has the catalogue's texts in
-/// place of its own, counts and labels are solved again, and all else of the resources stays. What `err` does changes
-/// no outcome. NoMemory may come in place of any other answer.
+/// Usage comes exactly where the words are no command, and, if the folder tells its files, Refused only with the first
+/// fault. ReadFault and WriteFault come only where a read, or a write of the folder or of `out`, failed in this call.
+/// After Done the text is out, after all that `out` held back before, and `out` holds nothing back; if the text is
+/// empty, `out` may also be as before. What failed isn't tried again: after Done `out` counts as many faults as before.
+/// After Usage, Refused and ReadFault the folder is as before and `out` has got nothing; after NoMemory the folder is
+/// as before, and `out` has got nothing, or a front of its text and not the whole text; after WriteFault the writes
+/// before the one that failed are done, and but for that one's file and a front of `out` all else is as before. No byte
+/// that was out is taken back. After `derez` of a fork, where the resources that are shown have at most 16,777,212
+/// bytes each, the text on `out` means these resources again to `rez`. After `strings` the catalogue on `out`, put back
+/// under the same types, gives the resources of its fork again, or 219 where a protected one has a text and may not be
+/// changed. After `restring` the row of each resource has the catalogue's texts in place of its own, counts and labels
+/// are solved again, and all else of the resources stays. What `err` does changes no outcome. NoMemory may come in
+/// place of any other answer.
 ///
 /// No name is read but those that the words ask for, as `specs/Asked` says; the folder has to allow these. A folder
 /// that doesn't tell its files has to allow all names.

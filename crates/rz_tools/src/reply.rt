@@ -1,5 +1,5 @@
-//! What is to be carried out, and the call that does it: an answer that is held whole, or the text of a fork or of a file,
-//! which is put line by line. Which answers it stands for is in `specs/Reply`.
+//! What is to be carried out, and the call that does it: an answer that is held whole, or the text of a fork or of a
+//! file, which is put line by line. Which answers it stands for is in `specs/Reply`.
 
 ghost use Rattle.std.specs.Prelude.{◌≡◌, ◌⊎◌};
 ghost use Rattle.rz_core.specs.Stop.{seen};
@@ -37,9 +37,10 @@ pub enum Reply {
 }
 
 impl Reply {
-    /// Carries it out: a plan as [`carry_out`] does; of a fork or a file the text is put line by line, and then what is to
-    /// be said is said, after it the line of what went wrong. NoMemory comes only for the text of a fork, and before all of it
-    /// is put: what `err` does changes no outcome.
+    /// Carries it out: a plan as [`carry_out`] does; of a fork or a file the text is put line by line, and then what is
+    /// to be said is said, after it the line of what went wrong. NoMemory comes only for the text of a fork, and before
+    /// all of it is put: what `err` does changes no outcome. What failed isn't tried again: after `Done` the output
+    /// counts as many faults as before.
     pub fn carry_out<F: Folder, O: Sink, E: Sink>(
         self,
         alloc: Global,
@@ -52,6 +53,7 @@ impl Reply {
             (λ before after. (done : Answer) × IsReply self done × CarriesOut done before after result) }
         ensures ended { (result ≡ outcome_of self) ⊎ (result ≡ Outcome.WriteFault)
             ⊎ ((result ≡ Outcome.NoMemory) × IsText self) }
+        ensures quiet { result ≡ Outcome.Done → O.faults out.new ≡ O.faults out.old }
     {
         every_list_is_shown();
         match self {

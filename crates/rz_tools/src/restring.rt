@@ -1,5 +1,5 @@
-//! `restring`: the type files, the fork of the file, the catalogue, and the file of the fork with the texts of the catalogue in
-//! place. What it answers is in `specs/Restring`.
+//! `restring`: the type files, the fork of the file, the catalogue, and the file of the fork with the texts of the
+//! catalogue in place. What it answers is in `specs/Restring`.
 
 ghost use Rattle.std.specs.Prelude.{◌≡◌, ◌<◌, ◌+◌, ◌^◌, length, IfOk};
 ghost use Rattle.std.specs.FinMap as map;
@@ -52,8 +52,8 @@ pub struct RestringWords<'a> {
 }
 
 impl<'a> RestringWords<'a> {
-    /// What these items ask for: the first file is the fork, the second the catalogue, and the others are type files; the file to
-    /// write is `Rez.Out` where they name none.
+    /// What these items ask for: the first file is the fork, the second the catalogue, and the others are type files;
+    /// the file to write is `Rez.Out` where they name none.
     pub fn of(alloc: Global, command: Command<'a>) -> Result<RestringWords<'a>, NoMemory>
         requires { 1 < length (places_of (items_of command)) }
         ensures { IfOk result (λ words. restring words ≡ restring_asked (items_of command.entry)) }
@@ -70,9 +70,10 @@ impl<'a> RestringWords<'a> {
     }
 }
 
-/// The fork's file, in which the texts of the catalogue stand in the place of those of the resources, or what stopped the command.
-/// The type files are read first, then the file of templates, then the statements of the type files, of which `type` alone takes
-/// effect, then the fork, and then the catalogue, which counts as a file after those that the type files opened.
+/// The fork's file, in which the texts of the catalogue stand in the place of those of the resources, or what stopped
+/// the command. The type files are read first, then the file of templates, then the statements of the type files, of
+/// which `type` alone takes effect, then the fork, and then the catalogue, which counts as a file after those that the
+/// type files opened.
 pub fn restring_fork<F: Folder>(
     alloc: Global,
     folder: &mut F,

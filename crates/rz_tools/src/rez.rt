@@ -84,8 +84,9 @@ fn target_of<'a>(command: &Command<'a>) -> Target<'a>
     }
 }
 
-/// The file that the sources mean, compiled into a resource fork after what there is to begin with, or what stopped the command.
-/// The sources are read first, then the file of templates, then the file to begin with, then the files of statements.
+/// The file that the sources mean, compiled into a resource fork after what there is to begin with, or what stopped the
+/// command. The sources are read first, then the file of templates, then the file to begin with, then the files of
+/// statements.
 pub fn compile<F: Folder>(
     alloc: Global,
     folder: &mut F,

@@ -23,8 +23,8 @@ use rz_tools_output::Target;
 use rz_tools_text::every_list_is_shown;
 use std::alloc::Global;
 
-/// The lines of a sample of so many resources, or what stopped it: the number of resources, and the numbers of bytes of their
-/// fork, of its text, and of the fork of that text.
+/// The lines of a sample of so many resources, or what stopped it: the number of resources, and the numbers of bytes of
+/// their fork, of its text, and of the fork of that text.
 pub fn sampled(alloc: Global, count: u32, moment: Moment) -> Result<Made, Halt<Failing>>
     ensures lines { Yields (seen making_of result) (IsSampled count moment) }
     ensures good { IfOk (seen making_of result) IsWarned }

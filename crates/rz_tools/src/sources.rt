@@ -50,8 +50,8 @@ pub fn unsaid(alloc: Global, halt: Halt<Fault>, files: FileNames) -> Halt<Failin
     say_stop(alloc, halt, &warnings, files)
 }
 
-/// The program of the sources of these names, as the tool reads it, or what stopped the command. No file changes. Over a
-/// folder that tells its files only the sources are read, and what they include.
+/// The program of the sources of these names, as the tool reads it, or what stopped the command. No file changes. Over
+/// a folder that tells its files only the sources are read, and what they include.
 pub fn read_program<F: Folder>(
     alloc: Global,
     folder: &mut F,
@@ -88,9 +88,9 @@ fn not_read(alloc: Global, halt: Halt<Failure>) -> Halt<Failing>
     }
 }
 
-/// What the statements of a program make of the work to begin with; or what stopped the command, with the lines of what was
-/// warned of before. The files of statements are looked for after the paths. No file changes, and no file is read that no
-/// statement names.
+/// What the statements of a program make of the work to begin with; or what stopped the command, with the lines of what
+/// was warned of before. The files of statements are looked for after the paths. No file changes, and no file is read
+/// that no statement names.
 pub fn compile_program<F: Folder>(
     alloc: Global,
     folder: &mut F,

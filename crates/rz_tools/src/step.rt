@@ -32,15 +32,15 @@ use rz_tools_work::{Work, declare_type, list_step, number_tool_words, put};
 use std::alloc::Global;
 
 /// Does what the statements of a program say, one after the other, up to the first fault. For DeRez each one is read,
-/// and `type` alone does anything. A resource with the type and id of an earlier one takes its place, unless that one is
-/// protected and protected ones aren't given up (219), and every other one goes to the end. A type that is declared again
-/// goes to the end of the table, and is warned of unless the setting allows it. The files of statements are looked for
-/// under their names and then after the paths; no file changes. One statement is held at a time. Work and memory are in
-/// proportion to the tokens of `data` statements, and of `resource` statements also to the fields of their types; a name
-/// in an item is looked for among the symbols of its field. Each declaration of a type and each `resource` statement goes
-/// once over the declarations of its type, and a type that is declared again over the whole table; a declaration that
-/// copies takes the memory of what it copies. A statement over lists goes a few times over the resources of its file, and
-/// `change` and `delete` a few times over the list.
+/// and `type` alone does anything. A resource with the type and id of an earlier one takes its place, unless that one
+/// is protected and protected ones aren't given up (219), and every other one goes to the end. A type that is declared
+/// again goes to the end of the table, and is warned of unless the setting allows it. The files of statements are
+/// looked for under their names and then after the paths; no file changes. One statement is held at a time. Work and
+/// memory are in proportion to the tokens of `data` statements, and of `resource` statements also to the fields of
+/// their types; a name in an item is looked for among the symbols of its field. Each declaration of a type and each
+/// `resource` statement goes once over the declarations of its type, and a type that is declared again over the whole
+/// table; a declaration that copies takes the memory of what it copies. A statement over lists goes a few times over
+/// the resources of its file, and `change` and `delete` a few times over the list.
 pub fn compile_statements<F: Folder>(
     alloc: Global,
     folder: &mut F,

@@ -1,5 +1,5 @@
-//! `strings`: the type files, the fork of the file, and the texts of its resources as a catalogue. What it answers is in
-//! `specs/Strings`.
+//! `strings`: the type files, the fork of the file, and the texts of its resources as a catalogue. What it answers is
+//! in `specs/Strings`.
 
 ghost use Rattle.std.specs.Prelude.{◌≡◌, ◌≢◌, ◌<◌, ◌^◌, [], ℕ, length, IfOk};
 ghost use Rattle.std.specs.FinMap as map;
@@ -59,9 +59,9 @@ impl<'a> StringsWords<'a> {
     }
 }
 
-/// The texts of the fork's resources as a catalogue, under what the type files declare, or what stopped the command. The type
-/// files are read first, then the file of templates, then the statements of the type files, of which `type` alone takes effect,
-/// and then the fork.
+/// The texts of the fork's resources as a catalogue, under what the type files declare, or what stopped the command.
+/// The type files are read first, then the file of templates, then the statements of the type files, of which `type`
+/// alone takes effect, and then the fork.
 pub fn list_strings<F: Folder>(
     alloc: Global,
     folder: &mut F,

@@ -43,15 +43,15 @@ with_file compiled name list = record {
   files = compiled.files ++ name ∷ [];
 }
 
--- the answer to words that are `rez` without `-a`, with these sources and then this file: the file of the resources, or the
--- fault of what such a file may hold, with the warnings of the sources
+-- the answer to words that are `rez` without `-a`, with these sources and then this file: the file of the resources, or
+-- the fault of what such a file may hold, with the warnings of the sources
 abbrev pub IsAnswerBehind : List (List ℕ) → RezAsked → Files → Moment → List ℕ → Compiled → List Resource → Type 0
 IsAnswerBehind words asked files moment name compiled list =
     (output : Result (List ℕ) Fault) → IsOutput asked.target moment new_base list output
     → Answers words files moment (or_refused (written asked.target.name) (said_beside (compiled.files ++ name ∷ []) compiled.work.warnings output))
 
--- so it is for a file of this text, after whatever sources declare the types that are known, with those of a file of templates
--- or without, and make no resource, where the same names are macros after them and the moment is the same
+-- so it is for a file of this text, after whatever sources declare the types that are known, with those of a file of
+-- templates or without, and make no resource, where the same names are macros after them and the moment is the same
 abbrev pub CompilesBehind : Known → List ℕ → List Resource → Type 0
 CompilesBehind known text list =
     (words : List (List ℕ)) (asked : RezAsked) (files : Files) (declared : List Declaration) (types : List (List ℕ)) (name : List ℕ) (compiled : Compiled)
@@ -73,8 +73,8 @@ only_declares (Compiles one) = false
 abbrev pub OnlyDeclare : List (List Token) → Type 0
 OnlyDeclare statements = AllByRecursion (λ tokens. (statement : Statement) → Parses tokens (Ok statement) → only_declares statement ≡ true) statements
 
--- The sources have no statements but `type`, and don't ask which tool reads them: neither a condition that is asked nor a
--- statement has one of the words `rez` and `derez`, once macros are replaced.
+-- The sources have no statements but `type`, and don't ask which tool reads them: neither a condition that is asked nor
+-- a statement has one of the words `rez` and `derez`, once macros are replaced.
 pub record AreTypesAlone (files : Files) (tool : Tool) (names paths : List (List ℕ)) (defs : List Def) : Type 0 where
   pub asks_none : AsksNoTool files tool names paths defs
   pub names_none : (program : State) → ProgramGoes files tool names paths defs (Ok program) → NameNoTool program.tokens
@@ -94,7 +94,8 @@ abbrev pub TypesStay : Moment → TypesAsked → Files → Files → Type 0
 TypesStay moment asked files others =
     (compiled : Compiled) → TypesAre moment asked files (Ok compiled) → TypesAre moment asked others (Ok compiled)
 
--- The same type files, paths, definitions and file of templates for `derez` and for `rez`, and after the type files of `rez` a file of this name.
+-- The same type files, paths, definitions and file of templates for `derez` and for `rez`, and after the type files of
+-- `rez` a file of this name.
 pub record ReadsBehind (shown : DeRezAsked) (asked : RezAsked) (name : List ℕ) : Type 0 where
   pub new : asked.append ≡ false
   pub files : asked.files ≡ shown.types.files ++ name ∷ []

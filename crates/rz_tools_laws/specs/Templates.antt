@@ -8,8 +8,8 @@ use Rattle.rz_tools_text.specs.Shown.{Known}
 use Rattle.rz_types_table.specs.Table.{declared_for}
 use Rattle.rz_unlay.specs.Reading.{facts_of, IsTold}
 
--- The bytes of a resource tell this row of the fields that are declared for it, and no case that the row chooses has the name
--- of a macro.
+-- The bytes of a resource tell this row of the fields that are declared for it, and no case that the row chooses has
+-- the name of a macro.
 pub record TellsDeclared (known : Known) (r : Resource) (body : PlainBody) (row : List Tree) : Type 0 where
   pub declared : declared_for known.types r ≡ Some body
   pub told : IsTold (facts_of known.moment r) body r.bytes row

@@ -22,8 +22,9 @@ pub record IsOfSame (listed : StringsAsked) (asked : RestringAsked) : Type 0 whe
   pub from : asked.from ≡ listed.from
   pub types : asked.types ≡ listed.types
 
--- the answer to words that are `restring`: the file of the same resources as there were, or the refusal of the first entry for a
--- protected one where these may not be changed, or the fault of what such a file may hold, with the warnings of the type files
+-- the answer to words that are `restring`: the file of the same resources as there were, or the refusal of the first
+-- entry for a protected one where these may not be changed, or the fault of what such a file may hold, with the
+-- warnings of the type files
 abbrev pub IsAnswerAgain : List (List ℕ) → RestringAsked → Files → Moment → Compiled → Base → List Entry → Type 0
 IsAnswerAgain words asked files moment compiled base entries =
     (output : Result (List ℕ) Fault) → Then (λ list. list ≡ own_answer asked.over base.fork.list entries) (IsOutput (target_named asked.output) moment base) output

@@ -1,5 +1,5 @@
-//! Laws of the whole: what sources declare is a template, how `derez` shows under it, that what it shows is compiled after
-//! the same type files, that raw files are found raw, and that `bridge` is asked for all that it needs.
+//! Laws of the whole: what sources declare is a template, how `derez` shows under it, that what it shows is compiled
+//! after the same type files, that raw files are found raw, and that `bridge` is asked for all that it needs.
 
 ghost use Rattle.std.specs.Prelude.{◌≡◌, ◌↔◌, ◌∷◌, ◌++◌, ℕ, [], List, length, true, false, Ok, None, Some};
 ghost use Rattle.std.specs.FinMap as finite;
@@ -65,9 +65,9 @@ use rz_tools_text::one_shown_text;
 use rz_tools_tmpl::types_are_templates;
 
 /// A law, with nothing to run: what statements declare that are read without a fault is a template: the fields of each
-/// declaration are well shaped and keep the rules, where so are those before the first statement, and the tokens are such as
-/// lines can be cut into. So it is after sources whose definitions are, and so, with a file of templates or without, after
-/// all sources of `rez` and all type files of `derez`.
+/// declaration are well shaped and keep the rules, where so are those before the first statement, and the tokens are
+/// such as lines can be cut into. So it is after sources whose definitions are, and so, with a file of templates or
+/// without, after all sources of `rez` and all type files of `derez`.
 pub fn declared_types_are_templates()
     ensures statements { (around : Around) (types : List Declaration) (list : List Resource) (statements : List (List Token)) (work : Work) → AreTemplates types
         → AllByRecursion AreLexed statements → Means around (begun types list) statements (Ok work) → AreTemplates work.types }
@@ -103,8 +103,8 @@ pub fn declared_rows_are_shown()
     one_shown_text();
 }
 
-/// A law, with nothing to run: what `rez` writes raw is found to be raw, and is read as a raw file without a word of its
-/// form, whatever the resources are, and whatever attributes and reserved bytes the file to begin with has.
+/// A law, with nothing to run: what `rez` writes raw is found to be raw, and is read as a raw file without a word of
+/// its form, whatever the resources are, and whatever attributes and reserved bytes the file to begin with has.
 pub fn raw_outputs_are_found()
     ensures form { (asked : Target) (moment : Moment) (base : Base) (list : List Resource) (bytes : List ℕ) → form_asked asked base ≡ Raw
         → IsOutput asked moment base list (Ok bytes) → form_of bytes ≡ Raw }
@@ -114,11 +114,11 @@ pub fn raw_outputs_are_found()
     forks_are_found_raw();
 }
 
-/// A law, with nothing to run: after sources that declare the types that are known, and make no resource, a text that means
-/// resources again means them as a file of the same sources: nothing more is declared, nor warned of. So the text that is
-/// shown of a fork where so much is known is compiled after such sources to the file of the same resources, or to the
-/// first fault of such a file, whatever else the words of `rez` ask for but `-a`, if each resource that is shown has at most
-/// 16,777,212 bytes.
+/// A law, with nothing to run: after sources that declare the types that are known, and make no resource, a text that
+/// means resources again means them as a file of the same sources: nothing more is declared, nor warned of. So the text
+/// that is shown of a fork where so much is known is compiled after such sources to the file of the same resources, or
+/// to the first fault of such a file, whatever else the words of `rez` ask for but `-a`, if each resource that is shown
+/// has at most 16,777,212 bytes.
 pub fn shown_forks_are_compiled_behind_types()
     ensures work { (around : Around) (start : Work) (types paths : List (List ℕ)) (name : List ℕ) (defs : List Def) (known : Known) (text : List ℕ) (list : List Resource) (compiled : Compiled)
         → around.setting.tool ≡ tools.Rez → around.setting.moment ≡ known.moment → finite.get around.files name ≡ Some text → MeansAgain known text list
@@ -135,10 +135,10 @@ pub fn shown_forks_are_compiled_behind_types()
     definitions_are_free();
 }
 
-/// A law, with nothing to run: sources that have no statements but `type`, and don't ask which tool reads them, mean the
-/// same to both: if one of the tools reads them without a fault, so does the other, whatever else the words ask for and
-/// whatever there is to begin with; they declare the same types and macros, and leave the resources as they are. Where both
-/// or neither are asked to let types be declared again, they warn of the same.
+/// A law, with nothing to run: sources that have no statements but `type`, and don't ask which tool reads them, mean
+/// the same to both: if one of the tools reads them without a fault, so does the other, whatever else the words ask for
+/// and whatever there is to begin with; they declare the same types and macros, and leave the resources as they are.
+/// Where both or neither are asked to let types be declared again, they warn of the same.
 pub fn type_files_agree()
     ensures { (around other : Around) (start : Work) (names paths : List (List ℕ)) (defs : List Def) (compiled : Compiled) → around.files ≡ other.files
         → AreTypesAlone around.files around.setting.tool names paths defs → AreCompiled around start names paths defs (Ok compiled)
@@ -146,10 +146,11 @@ pub fn type_files_agree()
         × (around.setting.redeclare ≡ other.setting.redeclare → warnings ≡ compiled.work.warnings) }
 {}
 
-/// A law, with nothing to run: what `derez` answers for a fork under type files, in a file after the same type files, is
-/// compiled by `rez` without `-a` to the file of the resources that were shown, or to the first fault of such a file: if the type files
-/// mean the same where that file stands, have no statements but `type` and don't ask which tool reads them, the words have
-/// the same paths, definitions and file of templates, the moment is the same, and each resource that is shown has at most 16,777,212 bytes.
+/// A law, with nothing to run: what `derez` answers for a fork under type files, in a file after the same type files,
+/// is compiled by `rez` without `-a` to the file of the resources that were shown, or to the first fault of such a
+/// file: if the type files mean the same where that file stands, have no statements but `type` and don't ask which tool
+/// reads them, the words have the same paths, definitions and file of templates, the moment is the same, and each
+/// resource that is shown has at most 16,777,212 bytes.
 pub fn shown_forks_are_read_back()
     ensures { (words others : List (List ℕ)) (shown : DeRezAsked) (asked : RezAsked) (files after : Files) (moment : Moment) (name bytes : List ℕ) (fork : Fork) (answer : Answer)
         → IsDeRez words shown → Answers words files moment answer → answer.outcome ≡ Done
@@ -169,9 +170,9 @@ pub fn shown_forks_are_read_back()
     one_command();
 }
 
-/// A law, with nothing to run: the items of a command of `bridge` say all that it asks for: one file to read, a last file to
-/// write, a last form of it, and the form of the file to read exactly if one is given. So words ask for this exactly if they
-/// are a command of `bridge` whose items say it all: nothing is put in the place of what isn't there.
+/// A law, with nothing to run: the items of a command of `bridge` say all that it asks for: one file to read, a last
+/// file to write, a last form of it, and the form of the file to read exactly if one is given. So words ask for this
+/// exactly if they are a command of `bridge` whose items say it all: nothing is put in the place of what isn't there.
 pub fn bridges_are_asked_for_all()
     ensures said { (words : List (List ℕ)) (items : List Item) → IsCommand words (record { name = Bridge; items = items })
         → SayAll items (bridge_asked items) }
@@ -179,11 +180,12 @@ pub fn bridges_are_asked_for_all()
         → IsBridge words asked ↔ ((items : List Item) × IsCommand words (record { name = Bridge; items = items }) × SayAll items asked) }
 {}
 
-/// A law, with nothing to run: what `strings` answers for a fork is, as the catalogue of `restring` for the same fork under the
-/// same type files, and at the same moment, answered by the file of the same resources: if the type files mean the same where
-/// that catalogue stands, and the fork isn't read only (220). Or, where protected resources may not be changed, it is the
-/// refusal (219) of the first entry for one; or the fault of what such a file may hold. If a file of the same resources is
-/// written, and the fork's file is raw and the image of its resources, it is that file byte for byte.
+/// A law, with nothing to run: what `strings` answers for a fork is, as the catalogue of `restring` for the same fork
+/// under the same type files, and at the same moment, answered by the file of the same resources: if the type files
+/// mean the same where that catalogue stands, and the fork isn't read only (220). Or, where protected resources may not
+/// be changed, it is the refusal (219) of the first entry for one; or the fault of what such a file may hold. If a file
+/// of the same resources is written, and the fork's file is raw and the image of its resources, it is that file byte
+/// for byte.
 pub fn own_strings_change_nothing()
     ensures answer { (words others : List (List ℕ)) (listed : StringsAsked) (asked : RestringAsked) (files after : Files) (moment : Moment) (bytes : List ℕ) (base : Base) (answer : Answer)
         → IsStrings words listed → Answers words files moment answer → answer.outcome ≡ Done

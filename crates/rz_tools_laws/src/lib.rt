@@ -1,11 +1,11 @@
-//! What the commands promise beside what a run needs: what type files declare is a template, so `derez` shows a resource in
-//! a `resource` statement exactly if its bytes tell a row of the fields that are declared for it; what it shows is
-//! compiled after the same type files to the same resources; what `strings` lists is put back by `restring` and changes
-//! nothing, or is 219; what `rez` writes raw is found to be raw; and the items of a command of `bridge` say all that it asks
-//! for. Laws alone, with nothing to run; nothing stands on them.
-//! It rests on `rz_tools` and on the crates whose words it speaks.
-//! A new statement that declares types is a case of what `rz_tools` proves of the table (`proofs/EveryMeaning` there) and of
-//! `shaped_statement` here (`proofs/Templates`), and one of `only_declares` (`specs/Behind`).
+//! What the commands promise beside what a run needs: what type files declare is a template, so `derez` shows a
+//! resource in a `resource` statement exactly if its bytes tell a row of the fields that are declared for it; what it
+//! shows is compiled after the same type files to the same resources; what `strings` lists is put back by `restring`
+//! and changes nothing, or is 219; what `rez` writes raw is found to be raw; and the items of a command of `bridge` say
+//! all that it asks for. Laws alone, with nothing to run; nothing stands on them. It rests on `rz_tools` and on the
+//! crates whose words it speaks. A new statement that declares types is a case of what `rz_tools` proves of the table
+//! (`proofs/EveryMeaning` there) and of `shaped_statement` here (`proofs/Templates`), and one of `only_declares`
+//! (`specs/Behind`).
 #![tactic(auto)]
 
 mod laws;

@@ -57,8 +57,8 @@ HasOrNone (Some bytes) answer = answer ≡ Ok bytes
 abbrev pub read_only : ℕ → Fault
 read_only attributes = record { number = 220; mark = None; kept = Number (pos attributes) }
 
--- a file and its fork; the bit 80 of the map's attributes says that the fork may be read only: 220. Of the file all else than
--- its fork is kept
+-- a file and its fork; the bit 80 of the map's attributes says that the fork may be read only: 220. Of the file all
+-- else than its fork is kept
 abbrev pub begun_with : Form → MacFile → Fork → Result Base Fault
 begun_with form file fork =
     if bit_and fork.attributes 128 == 0 then Ok (record { form = form; file = record file { res_fork = [] }; fork = fork }) else Err (read_only fork.attributes)
@@ -71,12 +71,13 @@ too_long r = if nat_lt 16777212 (length r.bytes) then Some (record { number = 30
 abbrev pub limited : (short : Bool) → Fork → Result Fork Fault
 limited short fork = if short then unless_fault (first_of (map too_long fork.list)) fork else Ok fork
 
--- what bytes hold to begin with, in the form that is asked for or else that they have: the rules of the form, then those of
--- the fork, then 301 where its resources must be short, then 220
+-- what bytes hold to begin with, in the form that is asked for or else that they have: the rules of the form, then
+-- those of the fork, then 301 where its resources must be short, then 220
 abbrev pub base_in : (short : Bool) → Option Form → List ℕ → Result Base Fault
 base_in short form bytes = file_in None form bytes [] >>= λ file. admit_fork None file.res_fork >>= λ fork. limited short fork >>= begun_with (form_or form bytes) file
 
--- a new file, or what the file of this name is to be appended to holds; where there is none, it counts as a file of no bytes
+-- a new file, or what the file of this name is to be appended to holds; where there is none, it counts as a file of no
+-- bytes
 abbrev pub base_of : Bool → List ℕ → Files → Result Base Fault
 base_of append name files = if append then base_in false None (or_empty (finite.get files name)) else Ok new_base
 
@@ -85,8 +86,8 @@ abbrev pub base_held : Option Form → List ℕ → Option (List ℕ) → Result
 base_held form name None = Err (missing_file None name)
 base_held form name (Some bytes) = base_in true form bytes
 
--- What can be begun with: the keys of the resources differ, and their names and the reserved bytes are as short as a fork has
--- them.
+-- What can be begun with: the keys of the resources differ, and their names and the reserved bytes are as short as a
+-- fork has them.
 pub record CanBegin (base : Base) : Type 0 where
   pub keys : KeysDiffer [] base.fork.list
   pub named : AreNamed base.fork.list

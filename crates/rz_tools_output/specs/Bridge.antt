@@ -36,8 +36,8 @@ pub record BridgeAsked : Type 0 where
   pub to : Form
   pub from : Option Form
 
--- What items ask for. A command of `bridge` has one file, a file to write and a form of it, so that nothing is put in their
--- place.
+-- What items ask for. A command of `bridge` has one file, a file to write and a form of it, so that nothing is put in
+-- their place.
 abbrev pub bridge_asked : List Item → BridgeAsked
 bridge_asked items = record {
   file = get_or (places_of items) 0 [];

@@ -30,8 +30,8 @@ det_asked items = record { file = get_or (places_of items) 0 []; from = last (fo
 
 -- What it tells.
 
--- the rules that the fork of a file in these bytes breaks, of whose data fork nothing is asked; or the rule of its form that
--- the file breaks
+-- the rules that the fork of a file in these bytes breaks, of whose data fork nothing is asked; or the rule of its form
+-- that the file breaks
 abbrev pub breaks_in : Option Form → List ℕ → Result (List ℕ) Fault
 breaks_in from bytes = file_in None from bytes [] >>= λ file. Ok (breaks_text file.res_fork)
 

@@ -1,4 +1,5 @@
--- What `list` means: the facts of a file and the resources of its fork, a line for each. It is asked for the same as `det`.
+-- What `list` means: the facts of a file and the resources of its fork, a line for each. It is asked for the same as
+-- `det`.
 use Rattle.std.specs.Prelude.{◌≡◌, ℕ, List, [], Ok, Err, Option, Some, None}
 use Rattle.std.specs.FinMap as finite
 use Rattle.std.specs.declared.result.Result.{Result}

@@ -19,8 +19,8 @@ use Rattle.rz_bridge_form.specs.declared.form.Form.{Form}
 use Rattle.rz_tools_output.specs.Base.{attributes_asked, Base}
 use Rattle.rz_tools_output.specs.declared.target.Target as code
 
--- What is asked for: the name of the file to write, its form, its type and its creator where they are given, and whether the
--- map of its fork becomes read only.
+-- What is asked for: the name of the file to write, its form, its type and its creator where they are given, and
+-- whether the map of its fork becomes read only.
 pub record Target : Type 0 where
   pub name : List ℕ
   pub form : Option Form
@@ -74,14 +74,15 @@ file_of asked moment file fork = record file {
   res_fork = fork;
 }
 
--- the file that is written of a fork, in the form that is asked for: it takes a name where it has none (425), and then the
--- rules of the form (425, 428)
+-- the file that is written of a fork, in the form that is asked for: it takes a name where it has none (425), and then
+-- the rules of the form (425, 428)
 abbrev pub IsFileOf : Target → Moment → Base → List ℕ → Result (List ℕ) Fault → Type 0
 IsFileOf asked moment base fork =
     Then (Named (form_asked asked base) asked.name (file_of asked moment base.file fork))
     (λ file bytes. bytes ≡ written_as (form_asked asked base) file)
 
--- the file that is written of the resources: their fork, or the first limit that it passes (302 to 304), and then the file
+-- the file that is written of the resources: their fork, or the first limit that it passes (302 to 304), and then the
+-- file
 abbrev pub IsOutput : Target → Moment → Base → List Resource → Result (List ℕ) Fault → Type 0
 IsOutput asked moment base list =
     Then (λ fork. fork ≡ list_fork (attributes_asked asked.read_only base) base.fork.reserved list) (IsFileOf asked moment base)

@@ -54,9 +54,9 @@ pub struct Beginning {
     pub list: Resources,
 }
 
-/// What `rez` begins with: where it appends to the file of this name, what that holds, in the form that its bytes have, where
-/// a missing file counts as one of no bytes; else a new file. Refused with the first broken rule of the form, then of the
-/// fork, then 220 (kept: the attributes) where the fork may be read only; none has a mark. (MPW Rez.)
+/// What `rez` begins with: where it appends to the file of this name, what that holds, in the form that its bytes have,
+/// where a missing file counts as one of no bytes; else a new file. Refused with the first broken rule of the form,
+/// then of the fork, then 220 (kept: the attributes) where the fork may be read only; none has a mark. (MPW Rez.)
 pub fn read_base<F: Folder>(
     alloc: Global,
     folder: &mut F,
@@ -122,9 +122,9 @@ fn new_file(alloc: Global) -> Beginning
     }
 }
 
-/// What the file of this name holds to begin with, in the form that is asked for or else that its bytes have. Refused with 101
-/// if there is no such file, then with the first broken rule of the form, then of the fork, then 301 for the first resource of
-/// more than 16,777,212 bytes (kept: its length), then 220 (kept: the attributes); none has a mark.
+/// What the file of this name holds to begin with, in the form that is asked for or else that its bytes have. Refused
+/// with 101 if there is no such file, then with the first broken rule of the form, then of the fork, then 301 for the
+/// first resource of more than 16,777,212 bytes (kept: its length), then 220 (kept: the attributes); none has a mark.
 pub fn read_held<F: Folder>(
     alloc: Global,
     folder: &mut F,
@@ -138,8 +138,8 @@ pub fn read_held<F: Folder>(
     Ok(base_in(alloc, true, form, bytes)?)
 }
 
-/// What bytes hold to begin with, in the form that is asked for or else that they have. The resources are copied out of their
-/// fork, whose own bytes are then given back.
+/// What bytes hold to begin with, in the form that is asked for or else that they have. The resources are copied out of
+/// their fork, whose own bytes are then given back.
 fn base_in(
     alloc: Global,
     short: bool,
@@ -183,7 +183,8 @@ fn base_in(
     })
 }
 
-/// Refuses with 301 the first resource of a fork that has more than 16,777,212 bytes (kept: its length), without a mark.
+/// Refuses with 301 the first resource of a fork that has more than 16,777,212 bytes (kept: its length), without a
+/// mark.
 pub fn all_short(fork: &ForkView<'_>) -> Result<(), Stop<Fault>>
     ensures fork { Gives (limited true fork.now) (seen (λ _. fork.now) result) }
     ensures short { IfOk result (λ _. AllByRecursion (λ r. length r.bytes ≤ 16777212) fork.now.list) }

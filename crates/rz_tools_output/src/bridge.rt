@@ -43,8 +43,8 @@ pub struct BridgeWords<'a> {
 }
 
 impl<'a> BridgeWords<'a> {
-    /// What a command asks for. One of `bridge` names a file, a file to write and a form; where another command names none,
-    /// their names are empty and the form is raw.
+    /// What a command asks for. One of `bridge` names a file, a file to write and a form; where another command names
+    /// none, their names are empty and the form is raw.
     pub fn of(alloc: Global, command: &Command<'a>) -> Result<BridgeWords<'a>, NoMemory>
         ensures { IfOk result (λ words. bridge words ≡ bridge_asked (items_of command.now)) }
     {
@@ -69,13 +69,14 @@ pub fn first_of(alloc: Global, names: &FileNames) -> Result<String, NoMemory>
     }
 }
 
-/// The answer to the words of `bridge`: what the file holds in one form, which is to be written in another. The file is read
-/// first, and of AppleDouble then the data file beside it. Where the file has no name it takes the last name of the output. Of
-/// AppleDouble the data file is written first, where the data fork isn't empty, and then the header file.
+/// The answer to the words of `bridge`: what the file holds in one form, which is to be written in another. The file is
+/// read first, and of AppleDouble then the data file beside it. Where the file has no name it takes the last name of
+/// the output. Of AppleDouble the data file is written first, where the data fork isn't empty, and then the header
+/// file.
 ///
-/// Refused, without a mark, with 101 where no file has the name, then with the first rule of its form that the file breaks, as
-/// [`file_in`] says, then with 425 where the name that it takes isn't Mac Roman, and then with 425 or 428 as [`write_as`] says.
-/// (RFC 1740; RFC 1741.)
+/// Refused, without a mark, with 101 where no file has the name, then with the first rule of its form that the file
+/// breaks, as [`file_in`] says, then with 425 where the name that it takes isn't Mac Roman, and then with 425 or 428 as
+/// [`write_as`] says. (RFC 1740; RFC 1741.)
 pub fn plan_bridge<F: Folder>(
     alloc: Global,
     folder: &mut F,
@@ -172,8 +173,8 @@ fn raw_alone(alloc: Global, words: &BridgeWords<'_>, file: MacFile) -> Result<Wr
     Ok(writes)
 }
 
-/// The writes of a file and of the bytes of its form: of AppleDouble the data file comes first, where the data fork isn't
-/// empty.
+/// The writes of a file and of the bytes of its form: of AppleDouble the data file comes first, where the data fork
+/// isn't empty.
 fn listed(
     alloc: Global,
     words: &BridgeWords<'_>,

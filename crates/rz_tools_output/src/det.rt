@@ -41,9 +41,9 @@ impl DetWords {
     }
 }
 
-/// The answer to the words of `det`: a line for each rule that the resource fork of the file breaks, and a last one with
-/// their number, as [`breaks_text`] gives them. The fork may break any of its rules; of AppleDouble the header file alone is
-/// read.
+/// The answer to the words of `det`: a line for each rule that the resource fork of the file breaks, and a last one
+/// with their number, as [`breaks_text`] gives them. The fork may break any of its rules; of AppleDouble the header
+/// file alone is read.
 ///
 /// Refused, without a mark, with 101 where no file has the name, and then with the first rule of its form that the file
 /// breaks, as [`file_in`] says. (After MPW RezDet.)

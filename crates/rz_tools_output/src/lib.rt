@@ -1,15 +1,14 @@
 //! What a run begins with, the files that it writes, and what it tells of one file. `read_base` gives what `rez` begins
-//! with: a new file, or what the file to append to holds. `read_held` gives the same of the file that `restring` changes, and
-//! `all_short` refuses resources that are too long (301). `write_output` makes the file of the resources, as a `Target` asks
-//! for it. `plan_bridge` carries a file from one form to another, as the `BridgeWords` of a command ask for it. `plan_det`
-//! tells each rule that the fork of a file breaks, as its `DetWords` ask for it, and `read_list` what the file holds, as the
-//! same words ask for it. Each gives exactly what its definition says, or the first fault.
+//! with: a new file, or what the file to append to holds. `read_held` gives the same of the file that `restring`
+//! changes, and `all_short` refuses resources that are too long (301). `write_output` makes the file of the resources,
+//! as a `Target` asks for it. `plan_bridge` carries a file from one form to another, as the `BridgeWords` of a command
+//! ask for it. `plan_det` tells each rule that the fork of a file breaks, as its `DetWords` ask for it, and `read_list`
+//! what the file holds, as the same words ask for it. Each gives exactly what its definition says, or the first fault.
 //! It rests on `rz_core`, `rz_folder`, `rz_fork`, `rz_det`, `rz_list`, `rz_set`, `rz_bridge`, `rz_bridge_form`,
-//! `rz_bridge_files`, `rz_folder_paths`, `rz_tools_args`, whose commands it asks, `rz_tools_answer`, whose plans it makes,
-//! and `bitflags`.
-//! `rez`, `strings`, `restring` and `answer` of `rz_tools` call it.
-//! A new option of the output is one more field of `Target` and of its definition; another file beside the output is one
-//! more write in `bridge`; another look at a file is a module beside `det`.
+//! `rz_bridge_files`, `rz_folder_paths`, `rz_tools_args`, whose commands it asks, `rz_tools_answer`, whose plans it
+//! makes, and `bitflags`. `rez`, `strings`, `restring` and `answer` of `rz_tools` call it. A new option of the output
+//! is one more field of `Target` and of its definition; another file beside the output is one more write in `bridge`;
+//! another look at a file is a module beside `det`.
 #![tactic(auto)]
 
 mod base;

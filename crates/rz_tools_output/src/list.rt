@@ -21,11 +21,11 @@ use rz_folder_paths::read_present;
 use rz_list::FileText;
 use std::alloc::Global;
 
-/// The text that answers the words of `list`, which name a file as those of `det` do: what the form of the file carries,
-/// and the resources of its fork. Of AppleDouble the header file alone is read.
+/// The text that answers the words of `list`, which name a file as those of `det` do: what the form of the file
+/// carries, and the resources of its fork. Of AppleDouble the header file alone is read.
 ///
-/// Refused, without a mark, with 101 where no file has the name, then with the first rule of its form that the file breaks,
-/// as [`file_in`] says, and then with the first rule that its fork breaks, 401 to 410, as [`admit_fork`] says.
+/// Refused, without a mark, with 101 where no file has the name, then with the first rule of its form that the file
+/// breaks, as [`file_in`] says, and then with the first rule that its fork breaks, 401 to 410, as [`admit_fork`] says.
 pub fn read_list<F: Folder>(
     alloc: Global,
     folder: &mut F,

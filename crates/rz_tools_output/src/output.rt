@@ -20,10 +20,11 @@ use rz_core::{Bytes, Fault, Kept, Moment, Resources, Stop};
 use rz_fork::{LimitFault, MapAttributes, write_fork};
 use std::alloc::Global;
 
-/// The file that is written of the resources: their fork with the attributes and the reserved bytes to begin with, read only
-/// where that is asked for, in the form that is asked for or that of the file to begin with. Refused with the first limit that
-/// the fork passes (302, 303, 304); in another form than raw then 425 where the file has no name and takes one from that of
-/// the file to write that isn't Mac Roman, and then 425 or 428, as the form's writer refuses. (MPW Rez; RFC 1740; RFC 1741.)
+/// The file that is written of the resources: their fork with the attributes and the reserved bytes to begin with, read
+/// only where that is asked for, in the form that is asked for or that of the file to begin with. Refused with the
+/// first limit that the fork passes (302, 303, 304); in another form than raw then 425 where the file has no name and
+/// takes one from that of the file to write that isn't Mac Roman, and then 425 or 428, as the form's writer refuses.
+/// (MPW Rez; RFC 1740; RFC 1741.)
 pub fn write_output(
     alloc: Global,
     into: &Target<'_>,

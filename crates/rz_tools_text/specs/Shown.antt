@@ -15,8 +15,8 @@ pub record Known : Type 0 where
   pub is_macro : List ℕ → Bool
   pub moment : Moment
 
--- The bytes of a resource tell this row as a tree of the fields that are declared for it, and no case that the row chooses
--- has the name of a macro.
+-- The bytes of a resource tell this row as a tree of the fields that are declared for it, and no case that the row
+-- chooses has the name of a macro.
 pub record TellsRow (known : Known) (r : Resource) (body : PlainBody) (row : List Tree) : Type 0 where
   pub tree : IsTree (declared_for known.types r) (facts_of known.moment r) r.bytes body row
   pub bare : row_uses known.is_macro body row ≡ false

@@ -16,7 +16,8 @@ pub fn one_shown_text()
     one_tree();
 }
 
-/// A law, with nothing to run: each list of resources is shown by a text; [`one_shown_text`] says that it is by no other.
+/// A law, with nothing to run: each list of resources is shown by a text; [`one_shown_text`] says that it is by no
+/// other.
 pub fn every_list_is_shown()
     ensures { (known : Known) (list : List Resource) → (text : List ℕ) × ShowsEach known list text }
 {

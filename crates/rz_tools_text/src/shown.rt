@@ -65,9 +65,9 @@ impl Known {
 }
 
 /// Puts the lines of a resource that is lent: the `resource` statement with the row that its bytes tell under the type
-/// that is declared for it, unless the row chooses a case whose name is a macro; and where there is no such row its `data`
-/// statement. Of the resource its name alone is copied. Every resource can be shown: `NoMemory` is the only refusal, and
-/// then nothing is put. (MPW DeRez.)
+/// that is declared for it, unless the row chooses a case whose name is a macro; and where there is no such row its
+/// `data` statement. Of the resource its name alone is copied. Every resource can be shown: `NoMemory` is the only
+/// refusal, and then nothing is put. (MPW DeRez.)
 pub fn put_resource<O: Sink>(
     alloc: Global,
     view: &ResView<'_>,
@@ -76,6 +76,7 @@ pub fn put_resource<O: Sink>(
 ) -> Result<Put, NoMemory>
     ensures told { (text : List ℕ) → Shown (known_of known.now) (lent view.now) text → PutsFront text (O.stream out.old) (O.stream out.new) result }
     ensures counted { O.faults out.old ≤ O.faults out.new }
+    ensures quiet { result ≡ Ok Put.Done → O.faults out.new ≡ O.faults out.old }
     ensures cause { result ≡ Ok Put.Failed → Rose (O.faults out.old) (O.faults out.new) }
 {
     one_shown_text();
@@ -90,6 +91,7 @@ pub fn put_resource<O: Sink>(
 fn put_lines<O: Sink>(lines: ShowLines<'_>, out: &mut O) -> Put
     ensures told { Puts (concat lines.entry) (O.stream out.old) (O.stream out.new) result }
     ensures counted { O.faults out.old ≤ O.faults out.new }
+    ensures quiet { result ≡ Put.Done → O.faults out.new ≡ O.faults out.old }
     ensures cause { result ≡ Put.Failed → Rose (O.faults out.old) (O.faults out.new) }
 {
     let mut left = lines;
@@ -128,6 +130,7 @@ fn put_under<O: Sink>(
     requires declared { declared_for (table_of known.now.types) (lent view.now) ≡ Some (template_of template.now) }
     ensures told { (text : List ℕ) → Shown (known_of known.now) (lent view.now) text → PutsFront text (O.stream out.old) (O.stream out.new) result }
     ensures counted { O.faults out.old ≤ O.faults out.new }
+    ensures quiet { result ≡ Ok Put.Done → O.faults out.new ≡ O.faults out.old }
     ensures cause { result ≡ Ok Put.Failed → Rose (O.faults out.old) (O.faults out.new) }
 {
     one_shown_text();
@@ -143,8 +146,8 @@ fn put_under<O: Sink>(
     }
 }
 
-/// The row that the bytes of a resource with these facts tell under the template that is declared for it, unless it chooses
-/// a case whose name is a macro.
+/// The row that the bytes of a resource with these facts tell under the template that is declared for it, unless it
+/// chooses a case whose name is a macro.
 fn row_told(
     alloc: Global,
     view: &ResView<'_>,

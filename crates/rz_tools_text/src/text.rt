@@ -1,4 +1,5 @@
-//! The text of a fork, which is put line by line: of the resources that are chosen, in order. What it is is in `specs/Put`.
+//! The text of a fork, which is put line by line: of the resources that are chosen, in order. What it is is in
+//! `specs/Put`.
 
 ghost use Rattle.std.specs.Prelude.{◌≡◌, ◌≤◌, ◌<◌, ◌^◌, ◌∷◌, [], ℕ, List, length, Ok};
 ghost use Rattle.rz_folder.specs.Counts.{Rose};
@@ -33,16 +34,17 @@ pub struct ForkText {
 }
 
 impl ForkText {
-    /// Puts the text, one line after the other, and flushes the sink: after `Done` the whole text is out, and nothing
-    /// is held back. Beside the bytes of the fork it holds, of one resource at a time, the name and, under a
-    /// template, the row. `Failed` is that of the first put that failed, or of the flush: nothing is put after a put
-    /// that failed. Every fork can be shown: `NoMemory` is the only refusal, and comes before the whole text is put;
-    /// what was put till then stays. (MPW DeRez.)
+    /// Puts the text, one line after the other, and flushes the sink: after `Done` the whole text is out, nothing is
+    /// held back, and the sink counts as many faults as before. Beside the bytes of the fork it holds, of one resource
+    /// at a time, the name and, under a template, the row. `Failed` is that of the first put that failed, or of the
+    /// flush: nothing is put after a put that failed. Every fork can be shown: `NoMemory` is the only refusal, and
+    /// comes before the whole text is put; what was put till then stays. (MPW DeRez.)
     pub fn put<O: Sink>(&self, alloc: Global, out: &mut O) -> Result<Put, NoMemory>
         requires short { length self.now.fork < 2 ^ 32 }
         requires admitted { (fork : Fork) × (admitted self.now.fork ≡ Ok fork) }
         ensures told { (text : List ℕ) → IsTextOf self.now text → PutsOut text (O.stream out.old) (O.stream out.new) result }
         ensures counted { O.faults out.old ≤ O.faults out.new }
+        ensures quiet { result ≡ Ok Put.Done → O.faults out.new ≡ O.faults out.old }
         ensures cause { result ≡ Ok Put.Failed → Rose (O.faults out.old) (O.faults out.new) }
     {
         match ForkView::admit(self.fork.as_slice()) {
@@ -64,6 +66,7 @@ impl ForkText {
         ensures told { (text : List ℕ) → ShowsEach (known_of self.now.known) (chosen self.now.only self.now.skip fork.now.list) text
             → PutsFront text (O.stream out.old) (O.stream out.new) result }
         ensures counted { O.faults out.old ≤ O.faults out.new }
+        ensures quiet { result ≡ Ok Put.Done → O.faults out.new ≡ O.faults out.old }
         ensures cause { result ≡ Ok Put.Failed → Rose (O.faults out.old) (O.faults out.new) }
     {
         let mut walk = fork.walk();
@@ -86,6 +89,7 @@ impl ForkText {
         ensures told { (text : List ℕ) → ShowsEach (known_of self.now.known) (chosen self.now.only self.now.skip (lent view.now ∷ [])) text
             → PutsFront text (O.stream out.old) (O.stream out.new) result }
         ensures counted { O.faults out.old ≤ O.faults out.new }
+        ensures quiet { result ≡ Ok Put.Done → O.faults out.new ≡ O.faults out.old }
         ensures cause { result ≡ Ok Put.Failed → Rose (O.faults out.old) (O.faults out.new) }
     {
         if is_chosen(&self.only, &self.skip, view.kind) {

@@ -27,7 +27,8 @@ use Rattle.rz_types_table.specs.declared.table.Scope.TheVariants.{Any}
 abbrev pub template_code : ℕ
 template_code = 1414352972
 
--- the type that a resource declares: that of its name, if it is a template and the name has four bytes; no file holds 2^64 bytes
+-- the type that a resource declares: that of its name, if it is a template and the name has four bytes; no file holds
+-- 2^64 bytes
 abbrev pub declares : Resource → Option OsType
 declares r = if (r.kind.code == template_code) && nat_lt (length r.bytes) (2 ^ 64) then kind_of r.name else None
 
@@ -35,8 +36,8 @@ declares r = if (r.kind.code == template_code) && nat_lt (length r.bytes) (2 ^ 6
 abbrev pub entry_fault : Resource → TmplFault → Fault
 entry_fault r fault = record { number = fault.number; mark = None; kept = Pair r.id (pos fault.offset) }
 
--- the declarations after these fields of a type, which are for any id; a template with an entry of an unknown code (452)
--- declares nothing, and any other fault is told
+-- the declarations after these fields of a type, which are for any id; a template with an entry of an unknown code
+-- (452) declares nothing, and any other fault is told
 abbrev pub declared_with : List Declaration → Resource → OsType → Result PlainBody TmplFault → Result (List Declaration) Fault
 declared_with types r kind (Ok body) = Ok (declared_behind types (record { kind = kind; scope = Any; template = body }))
 declared_with types r kind (Err fault) = if fault.number == 452 then Ok types else Err (entry_fault r fault)

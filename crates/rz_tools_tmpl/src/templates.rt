@@ -19,18 +19,19 @@ use rz_folder_paths::read_present;
 use rz_types_table::TypeTable;
 use std::alloc::Global;
 
-/// The types that the 'TMPL' resources of the file of this name declare, in map order; none where no file is named. The form
-/// of the file is found. The name of such a resource is the type that it declares, for any id; one whose name isn't four
-/// bytes declares nothing, and so does one that has an entry of an unknown code (452), as ResEdit has more codes. Of several
-/// for one type the last counts. No file changes, and no other file is read.
+/// The types that the 'TMPL' resources of the file of this name declare, in map order; none where no file is named. The
+/// form of the file is found. The name of such a resource is the type that it declares, for any id; one whose name
+/// isn't four bytes declares nothing, and so does one that has an entry of an unknown code (452), as ResEdit has more
+/// codes. Of several for one type the last counts. No file changes, and no other file is read.
 ///
-/// Refused, without a mark, with 101 where no file has the name (kept: the name), then with the first rule that the form and
-/// then the fork of the file break, as [`file_in`] and [`admit_fork`] say, and then with the first fault of the templates in
-/// map order: 451 and 453 to 456, as [`template_of`](rz_tmpl::template_of) says (kept: the id and the offset).
+/// Refused, without a mark, with 101 where no file has the name (kept: the name), then with the first rule that the
+/// form and then the fork of the file break, as [`file_in`] and [`admit_fork`] say, and then with the first fault of
+/// the templates in map order: 451 and 453 to 456, as [`template_of`](rz_tmpl::template_of) says (kept: the id and the
+/// offset).
 ///
-/// Nothing of the fork is copied. Each template takes the memory and the time that its bytes ask for, also where resources
-/// share their bytes: 16,384 templates of the same 16 megabytes are read 16,384 times. Where a template takes the place of
-/// one for the same type, it goes once over all that are declared. (ResEdit Reference, 'TMPL' resources.)
+/// Nothing of the fork is copied. Each template takes the memory and the time that its bytes ask for, also where
+/// resources share their bytes: 16,384 templates of the same 16 megabytes are read 16,384 times. Where a template takes
+/// the place of one for the same type, it goes once over all that are declared. (ResEdit Reference, 'TMPL' resources.)
 pub fn read_templates<F: Folder>(
     alloc: Global,
     folder: &mut F,

@@ -31,7 +31,7 @@ say_beside-requires-clause-fault g c =
     let files = c.in_ok-compiled.compiled.files in
     let more : length c.push.new.self ≡ length files + 1 = ap (λ (l : List (List ℕ)). length l) c.in_ok-push.ensures.ok ∙ length_push files c.as_str.result.now in
     let same : c.len-file.result + 1 ≡ length c.push.new.self = omega (arith, more, c.len-file.ensures) in
-    (finds_so g.F.Folder c.restrung-output.result c.restrung-output.ensures {Worse = IsNameable (length c.push.new.self)} (λ held answer is. is) (λ bytes short. short)
+    (finds_so g.F.Folder {Worse = IsNameable (length c.push.new.self)} c.restrung-output.result c.restrung-output.ensures (λ held answer is. is) (λ bytes short. short)
     (λ fault is. subst (λ (n : ℕ). IsNameable n fault) same is)).bad
 
 pub say_beside-requires-clause-warnings : goal.say_beside-requires-clause-warnings

@@ -1,4 +1,4 @@
-use Rattle.std.proofs.Common.{◌≤◌, length}
+use Rattle.std.proofs.Common.{◌≡◌, ◌≤◌, length}
 use Rattle.rz_tools_text.proofs.Lists.{ArePut}
 use Rattle.rz_tools_text.proofs.shown.put_lines.Given as goal
 
@@ -6,6 +6,7 @@ abbrev pub invariant-loop-line : goal.invariant-loop-line
 invariant-loop-line g l = record {
   put : ArePut l.fn.lines l.left (g.O.Sink.stream l.fn.out) (g.O.Sink.stream l.out);
   counted : g.O.Sink.faults l.fn.out ≤ g.O.Sink.faults l.out;
+  quiet : g.O.Sink.faults l.out ≡ g.O.Sink.faults l.fn.out;
 }
 
 abbrev pub decreases-loop-line : goal.decreases-loop-line

@@ -1,4 +1,4 @@
-use Rattle.std.proofs.Common.{arith}
+use Rattle.std.proofs.Common.{◌∙◌, arith}
 use Rattle.rz_folder.proofs.Streams.{put_flushed}
 use Rattle.rz_list.specs.Held.{text_of}
 use Rattle.rz_list.proofs.text.FileText.put.Goals as goal
@@ -8,6 +8,9 @@ returns-in-Ok-clause-told g c = put_flushed (text_of c.args.self.now) _ _ _ c.fl
 
 pub returns-in-Ok-clause-counted : goal.returns-in-Ok-clause-counted
 returns-in-Ok-clause-counted g c = omega (arith, c.in-Ok.ensures.counted, c.flush.ensures.counted)
+
+pub returns-in-Ok-clause-quiet : goal.returns-in-Ok-clause-quiet
+returns-in-Ok-clause-quiet g c done = c.flush.ensures.quiet done ∙ c.in-Ok.ensures.quiet
 
 pub returns-in-Ok-clause-cause : goal.returns-in-Ok-clause-cause
 returns-in-Ok-clause-cause g c failed = (let rose = c.flush.ensures.cause failed in omega (arith, rose, c.in-Ok.ensures.counted))

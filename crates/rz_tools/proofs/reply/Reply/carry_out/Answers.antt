@@ -1,10 +1,10 @@
-use Rattle.std.proofs.Common.{[], Ok, refl, subst}
+use Rattle.std.proofs.Common.{[], Ok, refl, sym, subst, ◌∙◌}
 use Rattle.rz_list.specs.Held.{text_of}
 use Rattle.rz_tools_text.specs.Chosen.{chosen}
 use Rattle.rz_tools_text.specs.Held.{known_of}
 use Rattle.rz_tools.specs.Held.{making_with}
 use Rattle.rz_tools.specs.Reply.{IsSound}
-use Rattle.rz_tools.proofs.Replied.{list_ended, list_replied, text_ended, text_ends, text_replied}
+use Rattle.rz_tools.proofs.Replied.{end_done, list_ended, list_replied, text_ended, text_ends, text_replied}
 use Rattle.rz_tools.proofs.reply.Reply.carry_out.Goals as goal
 
 pub returns-in-Text-clause-carried : goal.returns-in-Text-clause-carried
@@ -19,6 +19,9 @@ returns-in-Text-clause-carried g c =
 pub returns-in-Text-clause-ended : goal.returns-in-Text-clause-ended
 returns-in-Text-clause-ended g c = text_ended c.args.self c.in-Text.shown c.in-Text.is c.say_end.result c.put-put.result c.say_end.ensures.outcome
 
+pub returns-in-Text-clause-quiet : goal.returns-in-Text-clause-quiet
+returns-in-Text-clause-quiet g c done = c.put-put.ensures.quiet (end_done c.put-put.result (sym c.say_end.ensures.outcome ∙ done))
+
 pub returns-in-List-clause-carried : goal.returns-in-List-clause-carried
 returns-in-List-clause-carried g c =
     list_replied c.args.self c.in-List.text c.in-List.is c.say_end-in-List.result _ _
@@ -27,3 +30,6 @@ returns-in-List-clause-carried g c =
 
 pub returns-in-List-clause-ended : goal.returns-in-List-clause-ended
 returns-in-List-clause-ended g c = list_ended c.args.self c.in-List.text c.in-List.is c.say_end-in-List.result c.put-put-in-List.result c.say_end-in-List.ensures.outcome
+
+pub returns-in-List-clause-quiet : goal.returns-in-List-clause-quiet
+returns-in-List-clause-quiet g c done = c.put-put-in-List.ensures.quiet (cc (end_done (Ok c.put-put-in-List.result) (sym c.say_end-in-List.ensures.outcome ∙ done)))

@@ -1,4 +1,4 @@
-use Rattle.std.proofs.Common.{List, sym, subst, arith}
+use Rattle.std.proofs.Common.{List, refl, sym, subst, ◌∙◌, arith}
 use Rattle.std.proofs.lemmas.Result.{err_from_is_err_and}
 use Rattle.rz_core.specs.declared.resource.Resource.{Resource}
 use Rattle.rz_fork.specs.View.{lent}
@@ -15,6 +15,7 @@ loop-one-init g c =
       told = λ text shows. each_begun (known_of t.known) t.only t.skip text c.walk-walk.result
           (subst (λ (list : List Resource). ShowsEach (known_of t.known) (chosen t.only t.skip list) text) (sym c.walk-walk.ensures) shows) _;
       counted = omega arith;
+      quiet = refl;
     }
 
 pub loop-one-preserved : goal.loop-one-preserved
@@ -22,6 +23,7 @@ loop-one-preserved g c = record {
   told = λ text shows. each_next (known_of c.args.self.now.known) c.args.self.now.only c.args.self.now.skip text c.loop-one.walk c.next.new.self (lent c.in-Some.one) c.in-Some.ensures
       _ _ _ c.in_ok-put_chosen.field-0 c.in-Done.is (c.loop-one.invariant.told text shows) c.in_ok-put_chosen.ensures.told;
   counted = omega (arith, c.loop-one.invariant.counted, c.put_chosen.ensures.counted);
+  quiet = c.in_ok-put_chosen.ensures.quiet (cc c.in-Done.is) ∙ c.loop-one.invariant.quiet;
 }
 
 pub returns-in-Failed-clause-told : goal.returns-in-Failed-clause-told
