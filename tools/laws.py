@@ -16,6 +16,7 @@ import calls
 
 PAGE = os.path.join("docs", "PROOFS.md")
 SECTIONS = ("## The inverse", "## Laws")
+TABLE = "## Exactly one answer"
 CRATES = re.compile(r"(\[`\w+`\]\(\.\./crates/\w+/src/\w+\.rt\)(, |:$))+")
 
 
@@ -38,12 +39,21 @@ def said(comment):
     return re.sub(r"\[(`[^`]*`)\](\([^)]*\))?", r"\1", text[len(calls.LAW):] if text.startswith(calls.LAW) else text)
 
 
+def missing_in(row):
+    """The names in a row of the table that are no laws of its crates."""
+    crates = [name for name in re.findall(r"`(rz_\w+)`", row.split("|")[1])]
+    laws = {name for crate in crates for name in laws_of(crate)}
+    return [name for name in re.findall(r"`(\w+)`", row.split("|")[2]) if name not in laws]
+
+
 def written(text):
     """The page with the comments of today, and the names of laws that no crate has."""
-    lines, missing, laws, inside = [], [], {}, False
+    lines, missing, laws, inside, section = [], [], {}, False, ""
     for line in text.split("\n"):
         if line.startswith("## "):
-            inside = line in SECTIONS
+            section, inside = line, line in SECTIONS
+        if section == TABLE and line.startswith("|") and "`" in line:
+            missing += missing_in(line)
         if inside and CRATES.fullmatch(line):
             laws = {name: says for crate in re.findall(r"crates/(\w+)/", line) for name, says in laws_of(crate).items()}
         law = re.match(r"- `(\w+)`:(?= |$)", line) if inside else None
