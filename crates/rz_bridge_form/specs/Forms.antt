@@ -1,5 +1,5 @@
--- The forms of a file: which one its bytes have, what they hold, and what is written.
-use Rattle.std.specs.Prelude.{ℕ, pos, false, ◌==◌, ◌&&◌, not, nat_eq, nat_le, Bool, if◌then◌else◌, List, [], ◌∷◌, length, replicate, Ok}
+-- The forms of a file: which one its bytes have, what they hold, what is written, and their words.
+use Rattle.std.specs.Prelude.{ℕ, pos, false, ◌==◌, ◌&&◌, not, nat_eq, nat_le, Bool, if◌then◌else◌, List, [], ◌∷◌, length, replicate, codes, Ok}
 use Rattle.std.specs.List.{starts_with}
 use Rattle.std.specs.declared.result.Result.{Result}
 use Rattle.rz_bridge.specs.Apple.{double_content, single_content, apple_written, apple_carried}
@@ -90,3 +90,13 @@ carried_of AppleDouble file = apple_carried file
 carried_of AppleSingle file = apple_carried file
 carried_of MacBinary file = macbin_carried file
 carried_of BinHex file = hqx_carried file
+
+-- Words.
+
+-- the word that a form has in arguments and in the list of a file
+abbrev pub form_word : Form → List ℕ
+form_word Raw = codes "raw"
+form_word AppleDouble = codes "double"
+form_word AppleSingle = codes "single"
+form_word MacBinary = codes "macbin"
+form_word BinHex = codes "hqx"

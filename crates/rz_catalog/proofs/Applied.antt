@@ -20,7 +20,7 @@ use Rattle.rz_types.specs.Field.{PlainBody}
 use Rattle.rz_types.specs.Rules.{keeps_rules}
 use Rattle.rz_types_fields.specs.Laid.{Refusal}
 use Rattle.rz_types_fields.specs.Row.{IsRow}
-use Rattle.rz_types_fields.specs.Spells.{Spells}
+use Rattle.rz_types_fields.specs.Spells.{Spells, SpellsPlainly}
 use Rattle.rz_types_fields.specs.declared.tree.Tree.{Tree}
 use Rattle.rz_types_table.specs.Table.{declared_for, Declaration}
 use Rattle.rz_unlay.specs.Reading.{facts_of}
@@ -34,10 +34,10 @@ use Rattle.rz_catalog.specs.Leaves.{leaves, HasTexts}
 use Rattle.rz_catalog.specs.Stock.{AreStocked, HasTree, Stocked}
 
 abbrev pub PlainIsSpelled : Type 0
-PlainIsSpelled = (known : Facts) (body : PlainBody) (row : List Tree) (bytes : List ℕ) → Spells true known body row bytes → Spells false known body row bytes
+PlainIsSpelled = (known : Facts) (body : PlainBody) (row : List Tree) (bytes : List ℕ) → SpellsPlainly known body row bytes → Spells known body row bytes
 
 abbrev pub SpelledIsRow : Type 0
-SpelledIsRow = (plain : Bool) (known : Facts) (body : PlainBody) (row : List Tree) (bytes : List ℕ) → Spells plain known body row bytes → IsRow body row
+SpelledIsRow = (known : Facts) (body : PlainBody) (row : List Tree) (bytes : List ℕ) → SpellsPlainly known body row bytes → IsRow body row
 
 abbrev pub SomeSpelling : Type 0
 SomeSpelling = (known : Facts) (body : PlainBody) (row : List Tree) → keeps_rules body ≡ true → IsRow body row → (answer : Result (List ℕ) Refusal) × IsCompiled known body row answer
@@ -53,7 +53,7 @@ module _ (spelling : OneSpelling) (spelled : PlainIsSpelled) (types : List Decla
   tree_compiled : (body : PlainBody) → declared_for types r ≡ Some body → (bytes : List ℕ) → IsFor bytes → IsCompiled (facts_of moment r) body new (Ok bytes)
   tree_compiled body declared bytes (own, tree) =
       let same : own ≡ body = same_some (declared_for types r) own body tree.declared declared in
-      subst (λ (b : PlainBody). Spells false (facts_of moment r) b new bytes) same (spelled (facts_of moment r) own new bytes tree.told.1)
+      subst (λ (b : PlainBody). Spells (facts_of moment r) b new bytes) same (spelled (facts_of moment r) own new bytes tree.told.1)
 
   pub one_bytes : (bytes others : List ℕ) → IsFor bytes → IsFor others → bytes ≡ others
   one_bytes bytes others is also =
@@ -118,7 +118,7 @@ module _ (one : OneTree) (spelling : OneSpelling) (spelled : PlainIsSpelled) (ty
         let facts = facts_of moment r in
         let many = length-with_front (λ before own. text_for entries (length before) own ∷ []) 1 (λ before own. refl) [] (leaves row) in
         let new = every_changed (placed entries (leaves row)) row (omega (arith, many)) in
-        let are : IsRow body new.0 = row_stays body row new.0 new.1.same (is_row true facts body row r.bytes tree.told.1) in
+        let are : IsRow body new.0 = row_stays body row new.0 new.1.same (is_row facts body row r.bytes tree.told.1) in
         let compiled = some facts body new.0 tree.kept are in
         let found = answer_of (IsFor spelling spelled types moment r new.0) (bytes_known spelling spelled types moment r new.0 one decided body tree.declared compiled.0 compiled.1) in
         found_changed r row entries first new.0 new.1 found.0 found.1

@@ -18,7 +18,7 @@ use Rattle.rz_types_fields.specs.Passed.{at_field, at_front, behind, nothing_pas
 use Rattle.rz_types_fields.specs.Row.{By}
 use Rattle.rz_types_fields.specs.RowLabels.{row_of}
 use Rattle.rz_types_fields.specs.Sees.{sees, Late}
-use Rattle.rz_types_fields.specs.Spells.{is_case, put, AreBytes, BodySpells, CaseSpells, FieldSpells, Inside, IsGrouped, IsNumber, RowsSpell, Spells}
+use Rattle.rz_types_fields.specs.Spells.{is_case, plainly, put, AreBytes, BodySpells, CaseSpells, FieldSpells, Inside, IsGrouped, IsNumber, IsPlainText, RowsSpell, SpellsPlainly}
 use Rattle.rz_types_fields.specs.Text.{PlainPart}
 use Rattle.rz_types_fields.specs.declared.field.NumForm.{NumForm}
 use Rattle.rz_types_fields.specs.declared.field.TextForm.{TextForm}
@@ -71,13 +71,14 @@ either false A B C one other is = other is
 
 -- Values.
 
-number_fine : (passed : Passed) (form : NumForm) (width : ℤ) (fixed : Option Term) (sight : Sight) (value : Option Tree) (bits : List Bool) → IsNumber true passed form width fixed sight value bits → IsFine value
-number_fine passed form width None sight value bits is = subst IsFine (sym is.1) (fine_value (trees.Number is.0) [] (number_leaves is.0) tt)
-number_fine passed form width (Some term) sight value bits is = nothing value is.1
+number_fine : (form : NumForm) (width : ℤ) (fixed : Option Term) (sight : Sight) (value : Option Tree) (bits : List Bool) → IsNumber form width fixed sight value bits → IsFine value
+number_fine form width None sight value bits is = subst IsFine (sym is.1) (fine_value (trees.Number is.0) [] (number_leaves is.0) tt)
+number_fine form width (Some term) sight value bits is = nothing value is.1
 
-text_fine : (form : TextForm) (known : Facts) (sight : Sight) (fixed : Option (List PlainPart)) (size : Option ℕ) (value : Option Tree) (bytes : List ℕ) → AreBytes true form known sight fixed size value bytes → IsFine value
-text_fine form known sight None size value bytes are = subst IsFine (sym are.0) (fine_value (trees.Text bytes) (bytes ∷ []) (text_leaves bytes) (are.1.0, tt))
-text_fine form known sight (Some parts) size value bytes are = nothing value are.0
+text_fine : (form : TextForm) (known : Facts) (sight : Sight) (fixed : Option (List PlainPart)) (size : Option ℕ) (value : Option Tree) (bytes : List ℕ) → AreBytes known sight fixed value bytes
+    → (value ≡ Some (trees.Text bytes) → IsPlainText form size bytes) → IsFine value
+text_fine form known sight None size value bytes are plain = subst IsFine (sym are) (fine_value (trees.Text bytes) (bytes ∷ []) (text_leaves bytes) ((plain are).0, tt))
+text_fine form known sight (Some parts) size value bytes are plain = nothing value are.0
 
 group_fine : (fixed : Option (List Term)) (value : Option Tree) → IsGrouped fixed value → IsFine value
 group_fine None value is = subst IsFine (sym is.1) (fine_value (trees.Group is.0) [] (group_leaves is.0) tt)
@@ -97,43 +98,44 @@ each_row Row each number (row ∷ rows) at late after late_after (mid, late_mid,
 module _ (known : Facts) (all : List Bool) where
   mutual
     field_fine : (field : PlainField) (names : Environment) (passed : Passed) (value : Option Tree) (at : ℕ) (late : Late) (after : ℕ) (late_after : Late)
-        → FieldSpells true known all field names passed value at late after late_after → IsFine value
+        → FieldSpells plainly known all field names passed value at late after late_after → IsFine value
     field_fine (Number number) names passed value at late after late_after spells =
         let it = spells.1 in
-        alone value it.0 it.1 it.4 it.6.0 (number_fine passed number.form number.width number.fixed (sees known all names at) it.0 it.5.bits it.5.stored)
+        alone value it.0 it.1 it.4 it.6.0 (number_fine number.form number.width number.fixed (sees known all names at) it.0 it.5.bits it.5.stored)
     field_fine (Text text) names passed value at late after late_after spells =
         let it = spells.1 in
         let stored = it.5.stored in
-        alone value it.0 it.1 it.4 it.6.0 (text_fine text.form known (sees known all names at) text.fixed stored.size it.0 stored.bytes stored.are_bytes)
+        alone value it.0 it.1 it.4 it.6.0 (text_fine text.form known (sees known all names at) text.fixed stored.size it.0 stored.bytes stored.are_bytes (it.5.manner stored.size stored.bytes stored.has_size))
     field_fine (Points points) names passed value at late after late_after spells = group_fine points.fixed value spells.0
     field_fine (Fill unit count) names passed value at late after late_after spells = let it = spells.1 in alone value it.0 it.1 it.4 it.6.0 (nothing it.0 it.5.stored.0)
     field_fine (Align unit) names passed value at late after late_after spells = let it = spells.1 in alone value it.0 it.1 it.4 it.6.0 (nothing it.0 it.5.stored.0)
     field_fine (Label name) names passed value at late after late_after spells = let it = spells.1 in alone value it.0 it.1 it.4 it.6.0 (nothing it.0 it.5.stored.0)
     field_fine (Array name count row) names passed value at late after late_after (rows, is, stated, counted, are_rows, spells) =
         subst IsFine (sym is) (fine_value (trees.Rows rows) (flat_map leaves rows) (rows_leaves rows) (of_each leaves rows (rows_fine rows
-        (each_row (λ number line. Inside row (row_of name number) names (λ own. BodySpells true known all row own (at_front row passed) line))
+        (each_row (λ number line. Inside row (row_of name number) names (λ own. BodySpells plainly known all row own (at_front row passed) line))
         (λ number line from late_from to late_to one. body_fine row one.0 (at_front row passed) line from late_from to late_to one.2) 1 rows at late after late_after spells))))
     field_fine (Switch cases) names passed value at late after late_after spells = cases_fine cases names passed value at late after late_after spells
 
     cases_fine : (cases : PlainCases) (names : Environment) (passed : Passed) (value : Option Tree) (at : ℕ) (late : Late) (after : ℕ) (late_after : Late)
-        → CaseSpells true known all cases names passed value at late after late_after → IsFine value
+        → CaseSpells plainly known all cases names passed value at late after late_after → IsFine value
     cases_fine no_cases names passed value at late after late_after spells = absurd spells
     cases_fine (case_and name row others) names passed value at late after late_after spells =
-        either (is_case name value) _ (CaseSpells true known all others names passed value at late after late_after) (IsFine value)
+        either (is_case name value) _ (CaseSpells plainly known all others names passed value at late after late_after) (IsFine value)
         (λ one. subst IsFine (sym one.1) (fine_value (trees.Choice name one.0) (leaves one.0) (choice_leaves name one.0)
         (of_each leaves_of one.0 (body_fine row one.2.0 (at_front row passed) one.0 at late after late_after one.2.2))))
         (λ other. cases_fine others names passed value at late after late_after other) spells
 
     body_fine : (body : PlainBody) (names : Environment) (passed : Passed) (values : List Tree) (at : ℕ) (late : Late) (after : ℕ) (late_after : Late)
-        → BodySpells true known all body names passed values at late after late_after → AreFine values
+        → BodySpells plainly known all body names passed values at late after late_after → AreFine values
     body_fine no_fields names passed values at late after late_after spells = subst AreFine (sym spells.0) tt
     body_fine (field_and field fields) names passed values at late after late_after (value, rest, mid, late_mid, are, one, others) =
         let front = at_field (field_and field fields) passed in
         subst AreFine (sym are) (fine_put value rest (field_fine field names front value at late mid late_mid one)
         (body_fine fields names (behind field front) rest mid late_mid after late_after others))
 
-told_bytes : (known : Facts) (body : PlainBody) (row : List Tree) (bytes : List ℕ) → Spells true known body row bytes → AreOfBytes (leaves row)
-told_bytes known body row bytes spells = of_each leaves_of row (body_fine known _ body spells.names (at_front body nothing_passed) row 0 [] spells.end spells.late spells.fields)
+told_bytes : (known : Facts) (body : PlainBody) (row : List Tree) (bytes : List ℕ) → SpellsPlainly known body row bytes → AreOfBytes (leaves row)
+told_bytes known body row bytes plain =
+    let spells = plain.spelling in of_each leaves_of row (body_fine known _ body spells.names (at_front body nothing_passed) row 0 [] spells.end spells.late spells.fields)
 
 -- Entries.
 

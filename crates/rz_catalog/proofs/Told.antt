@@ -48,7 +48,7 @@ module _ (fields : Option PlainBody) (known : Facts) (bytes : List ℕ) where
 module _ (spelled : PlainIsSpelled) (known : Facts) (body : PlainBody) (row : List Tree) where
   pub compiled : (bytes : List ℕ) → HasRow (Some body) known bytes row → IsCompiled known body row (Ok bytes)
   compiled bytes (own, tree) =
-      subst (λ (b : PlainBody). Spells false known b row bytes) (sym (same_Some body own tree.declared)) (spelled known own row bytes tree.told.1)
+      subst (λ (b : PlainBody). Spells known b row bytes) (sym (same_Some body own tree.declared)) (spelled known own row bytes tree.told.1)
 
   -- where these are they
   pub its_bytes : (bytes others : List ℕ) → (IsCompiled known body row (Ok others) → ◌≡◌ {A = Result (List ℕ) Refusal} (Ok others) (Ok bytes)) → HasRow (Some body) known others row → HasRow (Some body) known bytes row
@@ -88,7 +88,7 @@ changed_texts entries row new texts rest same many own put =
     record { same = same; are = all_put (leaves new) rest texts (put (omega (arith, size))) (many ∙ sym size) ∙ own }
 
 pub told_is_row : SpelledIsRow → (known : Facts) (body : PlainBody) (row : List Tree) (bytes : List ℕ) → HasRow (Some body) known bytes row → IsRow body row
-told_is_row is_row known body row bytes (own, tree) = subst (λ (b : PlainBody). IsRow b row) (sym (same_Some body own tree.declared)) (is_row true known own row bytes tree.told.1)
+told_is_row is_row known body row bytes (own, tree) = subst (λ (b : PlainBody). IsRow b row) (sym (same_Some body own tree.declared)) (is_row known own row bytes tree.told.1)
 
 -- a copy with its own bytes
 pub own_bytes : (r copy : Resource) (bytes : List ℕ) → copy ≡ with_bytes r bytes → bytes ≡ r.bytes → copy ≡ r

@@ -1,8 +1,8 @@
 -- Lists of which some items, or all, pass a test.
-use Rattle.std.proofs.Common.{◌≡◌, Bool, true, false, ◌&&◌, ◌||◌, List, [], ◌∷◌, ◌++◌, Option, Some, None, refl, sym, ap, ◌∙◌, subst}
-use Rattle.std.specs.Prelude.{if◌then◌else◌}
+use Rattle.std.proofs.Common.{◌≡◌, Bool, true, false, cond, ◌&&◌, ◌||◌, List, [], ◌∷◌, ◌++◌, Option, Some, None, refl, sym, ap, ◌∙◌, subst}
+use Rattle.std.specs.Prelude.{if◌then◌else◌, option_map}
 use Rattle.std.specs.List.{find, flat_map, list_all, list_any, AllByRecursion}
-use Rattle.std.specs.Option.{option_or}
+use Rattle.std.specs.Option.{is_some, option_or}
 use Rattle.std.proofs.lemmas.List.Folds.{find-append, list_all-append, list_any-append}
 use Rattle.rz_core.proofs.Tests.{and_so, both, by_test, or_false}
 
@@ -103,6 +103,20 @@ there P test (x ∷ xs) all any =
     (λ absent. there P test xs all.1 (sym (ap (λ (b : Bool). b || list_any test xs) absent) ∙ any))
 
 -- The first item that passes.
+
+-- whether there is one; and where it is seen as another
+
+pub found_any : {A : Type 0} (test : A → Bool) (xs : List A) → is_some (find test xs) ≡ list_any test xs
+found_any test [] = refl
+found_any test (x ∷ xs) = by (test x) (found_any test xs)
+  where
+    by : (b : Bool) → is_some (find test xs) ≡ list_any test xs → is_some (cond b (Some x) (find test xs)) ≡ (b || list_any test xs)
+    by true rest = refl
+    by false rest = rest
+
+pub some_of : {A B : Type 0} (f : A → B) (found : Option A) → is_some found ≡ is_some (option_map f found)
+some_of f (Some item) = refl
+some_of f None = refl
 
 some_same : {A : Type 0} (x y : A) → ◌≡◌ {A = Option A} (Some x) (Some y) → x ≡ y
 some_same x y is = cc

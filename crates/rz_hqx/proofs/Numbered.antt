@@ -10,7 +10,7 @@ use Rattle.rz_core.specs.Lists.{or_else, unless_fault}
 use Rattle.rz_bridge.specs.Faults.{broken, fault}
 use Rattle.rz_bridge.specs.declared.fault.BridgeFault.{BridgeFault}
 use Rattle.rz_hqx.specs.Letters.{number_of}
-use Rattle.rz_hqx.specs.Text.{bad_letter, is_blank, is_line_end, is_stray, no_end, numbers_in}
+use Rattle.rz_hqx.specs.Text.{bad_letter, is_blank, is_stray, no_end, numbers_in}
 
 -- what goes on with a letter's number, or the fault where there is none
 abbrev pub with_number : Option ℕ → BridgeFault → (ℕ → Result (List ℕ) BridgeFault) → Result (List ℕ) BridgeFault

@@ -6,7 +6,7 @@ use Rattle.std.specs.List.{flat_map}
 use Rattle.rz_bridge.specs.declared.file.MacFile.{MacFile}
 use Rattle.rz_hqx.specs.BinHex.{hqx_bytes}
 use Rattle.rz_hqx.specs.Letters.{letter, sixes}
-use Rattle.rz_hqx.specs.Runs.{equal_codes, literal, packed, stored, Code}
+use Rattle.rz_hqx.specs.Runs.{literal, packed, stored, Code}
 use Rattle.rz_hqx.specs.Text.{gap_at, in_lines, head_line, lines_of, text_of}
 use Rattle.rz_hqx.proofs.Fielded.{IsWritable, size}
 use Rattle.rz_hqx.proofs.Writing.{begins, packed_behind, piece}

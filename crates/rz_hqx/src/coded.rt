@@ -1,6 +1,6 @@
 //! Bytes as run codes. What those are is in `specs/Runs`.
 
-ghost use Rattle.std.specs.Prelude.{◌≡◌, ◌<◌, ◌≤◌, ◌++◌, replicate, IfOk, OnOk, Ok};
+ghost use Rattle.std.specs.Prelude.{◌≡◌, ◌<◌, ◌++◌, replicate, IfOk, OnOk, Ok};
 ghost use Rattle.std.specs.List.{flat_map};
 ghost use Rattle.rz_hqx.specs.Runs.{equal_codes, literal, packed, stored, unpacked};
 

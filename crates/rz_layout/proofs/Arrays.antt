@@ -20,7 +20,7 @@ use Rattle.rz_types_fields.specs.Passed.{gives_rows, outside}
 use Rattle.rz_types_fields.specs.RowLabels.{also_rows, row_of, row_value}
 use Rattle.rz_types_fields.specs.declared.names.Note.{Note}
 use Rattle.rz_types_fields.specs.declared.tree.Tree.{Tree}
-use Rattle.rz_layout.proofs.Noted.{noted_append}
+use Rattle.rz_types_fields.proofs.Fronts.{noted_append}
 
 -- Rows.
 

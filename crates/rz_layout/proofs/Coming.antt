@@ -22,7 +22,7 @@ use Rattle.rz_types_fields.specs.Laid.{draft_sight, fixed_form, grown, late_at, 
 use Rattle.rz_types_fields.specs.Passed.{stands_at, Names, Passed}
 use Rattle.rz_types_fields.specs.Piece.{terms_of_text, Filler, OneNumber, OneText, Piece, Place, Zeros}
 use Rattle.rz_types_fields.specs.Sees.{beside, is_late, names_later, sees}
-use Rattle.rz_types_fields.specs.Spells.{is_late_piece, is_late_size, is_late_value, is_one_late, most_bits, IsNumber, IsStored, IsText, PieceSpells, RowSpells}
+use Rattle.rz_types_fields.specs.Spells.{anyhow, is_late_piece, is_late_size, is_late_value, is_one_late, most_bits, IsNumber, IsStored, IsText, PieceSpells, RowSpells}
 use Rattle.rz_layout.proofs.Adding.{adds_later, adds_now, back, front_of, later_is, now_is, Came, FitsAll, Still}
 use Rattle.rz_layout.proofs.Fed.{NumberValue, PieceValue}
 use Rattle.rz_layout.proofs.Filled.{chained, late_value, ranged_is, same_ok}
@@ -60,7 +60,7 @@ module _ (known : Facts) (all : List Bool) (names : Environment) (passed : Passe
   record IsNow (form : NumForm) (width : ℤ) (fixed : Option Term) (value : Option Tree) (found : Form) : Type 0 where
     bits : List Bool
     is : found ≡ now bits
-    stored : IsNumber false passed form width fixed sight value bits
+    stored : IsNumber form width fixed sight value bits
     early : is_late_value passed.met draft.late fixed sight ≡ false
 
   record IsLater (form : NumForm) (width : ℤ) (fixed : Option Term) (value : Option Tree) (found : Form) : Type 0 where
@@ -84,7 +84,7 @@ module _ (known : Facts) (all : List Bool) (names : Environment) (passed : Passe
       inl (record {
         bits = inner.value;
         is = sym (same_form _ found inner.leads);
-        stored = (v, none, seen_is term v here, range.0, sym range.1, tt);
+        stored = (v, none, seen_is term v here, range.0, sym range.1);
         early = late_by term false so ∙ ap (λ (r : Result ℤ EvalFault). not (is_ok r)) here;
       })
   fixed_came form width term value none found false so (Err fault) is laid = by (reads_late (length draft.bits) fault) laid
@@ -133,13 +133,13 @@ module _ (known : Facts) (all : List Bool) (names : Environment) (passed : Passe
       (inner.value, sym (same_form _ found inner.leads), text_sound known draft sight text value has inner.value keeps inner.is)
 
   record NowStored (piece : Piece) (value : Option Tree) (own : List Bool) : Type 0 where
-    stored : IsStored false passed piece known (length draft.bits) sight value own
+    stored : IsStored piece known (length draft.bits) sight value own
     early : is_late_size passed.met draft.late piece sight ≡ false
     not_late : is_late_piece passed.met draft.late piece sight ≡ false
 
   number_now : (number : PlainNumber) (value : Option Tree) (own : List Bool) → FormCame number.form number.width number.fixed value (now own) → NowStored (OneNumber number) value own
   number_now number value own (inl it) = record {
-    stored = subst (IsNumber false passed number.form number.width number.fixed sight value) (sym (now_bits own it.bits (ap (λ (f : Form). Ok f) it.is))) it.stored;
+    stored = subst (IsNumber number.form number.width number.fixed sight value) (sym (now_bits own it.bits (ap (λ (f : Form). Ok f) it.is))) it.stored;
     early = refl;
     not_late = it.early;
   }
@@ -152,7 +152,7 @@ module _ (known : Facts) (all : List Bool) (names : Environment) (passed : Passe
       let it = text_now text value has (now own) made in
       let same : own ≡ it.0 = now_bits own it.0 (ap (λ (f : Form). Ok f) it.1) in
       record {
-        stored = subst (λ (bits : List Bool). IsText false text known sight value bits) (sym same) it.2.is;
+        stored = subst (λ (bits : List Bool). IsText text known sight value bits) (sym same) it.2.is;
         early = none_late (terms_of_text text) it.2.early it.2.found;
         not_late = refl;
       }
@@ -173,7 +173,7 @@ module _ (known : Facts) (all : List Bool) (names : Environment) (passed : Passe
 
   now_spells : (piece : Piece) (value : Option Tree) → PieceValue piece value → (own : List Bool) → piece_form known draft piece value ≡ Ok (now own) → length draft.bits + length own ≤ most_bits
       → FitsAll known all names (met_piece piece passed.met) (grown piece draft own false [])
-      → PieceSpells false known all names passed piece value (length draft.bits) draft.late (length (draft.bits ++ own)) (draft.late ++ replicate (length own) false)
+      → PieceSpells anyhow known all names passed piece value (length draft.bits) draft.late (length (draft.bits ++ own)) (draft.late ++ replicate (length own) false)
   now_spells piece value has own made room after =
       let it = stored_now piece value has own made after in
       let front = front_of all draft own (replicate (length own) false) (draft.bits ++ own) (draft.late ++ replicate (length own) false) fits.marks (length-marks (length own) false) refl refl after.bits after.within in
@@ -184,6 +184,7 @@ module _ (known : Facts) (all : List Bool) (names : Environment) (passed : Passe
       record {
         bits = own;
         stored = it.stored;
+        manner = tt;
         early = it.early;
         there = sym (front.behind ∙ ap (λ (k : ℕ). masked (replicate k false) (take (length own) (drop (length draft.bits) all))) (sym there_len) ∙ masked_none (take (length own) (drop (length draft.bits) all)));
         ends = a;
@@ -196,7 +197,7 @@ module _ (known : Facts) (all : List Bool) (names : Environment) (passed : Passe
   record LateStored (piece : Piece) (value : Option Tree) (width : ℤ) : Type 0 where
     own : List Bool
     there : take (length own) (drop (length draft.bits) all) ≡ own
-    stored : IsStored false passed piece known (length draft.bits) sight value own
+    stored : IsStored piece known (length draft.bits) sight value own
     early : is_late_size passed.met draft.late piece sight ≡ false
     late : is_late_piece passed.met draft.late piece sight ≡ true
     size : length own ≡ nat_abs width
@@ -218,7 +219,7 @@ module _ (known : Facts) (all : List Bool) (names : Environment) (passed : Passe
       record {
         own = own.bits;
         there = own.there;
-        stored = subst (λ (fixed : Option Term). IsNumber false passed number.form number.width fixed sight value own.bits) (sym it.whole) (found.value, it.none, found.is, found.fits, sym found.bits_are, tt);
+        stored = subst (λ (fixed : Option Term). IsNumber number.form number.width fixed sight value own.bits) (sym it.whole) (found.value, it.none, found.is, found.fits, sym found.bits_are);
         early = refl;
         late = it.late;
         size = own.width ∙ ap nat_abs (sym (ap width_in it.is));
@@ -236,7 +237,7 @@ module _ (known : Facts) (all : List Bool) (names : Environment) (passed : Passe
 
   late_spells : (piece : Piece) (value : Option Tree) → PieceValue piece value → (form : NumForm) (width : ℤ) (term : Term) → piece_form known draft piece value ≡ Ok (later form width term) → length draft.bits + nat_abs width ≤ most_bits
       → Holds known all names (late_at draft form width term)
-      → PieceSpells false known all names passed piece value (length draft.bits) draft.late (length (draft.bits ++ zeros (nat_abs width))) (draft.late ++ replicate (length (zeros (nat_abs width))) true)
+      → PieceSpells anyhow known all names passed piece value (length draft.bits) draft.late (length (draft.bits ++ zeros (nat_abs width))) (draft.late ++ replicate (length (zeros (nat_abs width))) true)
   late_spells piece value has form width term made room holds =
       let it = stored_later piece value has form width term made holds in
       let n = length-marks (nat_abs width) false in
@@ -245,6 +246,7 @@ module _ (known : Facts) (all : List Bool) (names : Environment) (passed : Passe
       record {
         bits = it.own;
         stored = it.stored;
+        manner = tt;
         early = it.early;
         there = it.there;
         ends = omega (arith, a, n, size);
@@ -273,7 +275,7 @@ still_piece piece met known fresh key early = by key early (piece_is piece key) 
 
 module _ (known : Facts) where
   abbrev pub PieceIs : Passed → Piece → Option Tree → List Bool → Environment → RowSpells
-  PieceIs passed piece value all names = PieceSpells false known all names passed piece value
+  PieceIs passed piece value all names = PieceSpells anyhow known all names passed piece value
 
   form_came : (passed : Passed) (piece : Piece) (value : Option Tree) → PieceValue piece value → (draft : Draft) → Fresh (piece_is piece) passed.met → length draft.late ≡ length draft.bits → MetKnown passed.met draft.known
       → (form : Form) → piece_form known draft piece value ≡ Ok form → (next : Draft) → with_form draft piece form ≡ Ok next

@@ -27,7 +27,7 @@ use Rattle.rz_types_fields.specs.RowLabels.{is_row, label_places, row_of, RowOf}
 use Rattle.rz_types_fields.proofs.RowPlaces.{no_rows_have, places_more, row_has, rows_have, FieldStands, PlacesAre, RowsHave}
 use Rattle.rz_types_fields.specs.Sees.{sees, Late}
 use Rattle.rz_types_fields.specs.Shape.{numbers_of}
-use Rattle.rz_types_fields.specs.Spells.{is_case, put, values_for, AreBytes, BodySpells, CaseSpells, FieldSpells, InOrder, Inside, IsCounted, IsGrouped, IsNumber, PieceSpells, PiecesSpell, RowsSpell, Spells, Within}
+use Rattle.rz_types_fields.specs.Spells.{anyhow, is_case, put, values_for, AreBytes, BodySpells, CaseSpells, FieldSpells, InOrder, Inside, IsCounted, IsGrouped, IsNumber, PieceSpells, PiecesSpell, RowsSpell, Spells, Within}
 use Rattle.rz_types_fields.specs.Text.{PlainPart}
 use Rattle.rz_layout.proofs.Counts.{own_is, AreCounted, FieldCounted}
 use Rattle.rz_layout.proofs.Fitting.{fits_places, goes_apart, goes_behind, goes_both, goes_done, goes_met, met_piece, piece_goes, piece_places, Fits, Goes, HoldsIn, SamePlaces}
@@ -45,13 +45,13 @@ either P This Other one other false it = other it
 
 -- Where a value is taken.
 
-number_taken : (passed : Passed) (form : NumForm) (width : ℤ) (fixed : Option Term) (sight : Sight) (value : Option Tree) (bits : List Bool) → IsNumber false passed form width fixed sight value bits → is_some value ≡ is_none fixed
+number_taken : (passed : Passed) (form : NumForm) (width : ℤ) (fixed : Option Term) (sight : Sight) (value : Option Tree) (bits : List Bool) → IsNumber form width fixed sight value bits → is_some value ≡ is_none fixed
 number_taken passed form width None sight value bits it = ap is_some it.1
 number_taken passed form width (Some term) sight value bits it = ap is_some it.1
 
 bytes_taken : (form : TextForm) (known : Facts) (sight : Sight) (fixed : Option (List PlainPart)) (size : Option ℕ) (value : Option Tree) (bytes : List ℕ)
-    → AreBytes false form known sight fixed size value bytes → is_some value ≡ is_none fixed
-bytes_taken form known sight None size value bytes it = ap is_some it.0
+    → AreBytes known sight fixed value bytes → is_some value ≡ is_none fixed
+bytes_taken form known sight None size value bytes it = ap is_some it
 bytes_taken form known sight (Some parts) size value bytes it = ap is_some it.0
 
 group_taken : (fixed : Option (List Term)) (value : Option Tree) → IsGrouped fixed value → is_some value ≡ is_none fixed
@@ -133,7 +133,7 @@ module _ (known : Facts) (all : List Bool) where
   -- Pieces.
 
   piece_taken : (names : Environment) (passed : Passed) (piece : Piece) (value : Option Tree) (at after : ℕ) (late late_after : Late)
-      → PieceSpells false known all names passed piece value at late after late_after → is_some value ≡ takes_one piece
+      → PieceSpells anyhow known all names passed piece value at late after late_after → is_some value ≡ takes_one piece
   piece_taken names passed (OneNumber number) value at after late late_after it = number_taken passed number.form number.width number.fixed (sees known all names at) value it.bits it.stored
   piece_taken names passed (OneText text) value at after late late_after it = bytes_taken text.form known (sees known all names at) text.fixed it.stored.size value it.stored.bytes it.stored.are_bytes
   piece_taken names passed (Zeros count) value at after late late_after it = ap is_some it.stored.0
@@ -153,7 +153,7 @@ module _ (known : Facts) (all : List Bool) where
       (goes_both known all names one_met met at late mid late_mid after late_after draft places behind (one value) (λ next. others next rest) marks first more))
 
   pieces_goes : (names : Environment) (passed : Passed) (pieces : List Piece) → Unplaced pieces → (values : List Tree) (at after : ℕ) (late late_after : Late)
-      → InOrder (PieceSpells false known all names) passed pieces values at late after late_after
+      → InOrder (PieceSpells anyhow known all names) passed pieces values at late after late_after
       → (draft : Draft) → Fits known all names passed.met at late draft → MetKnown passed.met draft.known
       → Goes known all names passed.met at late after late_after draft [] (in_order takes_one (lay known) draft pieces values)
   pieces_goes names passed [] none values at after late late_after it draft fits met_known = goes_done known all names passed.met at late after late_after draft it.1 it.2 fits met_known
@@ -169,13 +169,13 @@ module _ (known : Facts) (all : List Bool) where
       (λ next values. in_order takes_one (lay known) next pieces values) at late mid late_mid after late_after draft [] [] fits.marks first more
 
   pieces_go : (names : Environment) (passed : Passed) (field : PlainField) → Unplaced (pieces_of field) → (value : Option Tree) (at after : ℕ) (late late_after : Late)
-      → PiecesSpell false known all field names passed value at late after late_after → (draft : Draft) → Fits known all names passed.met at late draft → MetKnown passed.met draft.known
+      → PiecesSpell anyhow known all field names passed value at late after late_after → (draft : Draft) → Fits known all names passed.met at late draft → MetKnown passed.met draft.known
       → Goes known all names passed.met at late after late_after draft [] (pieces_laid known draft field value)
   pieces_go names passed field none value at after late late_after it draft fits met_known =
       pieces_goes names passed (pieces_of field) none (values_for field value) at after late late_after it.1 draft fits met_known
 
   label_goes : (names : Environment) (passed : Passed) (name : Word) (value : Option Tree) (at after : ℕ) (late late_after : Late)
-      → PiecesSpell false known all (Label name) names passed value at late after late_after → (draft : Draft) → Fits known all names passed.met at late draft → MetKnown passed.met draft.known
+      → PiecesSpell anyhow known all (Label name) names passed value at late after late_after → (draft : Draft) → Fits known all names passed.met at late draft → MetKnown passed.met draft.known
       → Goes known all names (met_behind (Label name) passed.met) at late after late_after draft (pos at ∷ []) (pieces_laid known draft (Label name) value)
   label_goes names passed name value at after late late_after (grouped, (own, rest, mid, late_mid, are, one, end)) draft fits met_known =
       let first = piece_goes known all names passed at late draft fits met_known (Place name) own mid late_mid one in
@@ -195,7 +195,7 @@ module _ (known : Facts) (all : List Bool) where
       by (Some value) (Some v) is = refl
 
   one_taken : (names : Environment) (passed : Passed) (piece : Piece) (value : Option Tree) (at after : ℕ) (late late_after : Late)
-      → InOrder (PieceSpells false known all names) passed (piece ∷ []) (option_to_list value) at late after late_after → is_some value ≡ takes_one piece
+      → InOrder (PieceSpells anyhow known all names) passed (piece ∷ []) (option_to_list value) at late after late_after → is_some value ≡ takes_one piece
   one_taken names passed piece value at after late late_after (v, rest, mid, late_mid, are, one, behind) =
       single value v rest behind.0 are ∙ piece_taken names passed piece v at mid late late_mid one
 
@@ -203,16 +203,16 @@ module _ (known : Facts) (all : List Bool) where
 
   module _ (names : Environment) where
     case_taken : (passed : Passed) (cases : PlainCases) (value : Option Tree) (at after : ℕ) (late late_after : Late)
-        → CaseSpells false known all cases names passed value at late after late_after → is_some value ≡ true
+        → CaseSpells anyhow known all cases names passed value at late after late_after → is_some value ≡ true
     case_taken passed no_cases value at after late late_after it = absurd it
     case_taken passed (case_and name row others) value at after late late_after it =
         either (is_some value ≡ true) ((line : List Tree) × (value ≡ Some (trees.Choice name line))
-        × Inside row None names (λ own. BodySpells false known all row own (at_front row passed) line) at late after late_after)
-        (CaseSpells false known all others names passed value at late after late_after)
+        × Inside row None names (λ own. BodySpells anyhow known all row own (at_front row passed) line) at late after late_after)
+        (CaseSpells anyhow known all others names passed value at late after late_after)
         (λ one. ap is_some one.1) (λ other. case_taken passed others value at after late late_after other) (is_case name value) it
 
     field_taken : (passed : Passed) (field : PlainField) (value : Option Tree) (at after : ℕ) (late late_after : Late)
-        → FieldSpells false known all field names passed value at late after late_after → is_some value ≡ takes_value field
+        → FieldSpells anyhow known all field names passed value at late after late_after → is_some value ≡ takes_value field
     field_taken passed (Number number) value at after late late_after it = one_taken names passed (OneNumber number) value at after late late_after it.1
     field_taken passed (Text text) value at after late late_after it = one_taken names passed (OneText text) value at after late late_after it.1
     field_taken passed (Points points) value at after late late_after it = group_taken points.fixed value it.0
@@ -225,7 +225,7 @@ module _ (known : Facts) (all : List Bool) where
     -- its arrays are counted by its names
 
     field_counted : (passed : Passed) (field : PlainField) (value : Option Tree) (at after : ℕ) (late late_after : Late)
-        → FieldSpells false known all field names passed value at late after late_after → FieldCounted field value names
+        → FieldSpells anyhow known all field names passed value at late after late_after → FieldCounted field value names
     field_counted passed (Number number) value at after late late_after it = tt
     field_counted passed (Text text) value at after late late_after it = tt
     field_counted passed (Points points) value at after late late_after it = tt
@@ -237,7 +237,7 @@ module _ (known : Facts) (all : List Bool) where
     field_counted passed (Switch cases) value at after late late_after it = tt
 
     body_counted : (passed : Passed) (body : PlainBody) (values : List Tree) (at after : ℕ) (late late_after : Late)
-        → BodySpells false known all body names passed values at late after late_after → AreCounted body values names
+        → BodySpells anyhow known all body names passed values at late after late_after → AreCounted body values names
     body_counted passed no_fields values at after late late_after it = tt
     body_counted passed (field_and field fields) values at after late late_after (value, rest, mid, late_mid, are, one, others) =
         let here = at_field (field_and field fields) passed in
@@ -253,7 +253,7 @@ module _ (known : Facts) (all : List Bool) where
   -- after a body its labels have these places more
   abbrev BodyGoes : PlainBody → Type 0
   BodyGoes body = (passed : Passed) (own : Environment) (values : List Tree) (at after : ℕ) (late late_after : Late)
-      → BodySpells false known all body own passed values at late after late_after → (draft : Draft) → Fits known all own passed.met at late draft → MetKnown passed.met draft.known
+      → BodySpells anyhow known all body own passed values at late after late_after → (draft : Draft) → Fits known all own passed.met at late draft → MetKnown passed.met draft.known
       → (places : List ℤ) × PlacesAre own body places × Goes known all own (met_all body passed.met) at late after late_after draft places (body_laid known draft body values)
 
   entered_fits : (row : PlainBody) (which : Option RowOf) (names own : Environment) (met : Names) (line : List Tree) (at : ℕ) (late : Late) (draft : Draft) → Within row which names own → AreCounted row line own
@@ -326,7 +326,7 @@ module _ (known : Facts) (all : List Bool) where
           ∙ sym (within.give key also at_row)
 
   inside_goes : (row : PlainBody) → BodyGoes row → (passed : Passed) (which : Option RowOf) (names own : Environment) (line : List Tree) (at after : ℕ) (late late_after : Late)
-      → Within row which names own → BodySpells false known all row own (at_front row passed) line at late after late_after
+      → Within row which names own → BodySpells anyhow known all row own (at_front row passed) line at late after late_after
       → (draft : Draft) → Fits known all names passed.met at late draft → MetKnown passed.met draft.known
       → (places : List ℤ) × PlacesAre own row places × Goes known all names passed.met at late after late_after draft places (row_laid known which row draft line)
   inside_goes row goes passed which names own line at after late late_after within spells draft fits met_known =
@@ -356,7 +356,7 @@ module _ (known : Facts) (all : List Bool) where
       )
 
   rows_goes : (name : Option Word) (row : PlainBody) → BodyGoes row → (passed : Passed) (names : Environment) (number : ℕ) (rows : List (List Tree)) (at after : ℕ) (late late_after : Late)
-      → RowsSpell (λ number line. Inside row (row_of name number) names (λ own. BodySpells false known all row own (at_front row passed) line)) number rows at late after late_after
+      → RowsSpell (λ number line. Inside row (row_of name number) names (λ own. BodySpells anyhow known all row own (at_front row passed) line)) number rows at late after late_after
       → (draft : Draft) → Fits known all names passed.met at late draft → MetKnown passed.met draft.known
       → (places : List ℤ) × RowsHave row names number (length rows) places
       × Goes known all names passed.met at late after late_after draft places (rows_laid (λ number. row_laid known (row_of name number) row) number draft rows)
@@ -374,16 +374,16 @@ module _ (known : Facts) (all : List Bool) where
 
   abbrev FieldGoes : PlainField → Type 0
   FieldGoes field = (passed : Passed) (names : Environment) (value : Option Tree) (at after : ℕ) (late late_after : Late)
-      → FieldSpells false known all field names passed value at late after late_after → (draft : Draft) → Fits known all names passed.met at late draft → MetKnown passed.met draft.known
+      → FieldSpells anyhow known all field names passed value at late after late_after → (draft : Draft) → Fits known all names passed.met at late draft → MetKnown passed.met draft.known
       → Goes known all names (met_behind field passed.met) at late after late_after draft (label_places field at) (field_laid known draft field value)
 
   abbrev CasesGo : PlainCases → Type 0
   CasesGo cases = (passed : Passed) (names : Environment) (value : Option Tree) (at after : ℕ) (late late_after : Late)
-      → CaseSpells false known all cases names passed value at late after late_after → (draft : Draft) → Fits known all names passed.met at late draft → MetKnown passed.met draft.known
+      → CaseSpells anyhow known all cases names passed value at late after late_after → (draft : Draft) → Fits known all names passed.met at late draft → MetKnown passed.met draft.known
       → Goes known all names passed.met at late after late_after draft [] (case_laid known draft cases value)
 
   case_goes : (row : PlainBody) → BodyGoes row → (passed : Passed) (names : Environment) (name : Word) (value : Option Tree) (at after : ℕ) (late late_after : Late)
-      → (line : List Tree) × (value ≡ Some (trees.Choice name line)) × Inside row None names (λ own. BodySpells false known all row own (at_front row passed) line) at late after late_after
+      → (line : List Tree) × (value ≡ Some (trees.Choice name line)) × Inside row None names (λ own. BodySpells anyhow known all row own (at_front row passed) line) at late after late_after
       → (draft : Draft) → Fits known all names passed.met at late draft → MetKnown passed.met draft.known
       → Goes known all names passed.met at late after late_after draft [] (apart (λ inner. row_laid known None row inner (line_in value)) draft)
   case_goes row goes passed names name value at after late late_after (line, is, (own, within, spells)) draft fits met_known =
@@ -411,11 +411,11 @@ module _ (known : Facts) (all : List Bool) where
 
   -- where a label stands
 
-  label_stands : (names : Environment) (passed : Passed) (name : Word) (value : Option Tree) (at after : ℕ) (late late_after : Late) → PiecesSpell false known all (Label name) names passed value at late after late_after
+  label_stands : (names : Environment) (passed : Passed) (name : Word) (value : Option Tree) (at after : ℕ) (late late_after : Late) → PiecesSpell anyhow known all (Label name) names passed value at late after late_after
       → FieldStands (Label name) names at
   label_stands names passed name value at after late late_after (grouped, (own, rest, mid, late_mid, are, one, end)) = one.stored.1
 
-  field_stands : (names : Environment) (passed : Passed) (field : PlainField) (value : Option Tree) (at after : ℕ) (late late_after : Late) → FieldSpells false known all field names passed value at late after late_after
+  field_stands : (names : Environment) (passed : Passed) (field : PlainField) (value : Option Tree) (at after : ℕ) (late late_after : Late) → FieldSpells anyhow known all field names passed value at late after late_after
       → FieldStands field names at
   field_stands names passed (Number number) value at after late late_after it = tt
   field_stands names passed (Text text) value at after late late_after it = tt
@@ -440,8 +440,8 @@ module _ (known : Facts) (all : List Bool) where
     cases_go : (cases : PlainCases) → CasesGo cases
     cases_go no_cases passed names value at after late late_after it draft fits met_known = absurd it
     cases_go (case_and name row others) passed names value at after late late_after it draft fits met_known =
-        by_case names passed.met ((line : List Tree) × (value ≡ Some (trees.Choice name line)) × Inside row None names (λ own. BodySpells false known all row own (at_front row passed) line) at late after late_after)
-        (CaseSpells false known all others names passed value at late after late_after)
+        by_case names passed.met ((line : List Tree) × (value ≡ Some (trees.Choice name line)) × Inside row None names (λ own. BodySpells anyhow known all row own (at_front row passed) line) at late after late_after)
+        (CaseSpells anyhow known all others names passed value at late after late_after)
         (apart (λ inner. row_laid known None row inner (line_in value)) draft) (case_laid known draft others value) at late after late_after draft
         (λ one. case_goes row (body_goes row) passed names name value at after late late_after one draft fits met_known)
         (λ other. cases_go others passed names value at after late late_after other draft fits met_known)
@@ -466,7 +466,7 @@ module _ (known : Facts) (all : List Bool) where
         )
 
 module _ (read : (bytes : List ℕ) → ((k : ℕ) → slice_index bytes k < 256) → bytes_of (bits_of bytes) ≡ bytes) where
-  pub complete : (known : Facts) (body : PlainBody) (row : List Tree) (bytes : List ℕ) → Spells false known body row bytes → laid known body row ≡ Ok bytes
+  pub complete : (known : Facts) (body : PlainBody) (row : List Tree) (bytes : List ℕ) → Spells known body row bytes → laid known body row ≡ Ok bytes
   complete known body row bytes it =
       let all = bits_of bytes in
       let goes = (inside_goes known all body (body_goes known all body) nothing_passed None outside it.names row 0 it.end [] it.late it.own it.fields nothing_laid

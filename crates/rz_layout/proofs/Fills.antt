@@ -25,7 +25,7 @@ use Rattle.rz_expr.specs.Value.{value_of}
 use Rattle.rz_expr.specs.declared.value.EvalFault.{EvalFault}
 use Rattle.rz_types_fields.specs.Sees.{sees}
 use Rattle.rz_bits.specs.Bits.{number_bits}
-use Rattle.rz_layout.proofs.Noted.{noted_append}
+use Rattle.rz_types_fields.proofs.Fronts.{noted_append}
 use Rattle.rz_layout.proofs.Room.{length_number}
 use Rattle.rz_types_fields.specs.Known.{known}
 use Rattle.rz_types_fields.specs.Laid.{fill, late_bits, patched, ranged, valued, LateNumber, Refusal}

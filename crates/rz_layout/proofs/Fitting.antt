@@ -26,7 +26,7 @@ use Rattle.rz_types_fields.specs.Passed.{gives_rows, stands_at, Names, Passed}
 use Rattle.rz_types_fields.specs.Piece.{terms_of_text, Filler, OneNumber, OneText, Piece, Place, Zeros}
 use Rattle.rz_types_fields.specs.Range.{fits_number}
 use Rattle.rz_types_fields.specs.Sees.{beside, bits_before, hit, is_late, names_later, sees, Late}
-use Rattle.rz_types_fields.specs.Spells.{is_late_piece, is_late_size, is_late_value, is_one_late, most_bits, AreRows, IsNumber, IsStored, PieceSpells}
+use Rattle.rz_types_fields.specs.Spells.{anyhow, is_late_piece, is_late_size, is_late_value, is_one_late, most_bits, AreRows, IsNumber, IsStored, PieceSpells}
 use Rattle.rz_types_fields.specs.Stored.{stored_number}
 use Rattle.rz_layout.proofs.Filled.{length_number}
 use Rattle.rz_layout.proofs.Later.{is_later}
@@ -320,7 +320,7 @@ module _ (known : Facts) (all : List Bool) where
           },
         )
 
-    number_formed : (form : NumForm) (width : ℤ) (fixed : Option Term) (value : Option Tree) (own : List Bool) → IsNumber false passed form width fixed sight value own
+    number_formed : (form : NumForm) (width : ℤ) (fixed : Option Term) (value : Option Tree) (own : List Bool) → IsNumber form width fixed sight value own
         → Formed names draft (number_form known draft form width fixed value) (is_late_value passed.met late fixed sight) own
     number_formed form width None value own it = inl (
       refl,
@@ -345,7 +345,7 @@ module _ (known : Facts) (all : List Bool) where
         by v is some (inl same) = same ∙ is
         by v is some (inr hides) = absurd (true_false (sym (ap (λ (r : Result ℤ EvalFault). not (is_ok r)) hides.1) ∙ some))
 
-    formed : (piece : Piece) (value : Option Tree) (own : List Bool) → IsStored false passed piece known at sight value own → is_late_size passed.met late piece sight ≡ false
+    formed : (piece : Piece) (value : Option Tree) (own : List Bool) → IsStored piece known at sight value own → is_late_size passed.met late piece sight ≡ false
         → Formed names draft (piece_form known draft piece value) (is_late_piece passed.met late piece sight) own
     formed (OneNumber number) value own it early = number_formed number.form number.width number.fixed value own it
     formed (OneText text) value own it early =
@@ -355,14 +355,14 @@ module _ (known : Facts) (all : List Bool) where
     formed (Filler unit) value own it early = inl (refl, ap (λ (n : ℕ). Ok (now (zeros (missing unit n)))) fits.len ∙ ap (λ (bits : List Bool). Ok (now bits)) (sym it.1))
     formed (Place name) value own it early = inl (refl, ap (λ (bits : List Bool). Ok (now bits)) (sym it.2))
 
-    labels : (piece : Piece) (value : Option Tree) (own : List Bool) → IsStored false passed piece known at sight value own → (key : Key) → piece_is piece key ≡ true → names.give key ≡ Some (pos at)
+    labels : (piece : Piece) (value : Option Tree) (own : List Bool) → IsStored piece known at sight value own → (key : Key) → piece_is piece key ≡ true → names.give key ≡ Some (pos at)
     labels (OneNumber number) value own it key is = absurd (true_false (sym is))
     labels (OneText text) value own it key is = absurd (true_false (sym is))
     labels (Zeros count) value own it key is = absurd (true_false (sym is))
     labels (Filler unit) value own it key is = absurd (true_false (sym is))
     labels (Place name) value own it key is = sym (ap names.give (key_is (place_key name.bytes) key is)) ∙ it.1
 
-    pub piece_goes : (piece : Piece) (value : Option Tree) (after : ℕ) (late_after : Late) → PieceSpells false known all names passed piece value at late after late_after
+    pub piece_goes : (piece : Piece) (value : Option Tree) (after : ℕ) (late_after : Late) → PieceSpells anyhow known all names passed piece value at late after late_after
         → Goes names (met_piece piece passed.met) at late after late_after draft (piece_places piece at) (lay known draft piece value)
     piece_goes piece value after late_after it = by (is_late_piece passed.met late piece sight) refl (formed piece value it.bits it.stored it.early)
       where

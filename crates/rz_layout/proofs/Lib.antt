@@ -1,3 +1,4 @@
+pub mod Cased
 pub mod Trees
 pub mod Groups
 pub mod Rows

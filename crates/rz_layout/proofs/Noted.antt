@@ -23,22 +23,19 @@ use Rattle.rz_layout.specs.declared.late.Late.{Late as HeldLate}
 use Rattle.rz_types_fields.proofs.Bodies.{body_next}
 use Rattle.rz_types_fields.proofs.RowKeys.{no_labels}
 use Rattle.rz_types_fields.specs.Field.{field_and, no_fields, plain_body, plain_field, takes_value, Align, Array, Fill, Label, Number, Points, Switch, Text, PlainBody, PlainField}
-use Rattle.rz_types_fields.specs.Front.{stated_in}
-use Rattle.rz_types_fields.specs.Known.{known, noted, noting, which_of}
+use Rattle.rz_types_fields.specs.Front.{stated_in, value_inside}
+use Rattle.rz_types_fields.specs.Known.{known, noted, noting, which_of, IsFront}
 use Rattle.rz_types_fields.specs.RowLabels.{is_row, labels_count, numbers_row, row_number, RowOf}
 use Rattle.rz_types_fields.specs.declared.names.InRow.{InRow}
 use Rattle.rz_types_fields.specs.Laid.{body_laid, closing, counted, enter, entered, field_laid, first_value, leave, most_kept, other_values, outside_of, placed, row_laid, with_field, Draft, LateNumber, Refusal}
 use Rattle.rz_types_fields.specs.Passed.{declares, gives_key, outside, stands_at, Names}
 use Rattle.rz_core.specs.declared.resource.Word.{Word}
+use Rattle.rz_types_fields.proofs.Fronts.{noted_append}
 use Rattle.rz_types_fields.proofs.Noting.{known_more}
 use Rattle.rz_types_fields.specs.Piece.{Place}
 use Rattle.rz_types_fields.specs.declared.field.Field.{Field}
 use Rattle.rz_types_fields.specs.declared.names.Note.{Note}
-use Rattle.rz_types_fields.specs.declared.names.Note.TheVariants.{Entered, Placed}
-
-pub noted_append : (before : Option ℤ) (one other : List Note) (key : Key) → noted before (one ++ other) key ≡ noted (noted before one key) other key
-noted_append before [] other key = refl
-noted_append before (note ∷ one) other key = noted_append (noting note key before) one other key
+use Rattle.rz_types_fields.specs.declared.names.Note.TheVariants.{Placed}
 
 pub noted_none : (gives : Names) (notes : List Note) → IsNotedBy gives notes notes
 noted_none gives notes = record { more = []; grew = sym (append-nil notes); others = λ key before not_given. refl }
@@ -71,11 +68,12 @@ noted_both gives old mid new one other = record {
 pub noted_back : (gives : Names) (old mid new : List Note) → mid ≡ old → IsNotedBy gives mid new → IsNotedBy gives old new
 noted_back gives old mid new is it = record { more = it.more; grew = it.grew ∙ ap (λ (front : List Note). front ++ it.more) is; others = it.others }
 
-pub entered_more : (fields : Bor (List Field)) (which : Option InRow) (old mid new : List Note) → mid ≡ old ++ Entered fields which ∷ []
-    → IsNotedBy (declares (plain_body fields.now)) mid new → IsEntered fields which old new
-entered_more fields which old mid new is it = record {
+pub entered_more : (which : Option RowOf) (body : PlainBody) (old mid new : List Note) → IsFront which body old mid → IsNotedBy (declares body) mid new → IsEntered which body old new
+entered_more which body old mid new is it = record {
+  front = is.more;
   more = it.more;
-  grew = it.grew ∙ ap (λ (front : List Note). front ++ it.more) is ∙ append_assoc old (Entered fields which ∷ []) it.more;
+  grew = it.grew ∙ ap (λ (front : List Note). front ++ it.more) is.grew;
+  values = is.values_are;
   others = it.others;
 }
 
@@ -207,16 +205,14 @@ by_outer true own number stated one is = absurd cc
 by_outer false true number stated one is = absurd cc
 by_outer false false number stated one is = refl
 
-module _ (fields : Bor (List Field)) (which : Option InRow) (old more : List Note)
-    (others : (key : Key) (before : Option ℤ) → declares (plain_body fields.now) key ≡ false → noted before more key ≡ before) where
-  abbrev body : PlainBody
-  body = plain_body fields.now
-
-  abbrev place : Option RowOf
-  place = which_of which
-
+module _ (place : Option RowOf) (body : PlainBody) (old front more : List Note)
+    (values : (key : Key) (before : Option ℤ) → noted before front key ≡ value_inside place body key before)
+    (others : (key : Key) (before : Option ℤ) → declares body key ≡ false → noted before more key ≡ before) where
   abbrev own : List Note
-  own = Entered fields which ∷ more
+  own = front ++ more
+
+  own_noted : (before : Option ℤ) (key : Key) → noted before own key ≡ noted (value_inside place body key before) more key
+  own_noted before key = noted_append before front more key ∙ ap (λ (v : Option ℤ). noted v more key) (values key before)
 
   abbrev chosen : Environment → Key → Bool → Option ℤ
   chosen outer key test = if test then (known (old ++ own)).give key else outer.give key
@@ -228,11 +224,14 @@ module _ (fields : Bor (List Field)) (which : Option InRow) (old more : List Not
       by true is =
           ap (chosen outer key) is
           ∙ noted_append (outside.give key) old own key
+          ∙ own_noted (noted (outside.give key) old key) key
           ∙ ap (λ (v : Option ℤ). noted v more key)
           (by_own (is_row place key) (declares body key) (row_number place) (stated_in body key) (noted (outside.give key) old key) (outer.give key) is)
+          ∙ sym (own_noted (outer.give key) key)
       by false is =
           ap (chosen outer key) is
-          ∙ sym (ap (λ (v : Option ℤ). noted v more key) (by_outer (is_row place key) (declares body key) (row_number place) (stated_in body key) (outer.give key) is)
+          ∙ sym (own_noted (outer.give key) key
+          ∙ ap (λ (v : Option ℤ). noted v more key) (by_outer (is_row place key) (declares body key) (row_number place) (stated_in body key) (outer.give key) is)
           ∙ others key (outer.give key) (or_right (is_row place key) (declares body key) is))
 
   names_are : (outer : Environment) → outside_of place body (known (old ++ own)) outer ≡ behind_notes own outer
@@ -285,7 +284,7 @@ module _ (facts : Facts) (fields : Bor (List Field)) (which : Option InRow) (row
   body_refused NoMemory other laid = tt
   body_refused (Refused fault) other laid = ap whole enter_is ∙ ap (λ (r : Result Draft Refusal). r >>= ended) laid
 
-  module _ (outer : List HeldLate) (within : IsEntered fields which before.notes.items start.notes.items)
+  module _ (outer : List HeldLate) (within : IsEntered (which_of which) (plain_body fields.now) before.notes.items start.notes.items)
       (grew : IsNotedBy (declares (plain_body fields.now)) start.notes.items after.notes.items) (is_outer : outer ≡ before.late)
       (around : ℕ) (count : around ≡ length before.notes.items) (is : IsLeft (which_of which) (plain_body fields.now) outer around after new) where
     abbrev old : List Note
@@ -294,26 +293,33 @@ module _ (facts : Facts) (fields : Bor (List Field)) (which : Option InRow) (row
     abbrev more : List Note
     more = within.more ++ grew.more
 
+    abbrev added : List Note
+    added = within.front ++ more
+
     abbrev has : Bool
     has = is_in_named (which_of which) || has_names (plain_body fields.now)
 
-    grown : after.notes.items ≡ old ++ Entered fields which ∷ more
-    grown = grew.grew ∙ ap (λ (front : List Note). front ++ grew.more) within.grew ∙ append_assoc old (Entered fields which ∷ within.more) grew.more
+    grown : after.notes.items ≡ old ++ added
+    grown =
+        grew.grew
+        ∙ ap (λ (front : List Note). front ++ grew.more) within.grew
+        ∙ append_assoc (old ++ within.front) within.more grew.more
+        ∙ append_assoc old within.front more
 
     others : (key : Key) (value : Option ℤ) → declares (plain_body fields.now) key ≡ false → noted value more key ≡ value
     others key value not_given =
         noted_append value within.more grew.more key ∙ grew.others key (noted value within.more key) not_given ∙ within.others key value not_given
 
     pub notes_back : new.notes.items ≡ old
-    notes_back = is.notes ∙ ap (λ (n : ℕ). take n after.notes.items) count ∙ ap (take (length old)) grown ∙ take-append_seam old (Entered fields which ∷ more)
+    notes_back = is.notes ∙ ap (λ (n : ℕ). take n after.notes.items) count ∙ ap (take (length old)) grown ∙ take-append_seam old added
 
-    own_back : drop around after.notes.items ≡ Entered fields which ∷ more
-    own_back = ap (λ (n : ℕ). drop n after.notes.items) count ∙ ap (drop (length old)) grown ∙ drop-append_seam old (Entered fields which ∷ more)
+    own_back : drop around after.notes.items ≡ added
+    own_back = ap (λ (n : ℕ). drop n after.notes.items) count ∙ ap (drop (length old)) grown ∙ drop-append_seam old added
 
     numbers_left : numbers_in before.late ++ map (closing (which_of which) (plain_body fields.now) (known after.notes.items)) (numbers_in after.late) ≡ numbers_in new.late
     numbers_left =
         ap (λ (notes : List Note). numbers_in before.late ++ map (closing (which_of which) (plain_body fields.now) (known notes)) (numbers_in after.late)) grown
-        ∙ ap (λ (kept : List LateNumber). numbers_in before.late ++ kept) (all_kept fields which old more others has refl (numbers_in after.late))
+        ∙ ap (λ (kept : List LateNumber). numbers_in before.late ++ kept) (all_kept (which_of which) (plain_body fields.now) old within.front more within.values others has refl (numbers_in after.late))
         ∙ ap (λ (notes : List Note). numbers_in before.late ++ kept_late has notes (numbers_in after.late)) (sym own_back)
         ∙ ap (λ (lates : List HeldLate). numbers_in lates ++ kept_late has (drop around after.notes.items) (numbers_in after.late)) (sym is_outer)
         ∙ sym is.late

@@ -1,8 +1,7 @@
 -- What expressions see beside the bits of late numbers.
-use Rattle.std.proofs.Common.{◌≡◌, ℕ, ◌+◌, ℤ, pos, negsuc, ◌+ℤ◌, Bool, true, false, cond, ◌||◌, not, List, [], ◌∷◌, ◌++◌, length, take, drop, Option, Some, None, Result, Ok, Err, ◌⊎◌, inl, inr, refl, sym, ap, ◌∙◌, subst}
+use Rattle.std.proofs.Common.{◌≡◌, ℕ, ◌+◌, ℤ, pos, negsuc, ◌+ℤ◌, Bool, true, false, ◌||◌, not, List, ◌++◌, length, take, drop, Option, Some, None, Result, Ok, Err, ◌⊎◌, inl, inr, refl, sym, ap, ◌∙◌, subst}
 use Rattle.std.specs.Prelude.{if◌then◌else◌, nat_le, option_map, int_lt}
-use Rattle.std.specs.List.{find, list_any}
-use Rattle.std.specs.Option.{is_some}
+use Rattle.std.specs.List.{list_any}
 use Rattle.rz_core.proofs.Tests.{or_false, true_false}
 use Rattle.rz_core.specs.Stop.{◌>>=◌}
 use Rattle.rz_core.specs.declared.facts.Facts.{Facts}
@@ -49,19 +48,6 @@ not_false false is = absurd (true_false is)
 pub not_true : (b : Bool) → not b ≡ true → b ≡ false
 not_true true is = absurd (true_false (sym is))
 not_true false is = refl
-
--- What a search finds.
-
-pub some_of : {A B : Type 0} (f : A → B) (found : Option A) → is_some found ≡ is_some (option_map f found)
-some_of f (Some item) = refl
-some_of f None = refl
-
-pub found_any : {A : Type 0} (test : A → Bool) (items : List A) → is_some (find test items) ≡ list_any test items
-found_any test [] = refl
-found_any test (x ∷ items) = by (test x) (found_any test items) where
-  by : (b : Bool) → is_some (find test items) ≡ list_any test items → is_some (cond b (Some x) (find test items)) ≡ (b || list_any test items)
-  by true rest = refl
-  by false rest = rest
 
 -- Names that are alike, the same bits and facts: the same value.
 

@@ -14,13 +14,13 @@ use Rattle.rz_types_fields.specs.declared.field.NumForm.{NumForm}
 use Rattle.rz_types_fields.specs.declared.field.NumForm.TheVariants.{Bits, Boolean, Byte, Char, Integer, Longint}
 use Rattle.rz_types_fields.specs.declared.tree.Tree.{Tree}
 use Rattle.rz_types_fields.specs.declared.tree.Tree.TheVariants as trees
-use Rattle.rz_types_fields.specs.Laid.{first_value, line_in, other_values, rows_in}
+use Rattle.rz_types_fields.specs.Laid.{first_value, line_in, other_values, rows_in, unless}
 use Rattle.rz_types_fields.specs.Row.{IsChoice, IsRow, IsValue}
 use Rattle.rz_types_fields.specs.Spells.{group_in, is_case}
 use Rattle.rz_types_fields.specs.Field.{case_and, field_and, no_cases, no_fields, takes_value, Align, Array, Fill, Label, Number, PlainBody, PlainCases, PlainField, PlainNumber, PlainPoints, Points, Switch, Text}
 use Rattle.rz_types.specs.Kept.{AreCasesKept, AreKept, Differ, IsKept, IsKeptWithin}
 use Rattle.rz_types_fields.specs.Range.{is_between}
-use Rattle.rz_types.specs.Rules.{bad_width, case_names, may_be_width, unless}
+use Rattle.rz_types.specs.Rules.{bad_width, case_names, may_be_width}
 use Rattle.rz_types_fields.specs.Shape.{are_cases_shaped, are_shaped, is_fixed_number, is_key_shaped, is_none_or, is_number_shaped, is_own_name, is_own_width, is_shaped, is_symbol_of, is_unit, is_well_shaped}
 use Rattle.rz_types.specs.Walk.{and_names, around_names, names_of, Own}
 use Rattle.rz_layout.proofs.Rows.{choice_differs, fronted, other_name, Takes}
@@ -95,7 +95,7 @@ mutual
   field_sound scope in_case (Array name count row) is wide kept value has =
       array_sound name count row (λ line are. body_sound (and_names (and_names scope (around_names name)) (names_of row)) false row (both (is_none_or is_own_name name) (are_shaped false row) is).1 kept.2 line are) value has
   field_sound scope in_case (Switch cases) is wide kept value has =
-      subst (IsCaseSound cases) (sym has.2) (cases_sound scope cases is kept.0 kept.1 has.0 has.1)
+      (kept.0, subst (IsCaseSound cases) (sym has.2) (cases_sound scope cases is kept.0 kept.1 has.0 has.1))
 
   cases_sound : (scope : Own) (cases : PlainCases) → are_cases_shaped cases ≡ true → Differ (case_names cases) → AreCasesKept scope cases
       → (v : Tree) → IsChoice cases v → IsCaseSound cases (Some v)

@@ -19,7 +19,7 @@ use Rattle.rz_types_fields.specs.Laid.{apart, array_laid, behind_rows, body_laid
 use Rattle.rz_types_fields.specs.Passed.{at_field, at_front, behind, behind_piece, declares, gives_key, gives_rows, has_label, nothing_passed, outside, Names, Passed}
 use Rattle.rz_types_fields.specs.Piece.{pieces_of, Filler, OneNumber, OneText, Piece, Place, Zeros}
 use Rattle.rz_types_fields.specs.Row.{By, IsChoice, IsRow, IsStated, IsValue}
-use Rattle.rz_types_fields.specs.Spells.{is_case, values_for, AreRows, BodySpells, CaseSpells, FieldSpells, HasPlace, InOrder, Inside, IsCounted, IsGroupedFor, PieceSpells, PiecesSpell, RowSpells, RowsSpell, Spells}
+use Rattle.rz_types_fields.specs.Spells.{anyhow, is_case, values_for, AreRows, BodySpells, CaseSpells, FieldSpells, HasPlace, InOrder, Inside, IsCounted, IsGroupedFor, PieceSpells, PiecesSpell, RowSpells, RowsSpell, Spells}
 use Rattle.rz_types_fields.specs.RowLabels.{also_rows, is_row, row_of, row_value, RowOf}
 use Rattle.rz_types.specs.Rules.{case_names}
 use Rattle.rz_layout.proofs.Adding.{adds_marks, adds_none, alike_back, both_came, came_counted, came_is, came_labels, came_met, known_behind, then_came, Adds, Came, FitsAll, IsAny}
@@ -37,7 +37,7 @@ use Rattle.rz_layout.proofs.OwnPlaces.{body_behind}
 use Rattle.rz_layout.proofs.Placing.{first_given, others_given, row_in_rows, row_place_is, RowsGiven}
 use Rattle.rz_layout.proofs.Texts.{good}
 use Rattle.rz_layout.proofs.Tracks.{tracks-map, Holds}
-use Rattle.rz_types_fields.specs.Spells.{most_bits}
+use Rattle.rz_types_fields.specs.Spells.{anyhow, most_bits}
 use Rattle.rz_layout.proofs.Inward.{inside_counts, inside_fits, inside_within}
 use Rattle.rz_layout.proofs.Unmet.{fresh_first, fresh_front, fresh_rest, rows_given, still_body, still_rows}
 
@@ -59,9 +59,9 @@ module _ (known : Facts) where
 
   pieces_came : (passed : Passed) (pieces : List Piece) → Unplaced pieces → (values : List Tree) → AreFed pieces values → (draft next : Draft) → length draft.late ≡ length draft.bits → length draft.bits ≤ most_bits
       → MetKnown passed.met draft.known → in_order takes_one (lay known) draft pieces values ≡ Ok next
-      → Came known none passed.met NoCount draft next (λ all names. InOrder (PieceSpells false known all names) passed pieces values)
+      → Came known none passed.met NoCount draft next (λ all names. InOrder (PieceSpells anyhow known all names) passed pieces values)
   pieces_came passed [] flat values fed draft next marks short met_known is =
-      subst (λ (d : Draft). Came known none passed.met NoCount draft d (λ all names. InOrder (PieceSpells false known all names) passed [] values)) (same_ok draft next is)
+      subst (λ (d : Draft). Came known none passed.met NoCount draft d (λ all names. InOrder (PieceSpells anyhow known all names) passed [] values)) (same_ok draft next is)
       (record { adds = adds_none draft short; spells = λ all names fits holds counted. (fed, refl, refl) })
   pieces_came passed (piece ∷ pieces) flat values fed draft next marks short met_known is =
       let value = first_value (takes_one piece) values in
@@ -70,33 +70,33 @@ module _ (known : Facts) where
       let inner = chained (lay known draft piece value) (λ mid. in_order takes_one (lay known) mid pieces rest) next is in
       let plain = unplaced_none piece flat.0 in
       let same : SamePlaces (met_piece piece passed.met) passed.met = λ in_rows name. ap (λ (test : Bool). test || passed.met (label_key in_rows name)) (plain (label_key in_rows name)) in
-      let first = came_met known none (met_piece piece passed.met) passed.met NoCount draft inner.value (λ all names. PieceSpells false known all names passed piece value) same
-      (came_labels known (piece_is piece) none (met_piece piece passed.met) NoCount draft inner.value (λ all names. PieceSpells false known all names passed piece value) plain
+      let first = came_met known none (met_piece piece passed.met) passed.met NoCount draft inner.value (λ all names. PieceSpells anyhow known all names passed piece value) same
+      (came_labels known (piece_is piece) none (met_piece piece passed.met) NoCount draft inner.value (λ all names. PieceSpells anyhow known all names passed piece value) plain
       (piece_came known passed piece value fed.0 draft inner.value (λ key is. absurd (true_false (sym is ∙ plain key))) marks met_known inner.is)) in
       let met_mid : MetKnown next_met inner.value.known = λ in_rows name. sym (same_behind piece passed in_rows name) ∙ known_behind known none passed.met draft inner.value first.adds met_known in_rows name in
-      let more = came_met known none next_met passed.met NoCount inner.value next (λ all names. InOrder (PieceSpells false known all names) (behind_piece piece passed) pieces rest)
+      let more = came_met known none next_met passed.met NoCount inner.value next (λ all names. InOrder (PieceSpells anyhow known all names) (behind_piece piece passed) pieces rest)
       (places_back passed.met next_met (same_behind piece passed))
       (pieces_came (behind_piece piece passed) pieces flat.1 rest fed.2 inner.value next (adds_marks none draft inner.value first.adds marks) first.adds.short met_mid inner.leads) in
-      came_counted known none passed.met (λ names. Unit {0} × Unit {0}) NoCount draft next (λ all names. InOrder (PieceSpells false known all names) passed (piece ∷ pieces) values) (λ names counted. (tt, tt))
-      (then_came known none none passed.met passed.met NoCount NoCount value rest values fed.1 (λ all names v. PieceSpells false known all names passed piece v)
-      (λ all names vs. InOrder (PieceSpells false known all names) (behind_piece piece passed) pieces vs) draft inner.value next marks first more (λ key early. (refl, early)))
+      came_counted known none passed.met (λ names. Unit {0} × Unit {0}) NoCount draft next (λ all names. InOrder (PieceSpells anyhow known all names) passed (piece ∷ pieces) values) (λ names counted. (tt, tt))
+      (then_came known none none passed.met passed.met NoCount NoCount value rest values fed.1 (λ all names v. PieceSpells anyhow known all names passed piece v)
+      (λ all names vs. InOrder (PieceSpells anyhow known all names) (behind_piece piece passed) pieces vs) draft inner.value next marks first more (λ key early. (refl, early)))
 
   pieces_field : (passed : Passed) (field : PlainField) → Unplaced (pieces_of field) → (value : Option Tree) → IsGroupedFor field value → AreFed (pieces_of field) (values_for field value) → (draft next : Draft)
       → length draft.late ≡ length draft.bits → length draft.bits ≤ most_bits → MetKnown passed.met draft.known → pieces_laid known draft field value ≡ Ok next
-      → Came known none passed.met NoCount draft next (λ all names. PiecesSpell false known all field names passed value)
+      → Came known none passed.met NoCount draft next (λ all names. PiecesSpell anyhow known all field names passed value)
   pieces_field passed field flat value grouped fed draft next marks short met_known is =
-      came_is known none passed.met NoCount draft next (λ all names. InOrder (PieceSpells false known all names) passed (pieces_of field) (values_for field value))
-      (λ all names. PiecesSpell false known all field names passed value) (λ all names counted it. (grouped, it))
+      came_is known none passed.met NoCount draft next (λ all names. InOrder (PieceSpells anyhow known all names) passed (pieces_of field) (values_for field value))
+      (λ all names. PiecesSpell anyhow known all field names passed value) (λ all names counted it. (grouped, it))
       (pieces_came passed (pieces_of field) flat (values_for field value) fed draft next marks short met_known is)
 
   label_came : (passed : Passed) (name : Word) (value : Option Tree) → value ≡ None → (draft next : Draft) → Fresh (gives_place (Label name)) passed.met
       → length draft.late ≡ length draft.bits → MetKnown passed.met draft.known → pieces_laid known draft (Label name) value ≡ Ok next
-      → Came known (gives_place (Label name)) (met_behind (Label name) passed.met) NoCount draft next (λ all names. PiecesSpell false known all (Label name) names passed value)
+      → Came known (gives_place (Label name)) (met_behind (Label name) passed.met) NoCount draft next (λ all names. PiecesSpell anyhow known all (Label name) names passed value)
   label_came passed name value empty draft next fresh marks met_known is =
       let inner = chained (lay known draft (Place name) None) (λ mid. Ok mid) next is in
       let laid : lay known draft (Place name) None ≡ Ok next = inner.is ∙ ap (λ (d : Draft). Ok d) (same_ok inner.value next inner.leads) in
-      came_is known (gives_place (Label name)) (met_behind (Label name) passed.met) NoCount draft next (λ all names. PieceSpells false known all names passed (Place name) None)
-      (λ all names. PiecesSpell false known all (Label name) names passed value)
+      came_is known (gives_place (Label name)) (met_behind (Label name) passed.met) NoCount draft next (λ all names. PieceSpells anyhow known all names passed (Place name) None)
+      (λ all names. PiecesSpell anyhow known all (Label name) names passed value)
       (λ all names counted it. (tt, (None, option_to_list value, length next.bits, next.late, refl, it, (ap option_to_list empty, refl, refl))))
       (piece_came known passed (Place name) None refl draft next fresh marks met_known laid)
 
@@ -105,10 +105,10 @@ module _ (known : Facts) where
   abbrev BodyCame : PlainBody → Type 0
   BodyCame body = (passed : Passed) (values : List Tree) (draft next : Draft) → Fresh (gives_places body) passed.met → length draft.late ≡ length draft.bits → length draft.bits ≤ most_bits
       → MetKnown passed.met draft.known → IsRow body values → body_laid known draft body values ≡ Ok next
-      → Came known (gives_places body) (met_all body passed.met) (AreCounted body values) draft next (λ all names. BodySpells false known all body names passed values)
+      → Came known (gives_places body) (met_all body passed.met) (AreCounted body values) draft next (λ all names. BodySpells anyhow known all body names passed values)
 
   abbrev InsideIs : PlainBody → Option RowOf → Passed → List Tree → List Bool → Environment → RowSpells
-  InsideIs row which passed line all names = Inside row which names (λ own. BodySpells false known all row own (at_front row passed) line)
+  InsideIs row which passed line all names = Inside row which names (λ own. BodySpells anyhow known all row own (at_front row passed) line)
 
   abbrev inside_adds : (row : PlainBody) (which : Option RowOf) (line : List Tree) (draft inner : Draft) → Adds (gives_places row) (enter which row line draft) inner → Adds none draft (leave which row draft inner)
   inside_adds row which line draft inner a = record {
@@ -147,7 +147,7 @@ module _ (known : Facts) where
       }
 
   abbrev RowsAre : Option Word → PlainBody → Passed → ℕ → List (List Tree) → List Bool → Environment → RowSpells
-  RowsAre name row passed number rows all names = RowsSpell (λ number line. Inside row (row_of name number) names (λ own. BodySpells false known all row own (at_front row passed) line)) number rows
+  RowsAre name row passed number rows all names = RowsSpell (λ number line. Inside row (row_of name number) names (λ own. BodySpells anyhow known all row own (at_front row passed) line)) number rows
 
   -- rows that are laid add these places
   record RowsCame (name : Option Word) (row : PlainBody) (passed : Passed) (number : ℕ) (rows : List (List Tree)) (draft next : Draft) : Type 0 where
@@ -193,12 +193,12 @@ module _ (known : Facts) where
   abbrev FieldCame : PlainField → Type 0
   FieldCame field = (passed : Passed) (value : Option Tree) → Takes (takes_value field) (IsValue field) value → (draft next : Draft) → Fresh (gives_place field) passed.met → length draft.late ≡ length draft.bits → length draft.bits ≤ most_bits
       → MetKnown passed.met draft.known → field_laid known draft field value ≡ Ok next
-      → Came known (gives_place field) (met_behind field passed.met) (FieldCounted field value) draft next (λ all names. FieldSpells false known all field names passed value)
+      → Came known (gives_place field) (met_behind field passed.met) (FieldCounted field value) draft next (λ all names. FieldSpells anyhow known all field names passed value)
 
   abbrev CasesCame : PlainCases → Type 0
   CasesCame cases = (passed : Passed) (v : Tree) → IsChoice cases v → (draft next : Draft) → length draft.late ≡ length draft.bits → length draft.bits ≤ most_bits
       → MetKnown passed.met draft.known → case_laid known draft cases (Some v) ≡ Ok next
-      → Came known none passed.met NoCount draft next (λ all names. CaseSpells false known all cases names passed (Some v))
+      → Came known none passed.met NoCount draft next (λ all names. CaseSpells anyhow known all cases names passed (Some v))
 
   -- after all rows the array is as its rows, apart and with the places of the labels in them
   abbrev array_next : PlainBody → ℕ → Draft → Draft → Draft
@@ -250,7 +250,7 @@ module _ (known : Facts) where
   rows_array : (name : Option Word) (count : Option ℤ) (row : PlainBody) (passed : Passed) (value : Option Tree) (rows : List (List Tree)) → value ≡ Some (trees.Rows rows) → IsStated count (length rows) → (draft mid : Draft)
       → Fresh (gives_rows row) passed.met → RowsCame name row passed 1 rows (with_places [] draft) mid
       → Came known (gives_rows row) (λ key. gives_rows row key || passed.met key) (FieldCounted (Array name count row) value) draft (array_next row (length rows) draft mid)
-      (λ all names. FieldSpells false known all (Array name count row) names passed value)
+      (λ all names. FieldSpells anyhow known all (Array name count row) names passed value)
   rows_array name count row passed value rows whole stated draft mid fresh it = record {
     adds = array_adds row (length rows) draft mid it.came.adds;
     spells = λ all names fits holds counted. (
@@ -275,12 +275,12 @@ module _ (known : Facts) where
       let mid = inner.value in
       let same : array_next row (length rows) draft mid ≡ next = ap (with_places draft.places) (same_ok (behind_rows row (length rows) mid) outer.value inner.leads) ∙ same_ok (with_places draft.places outer.value) next outer.leads in
       came_met known (gives_rows row) (λ key. gives_rows row key || passed.met key) (met_behind (Array name count row) passed.met) (FieldCounted (Array name count row) value) draft next
-      (λ all names. FieldSpells false known all (Array name count row) names passed value) (array_same name count row passed.met)
-      (subst (λ (d : Draft). Came known (gives_rows row) (λ key. gives_rows row key || passed.met key) (FieldCounted (Array name count row) value) draft d (λ all names. FieldSpells false known all (Array name count row) names passed value)) same
+      (λ all names. FieldSpells anyhow known all (Array name count row) names passed value) (array_same name count row passed.met)
+      (subst (λ (d : Draft). Came known (gives_rows row) (λ key. gives_rows row key || passed.met key) (FieldCounted (Array name count row) value) draft d (λ all names. FieldSpells anyhow known all (Array name count row) names passed value)) same
       (rows_array name count row passed value rows whole stated draft mid fresh (rows_came name row apart came passed 1 rows are front mid marks short met_known inner.is)))
 
   abbrev CaseIs : Word → PlainBody → PlainCases → Passed → Option Tree → List Bool → Environment → RowSpells
-  CaseIs name row others passed value all names = CaseSpells false known all (case_and name row others) names passed value
+  CaseIs name row others passed value all names = CaseSpells anyhow known all (case_and name row others) names passed value
 
   fits_back : (all : List Bool) (names : Environment) (met : Names) (places : List ℤ) (draft : Draft) → FitsAll known all names met (with_places places draft) → FitsAll known all names met draft
   fits_back all names met places draft fits = record { bits = fits.bits; len = fits.len; late_is = fits.late_is; marks = fits.marks; within = fits.within; names_are = fits.names_are }
@@ -328,8 +328,8 @@ module _ (known : Facts) where
       came_is known none passed.met NoCount draft next (InsideIs row None passed line) (CaseIs name row others passed (Some v))
       (λ all names counted it. subst (λ (test : Bool). By test
       ((line : List Tree) × (Some v ≡ Some (trees.Choice name line))
-      × Inside row None names (λ own. BodySpells false known all row own (at_front row passed) line) (length draft.bits) draft.late (length next.bits) next.late)
-      (CaseSpells false known all others names passed (Some v) (length draft.bits) draft.late (length next.bits) next.late))
+      × Inside row None names (λ own. BodySpells anyhow known all row own (at_front row passed) line) (length draft.bits) draft.late (length next.bits) next.late)
+      (CaseSpells anyhow known all others names passed (Some v) (length draft.bits) draft.late (length next.bits) next.late))
       (sym chosen) (line, some, it))
       (case_inside row own came passed line is_row draft next marks short met_known so)
 
@@ -340,17 +340,17 @@ module _ (known : Facts) where
       let other : is_case name (Some v) ≡ false = choice_differs name others differ v is_choice in
       let so : case_laid known draft others (Some v) ≡ Ok next =
       sym (ap (λ (test : Bool). if test then apart (λ inner. row_laid known None row inner (line_in (Some v))) draft else case_laid known draft others (Some v)) other) ∙ is in
-      came_is known none passed.met NoCount draft next (λ all names. CaseSpells false known all others names passed (Some v)) (CaseIs name row others passed (Some v))
+      came_is known none passed.met NoCount draft next (λ all names. CaseSpells anyhow known all others names passed (Some v)) (CaseIs name row others passed (Some v))
       (λ all names counted it. subst (λ (test : Bool). By test
       ((line : List Tree) × (Some v ≡ Some (trees.Choice name line))
-      × Inside row None names (λ own. BodySpells false known all row own (at_front row passed) line) (length draft.bits) draft.late (length next.bits) next.late)
-      (CaseSpells false known all others names passed (Some v) (length draft.bits) draft.late (length next.bits) next.late))
+      × Inside row None names (λ own. BodySpells anyhow known all row own (at_front row passed) line) (length draft.bits) draft.late (length next.bits) next.late)
+      (CaseSpells anyhow known all others names passed (Some v) (length draft.bits) draft.late (length next.bits) next.late))
       (sym other) it)
       (came passed v is_choice draft next marks short met_known so)
 
   switch_came : (cases : PlainCases) → CasesCame cases → FieldCame (Switch cases)
   switch_came cases came passed value (v, is_choice, some) draft next fresh marks short met_known is =
-      subst (λ (o : Option Tree). Came known none passed.met NoCount draft next (λ all names. CaseSpells false known all cases names passed o)) (sym some)
+      subst (λ (o : Option Tree). Came known none passed.met NoCount draft next (λ all names. CaseSpells anyhow known all cases names passed o)) (sym some)
       (came passed v is_choice draft next marks short met_known (sym (ap (case_laid known draft cases) some) ∙ is))
 
   body_step : (field : PlainField) (fields : PlainBody) → ((key : Key) → gives_key field key ≡ true → declares fields key ≡ false) → FieldCame field → BodyCame fields → BodyCame (field_and field fields)
@@ -367,12 +367,12 @@ module _ (known : Facts) where
       let first = one here value each.one draft inner.value (fresh_first field fields passed.met fresh) marks short met_known inner.is in
       let met_mid : MetKnown next_met inner.value.known =
       λ in_rows name. sym (same in_rows name) ∙ met_field field passed.met inner.value.known (known_behind known (gives_place field) passed.met draft inner.value first.adds met_known) in_rows name in
-      let last = came_met known (gives_places fields) (met_all fields next_met) (met_all fields met) (AreCounted fields rest_values) inner.value next (λ all names. BodySpells false known all fields names (behind field here) rest_values)
+      let last = came_met known (gives_places fields) (met_all fields next_met) (met_all fields met) (AreCounted fields rest_values) inner.value next (λ all names. BodySpells anyhow known all fields names (behind field here) rest_values)
       (met_all_same fields next_met met (places_back met next_met same))
       (more (behind field here) rest_values inner.value next (λ key label. ap (λ (m : Names). m key) (behind_met field here) ∙ fresh_more key label)
       (adds_marks (gives_place field) draft inner.value first.adds marks) first.adds.short met_mid (subst (IsRow fields) each.others others) inner.leads) in
       then_came known (gives_place field) (gives_places fields) met (met_all fields met) (FieldCounted field value) (AreCounted fields rest_values) value rest_values values each.whole
-      (λ all names v. FieldSpells false known all field names here v) (λ all names vs. BodySpells false known all fields names (behind field here) vs) draft inner.value next marks first last
+      (λ all names v. FieldSpells anyhow known all field names here v) (λ all names vs. BodySpells anyhow known all fields names (behind field here) vs) draft inner.value next marks first last
       (still_body known fields met fresh_more)
 
   mutual
@@ -403,7 +403,7 @@ module _ (known : Facts) where
 
     body_came : (body : PlainBody) → AreApart body → BodyCame body
     body_came no_fields apart passed values draft next fresh marks short met_known is_row is =
-        subst (λ (d : Draft). Came known none passed.met (AreCounted no_fields values) draft d (λ all names. BodySpells false known all no_fields names passed values)) (same_ok draft next is)
+        subst (λ (d : Draft). Came known none passed.met (AreCounted no_fields values) draft d (λ all names. BodySpells anyhow known all no_fields names passed values)) (same_ok draft next is)
         (record { adds = adds_none draft short; spells = λ all names fits holds counted. (is_row, refl, refl) })
     body_came (field_and field fields) apart passed values draft next fresh marks short met_known is_row is =
         body_step field fields apart.0 (field_came field apart.1) (body_came fields apart.2) passed values draft next fresh marks short met_known is_row is
@@ -411,7 +411,7 @@ module _ (known : Facts) where
 module _ (written : (bits : List Bool) → length bits % 8 ≡ 0 → bits_of (bytes_of bits) ≡ bits) (multiple : (unit : ℕ) (bits : List Bool) → 0 < unit → length (filled unit bits) % unit ≡ 0)
     (small : (bits : List Bool) (k : ℕ) → slice_index (bytes_of bits) k < 256) where
   pub sound : (known : Facts) (body : PlainBody) → AreApart body → (row : List Tree) (bytes : List ℕ) → IsRow body row → laid known body row ≡ Ok bytes
-      → Spells false known body row bytes
+      → Spells known body row bytes
   sound known body apart row bytes are is =
       let one = chained (row_laid known None body nothing_laid row) (λ draft. fill known outside draft.numbers draft.bits >>= λ bits. good (bytes_of (filled 8 bits))) bytes is in
       let draft : Draft = one.value in
@@ -423,8 +423,8 @@ module _ (written : (bits : List Bool) → length bits % 8 ≡ 0 → bits_of (by
       let all_is : all ≡ own ++ more = ap bits_of (sym bytes_are) ∙ written (filled 8 own) (multiple 8 own (omega (arith))) in
       let inner = chained (body_laid known (enter None body row nothing_laid) body row) (λ mid. good (leave None body nothing_laid mid)) draft one.is in
       let same : leave None body nothing_laid inner.value ≡ draft = same_ok (leave None body nothing_laid inner.value) draft inner.leads in
-      let c : Came known (λ key. false) nothing_passed.met (λ names. (label : List ℕ) → has_label body label ≡ true → Unit {0}) nothing_laid draft (λ all names. Inside body None names (λ own. BodySpells false known all body own (at_front body nothing_passed) row)) =
-      subst (λ (d : Draft). Came known (λ key. false) nothing_passed.met (λ names. (label : List ℕ) → has_label body label ≡ true → Unit {0}) nothing_laid d (λ all names. Inside body None names (λ own. BodySpells false known all body own (at_front body nothing_passed) row))) same
+      let c : Came known (λ key. false) nothing_passed.met (λ names. (label : List ℕ) → has_label body label ≡ true → Unit {0}) nothing_laid draft (λ all names. Inside body None names (λ own. BodySpells anyhow known all body own (at_front body nothing_passed) row)) =
+      subst (λ (d : Draft). Came known (λ key. false) nothing_passed.met (λ names. (label : List ℕ) → has_label body label ≡ true → Unit {0}) nothing_laid d (λ all names. Inside body None names (λ own. BodySpells anyhow known all body own (at_front body nothing_passed) row))) same
       (inside_came known body apart (body_came known body apart) nothing_passed None row are nothing_laid inner.value refl (omega (arith)) (λ in_rows name. refl) inner.is) in
       let size : length c.adds.marks ≡ length draft.bits = c.adds.same ∙ ap length (sym c.adds.bits_are) in
       let second = fill_came known IsAny own more outside c.adds.numbers c.adds.marks [] draft.bits 0 refl size c.adds.tracks
@@ -453,5 +453,4 @@ module _ (written : (bits : List Bool) → length bits % 8 ≡ 0 → bits_of (by
         filled = all_is ∙ ap (filled 8) (sym front);
         within = within;
         are_bytes = subst (λ (bs : List ℕ). (k : ℕ) → slice_index bs k < 256) bytes_are (small (filled 8 own));
-        few = tt;
       }

@@ -220,7 +220,7 @@ mutual
   field_keeps facts (Label name) draft value next sound is = pieces_keep facts (pieces_of (Label name)) (tt, tt) draft (values_for (Label name) value) next is
   field_keeps facts (Array name count row) draft value next sound is =
       apart_keeps (array_laid (row_at facts name row) row (rows_in value)) (array_keeps facts name row (body_keeps facts row) (rows_in value) sound) draft next is
-  field_keeps facts (Switch cases) draft value next sound is = cases_keep facts cases draft value next sound is
+  field_keeps facts (Switch cases) draft value next sound is = cases_keep facts cases draft value next sound.1 is
 
   cases_keep : (facts : Facts) (cases : PlainCases) (draft : Draft) (value : Option Tree) (next : Draft) → IsCaseSound cases value → case_laid facts draft cases value ≡ Ok next → Keeps draft next
   cases_keep facts no_cases draft value next sound is = keeps_itself draft next (same_ok draft next is)

@@ -67,8 +67,8 @@ module _ (known : Facts) (draft : Draft) (sight : Sight) where
       ∙ terms_spelled terms each.1
 
   bytes_spelled : (form : TextForm) (fixed : Option (List PlainPart)) (size : Option ℕ) (value : Option Tree) (bytes : List ℕ) → AllByRecursion IsEarly (fixed_terms fixed)
-      → AreBytes false form known sight fixed size value bytes → bytes_given known draft fixed value ≡ Ok bytes
-  bytes_spelled form None size value bytes keeps it = ap (λ (o : Option Tree). good (text_in o)) it.0 ∙ ap good (text_is bytes)
+      → AreBytes known sight fixed value bytes → bytes_given known draft fixed value ≡ Ok bytes
+  bytes_spelled form None size value bytes keeps it = ap (λ (o : Option Tree). good (text_in o)) it ∙ ap good (text_is bytes)
   bytes_spelled form (Some parts) size value bytes keeps it =
       let seen : bytes_seen nowhere known (draft_sight known draft) parts ≡ Ok bytes = bytes_kept nowhere known sight (draft_sight known draft) parts keeps bytes it.1 in
       ap (λ (o : Option Refusal). behind_refusal o (joined draft.piece (bytes_seen nowhere known (draft_sight known draft) parts)))
@@ -76,7 +76,7 @@ module _ (known : Facts) (draft : Draft) (sight : Sight) where
       ∙ ap (joined draft.piece) seen
 
   pub text_spelled : (text : PlainText) (value : Option Tree) (bits : List Bool) → list_any (names_later (met_in draft.known)) (terms_of_text text) ≡ false
-      → AllByRecursion IsEarly (terms_of_text text) → IsText false text known sight value bits → text_laid known draft text value ≡ Ok bits
+      → AllByRecursion IsEarly (terms_of_text text) → IsText text known sight value bits → text_laid known draft text value ≡ Ok bits
   text_spelled text value bits none keeps it =
       let each = each_append IsEarly (option_to_list text.size) (fixed_terms text.fixed) keeps in
       let s = size_spelled text.form text.size it.size each.0 it.has_size in
@@ -152,9 +152,9 @@ module _ (known : Facts) (draft : Draft) (sight : Sight) where
 
   bytes_sound : (form : TextForm) (fixed : Option (List PlainPart)) (size : Option ℕ) (value : Option Tree) → TextValue fixed value → (bytes : List ℕ)
       → AllByRecursion (Keeps (draft_sight known draft) sight) (fixed_terms fixed)
-      → bytes_given known draft fixed value ≡ Ok bytes → AreBytes false form known sight fixed size value bytes × AllByRecursion IsFound (fixed_terms fixed)
+      → bytes_given known draft fixed value ≡ Ok bytes → AreBytes known sight fixed value bytes × AllByRecursion IsFound (fixed_terms fixed)
   bytes_sound form None size value has bytes keeps is =
-      ((has.1 ∙ ap (λ (bs : List ℕ). Some (trees.Text bs)) (sym (ap text_in has.1 ∙ text_is has.0) ∙ same_ok (text_in value) bytes is), tt), tt)
+      (has.1 ∙ ap (λ (bs : List ℕ). Some (trees.Text bs)) (sym (ap text_in has.1 ∙ text_is has.0) ∙ same_ok (text_in value) bytes is), tt)
   bytes_sound form (Some parts) size value has bytes keeps is =
       let seen = joined_is draft.piece (bytes_seen nowhere known (draft_sight known draft) parts) bytes
       (unrefused_bytes (first_of (map (unvalued known draft) (text_terms parts))) (joined draft.piece (bytes_seen nowhere known (draft_sight known draft) parts)) bytes is) in
@@ -168,7 +168,7 @@ module _ (known : Facts) (draft : Draft) (sight : Sight) where
   pub record TextSound (text : PlainText) (value : Option Tree) (bits : List Bool) : Type 0 where
     pub early : list_any (names_later (met_in draft.known)) (terms_of_text text) ≡ false
     pub found : AllByRecursion IsFound (terms_of_text text)
-    pub is : IsText false text known sight value bits
+    pub is : IsText text known sight value bits
 
   all_keep : ((term : Term) → names_later (met_in draft.known) term ≡ false → Keeps (draft_sight known draft) sight term) → (terms : List Term)
       → list_any (names_later (met_in draft.known)) terms ≡ false → AllByRecursion (Keeps (draft_sight known draft) sight) terms

@@ -9,7 +9,7 @@ use Rattle.rz_types.specs.Field.{PlainBody}
 
 -- the bytes that a row spells, or its refusal
 abbrev pub IsCompiled : Facts → PlainBody → List Tree → Result (List ℕ) Refusal → Type 0
-IsCompiled known body row (Ok bytes) = Spells false known body row bytes
+IsCompiled known body row (Ok bytes) = Spells known body row bytes
 IsCompiled known body row (Err fault) = Refuses known body row fault
 
 -- the faults that a row can have

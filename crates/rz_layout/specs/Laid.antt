@@ -1,6 +1,5 @@
 -- What the code has laid, and what a call gives of it.
 use Rattle.std.specs.Prelude.{◌≡◌, ℕ, ◌+◌, ◌≤◌, ◌<◌, ℤ, nat_abs, nat_lt, Bool, true, false, List, [], ◌∷◌, ◌++◌, ◌||◌, length, map, take, drop, Option, None, Some, Ok, Err}
-use Rattle.std.specs.Borrow.{Bor}
 use Rattle.std.specs.Option.{is_some}
 use Rattle.std.specs.declared.result.Result.{Result}
 use Rattle.rz_core.specs.declared.resource.Word.{Word}
@@ -21,18 +20,16 @@ use Rattle.rz_types_fields.specs.declared.field.NumForm.{NumForm}
 use Rattle.rz_types_fields.specs.declared.field.TextForm.{TextForm}
 use Rattle.rz_types_fields.specs.declared.names.Note.{Note}
 use Rattle.rz_types_fields.specs.declared.tree.Tree.{Tree}
+use Rattle.rz_types_fields.specs.Front.{value_inside}
 use Rattle.rz_types_fields.specs.Known.{known, noted}
 use Rattle.rz_types_fields.specs.Laid.{bytes_given, bytes_laid, grown, late_at, late_bits, later, most_kept, now, number_form, patched, size_in, too_long, with_room, Draft, Form, LateNumber, Refusal}
 use Rattle.rz_types_fields.specs.Passed.{declares, stands_at, Names}
 use Rattle.rz_types_fields.specs.Piece.{Place, Zeros}
 use Rattle.rz_layout.specs.declared.late.Late.{Late as HeldLate}
-use Rattle.rz_types_fields.specs.declared.field.Field.{Field}
-use Rattle.rz_types_fields.specs.declared.names.Note.TheVariants.{Entered}
-use Rattle.rz_types_fields.specs.declared.names.InRow.{InRow}
 use Rattle.rz_types_fields.specs.RowLabels.{labels_count, RowOf}
 use Rattle.rz_types_fields.specs.Sees.{marked}
 use Rattle.rz_types_fields.specs.Spells.{most_bits}
-use Rattle.rz_types_fields.specs.Field.{field_and, no_fields, plain_body, Array, Label, PlainBody, PlainField, PlainText}
+use Rattle.rz_types_fields.specs.Field.{field_and, no_fields, Array, Label, PlainBody, PlainField, PlainText}
 
 abbrev pub draft_of : Laid → Draft
 draft_of laid = record {
@@ -114,11 +111,13 @@ sized_put facts draft text size value = bytes_given facts draft text.fixed value
 abbrev pub placed_put : Facts → Draft → PlainText → Option Tree → Result Draft Refusal
 placed_put facts draft text value = size_in facts draft text.size >>= λ size. sized_put facts draft text size value
 
--- a body was entered: a note says so, and the others after it are of its own names
-pub record IsEntered (fields : Bor (List Field)) (which : Option InRow) (old new : List Note) : Type 0 where
+-- a body was entered: notes say what its names have at its front, and the others after these are of its own names
+pub record IsEntered (which : Option RowOf) (body : PlainBody) (old new : List Note) : Type 0 where
+  pub front : List Note
   pub more : List Note
-  pub grew : new ≡ old ++ Entered fields which ∷ more
-  pub others : (key : Key) (before : Option ℤ) → declares (plain_body fields.now) key ≡ false → noted before more key ≡ before
+  pub grew : new ≡ old ++ front ++ more
+  pub values : (key : Key) (before : Option ℤ) → noted before front key ≡ value_inside which body key before
+  pub others : (key : Key) (before : Option ℤ) → declares body key ≡ false → noted before more key ≡ before
 
 -- a field has names: a label has, and an array where it was given one, or where a label stands directly in its rows
 abbrev pub has_name : PlainField → Bool

@@ -5,4 +5,4 @@ use Rattle.rz_types_fields.specs.Known.{known}
 use Rattle.rz_types_fields.specs.Sees.{beside, sees}
 
 abbrev pub env_sight : DraftEnv → Sight
-env_sight env = beside env.marks.now (sees env.names.facts.now env.bits.now (known env.names.notes.now) env.at)
+env_sight env = beside env.marks.now (sees env.names.facts.now env.bits.now (known env.names.notes.now.items) env.at)

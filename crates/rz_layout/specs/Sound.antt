@@ -6,6 +6,8 @@ use Rattle.rz_types_fields.specs.declared.tree.Tree.{Tree}
 use Rattle.rz_types_fields.specs.Laid.{first_value, line_in, other_values, rows_in}
 use Rattle.rz_types_fields.specs.Spells.{group_in, is_case}
 use Rattle.rz_types.specs.Field.{case_and, field_and, no_cases, no_fields, takes_value, Align, Array, Fill, Label, Number, PlainBody, PlainCases, PlainField, PlainPoints, Points, Switch, Text}
+use Rattle.rz_types.specs.Kept.{Differ}
+use Rattle.rz_types.specs.Rules.{case_names}
 use Rattle.rz_types.specs.Shape.{numbers_of}
 
 -- a width of 1 to 32 bits
@@ -21,7 +23,8 @@ abbrev pub IsGroupOf : PlainPoints → Option Tree → Type 0
 IsGroupOf points value = IsGroupBy points.rect points.fixed value
 
 abbrev mutual
-  -- a field that can be laid with this value: its width is one, a point has as many numbers as it takes, and so on within it
+  -- a field that can be laid with this value: its width is one, a point has as many numbers as it takes, the cases of a switch have
+  -- different names, and so on within it
   pub IsSound : PlainField → Option Tree → Type 0
   IsSound (Number number) value = IsWidth number.width
   IsSound (Text text) value = Unit {0}
@@ -30,7 +33,7 @@ abbrev mutual
   IsSound (Align unit) value = 0 < unit
   IsSound (Label name) value = Unit {0}
   IsSound (Array name count row) value = AllByRecursion (AreSound row) (rows_in value)
-  IsSound (Switch cases) value = IsCaseSound cases value
+  IsSound (Switch cases) value = Differ (case_names cases) × IsCaseSound cases value
 
   -- the case that is chosen, with its row
   pub IsCaseSound : PlainCases → Option Tree → Type 0

@@ -14,6 +14,8 @@ ghost use Rattle.rz_types_fields.specs.RowLabels.{row_of};
 ghost use Rattle.rz_types_fields.specs.Passed.{declares, gives_key, gives_rows};
 ghost use Rattle.rz_types_fields.specs.Row.{IsRow};
 ghost use Rattle.rz_types_fields.specs.Field.{plain_body, plain_cases, plain_field};
+ghost use Rattle.rz_types.specs.Kept.{Differ};
+ghost use Rattle.rz_types.specs.Rules.{case_names};
 ghost use Rattle.rz_types.specs.Template.{template_of};
 
 use crate::LayFault;
@@ -29,7 +31,10 @@ use rz_bits::{
 };
 use rz_core::{Bytes, Facts, Listing, Stop, Word};
 use rz_types::values::{choice_in, line_in, next_value, rows_in};
-use rz_types::{Case, Field, Template, named_values_are_there, rules_hold_within, takes_value};
+use rz_types::{
+    Case, CaseHints, Field, Template, case_named, named_values_are_there, rules_hold_within,
+    takes_value,
+};
 use rz_types_fields::{ArrayField, InRow, Row, Tree, note_rows};
 use std::alloc::Global;
 use std::mem;
@@ -57,11 +62,11 @@ use std::mem;
 /// 214 for a label comes first, its size's expression comes before its formats, and these before its size.
 ///
 /// Its time is in proportion to the fields that are laid, for each row those of its array, with their expressions and
-/// fixed texts, to the cases of each switch, to the row and to the bytes; a name in an expression counts as many times as
-/// there are fields in its body and in those around it, one with an index also as many times as there are fields in the rows
-/// of their arrays, counted once for each array, and a late number as many times as there are bodies around it. Beside the
-/// bytes it takes memory for what is noted of the bodies that are open, a note for each and one for each label and array in
-/// it; for the places of labels in rows, 4 bytes for each in each row, until the body of their array ends; for one fixed
+/// fixed texts, to the row and to the bytes; cases are looked up; a name in an expression counts once on average, but one
+/// with an index as many times as there are fields in the rows of the arrays of its body and of those around it, counted
+/// once for each array, and a late number as many times as there are bodies around it. Beside the bytes it takes memory for
+/// what is noted of the bodies that are open, a few notes for each label and array in each; for the places of labels in
+/// rows, 4 bytes for each in each row, until the body of their array ends; for one fixed
 /// text at a time; and for late numbers: a bit for each bit up to the last of them, each with its expression, and what was
 /// noted in the bodies that have names of their own, or are rows of an array that has one, where late numbers stand. (MPW
 /// Rez.)
@@ -205,7 +210,9 @@ fn lay_field<'a>(
         Field::Align(unit) => laid.put_filler(*unit),
         Field::Label(name) => laid.put_place(name),
         Field::Array(array) => lay_array(alloc, array, rows_in(value), facts, laid),
-        Field::Switch(cases) => lay_case(alloc, cases.as_slice(), value, facts, laid),
+        Field::Switch(cases, hints) => {
+            lay_case(alloc, cases.as_slice(), hints, value, facts, laid)
+        }
     }
 }
 
@@ -276,24 +283,25 @@ fn lay_rows<'a>(
 fn lay_case<'a>(
     alloc: Global,
     cases: &'a [Case],
+    hints: &CaseHints,
     value: Option<&Tree>,
     facts: &Facts,
     laid: &mut Laid<'a>,
 ) -> Result<(), Stop<LayFault>>
+    requires differ { Differ (case_names (plain_cases cases.now)) }
     requires sound { IsCaseSound (plain_cases cases.now) (option_map (λ v. v.now) value) }
     requires short { IsShort laid.old }
     ensures laid { Gives (case_laid facts.now (draft_of laid.old) (plain_cases cases.now) (option_map (λ v. v.now) value.entry)) (fault_seen refusal_of (left (draft_of laid.new) result)) }
     ensures short { IfOk result (λ _. IsShort laid.new) }
     ensures notes { IfOk result (λ _. laid.new.notes.items ≡ laid.old.notes.items) }
 {
-    let name = choice_in(value);
-    let row = line_in(value);
-    for case in cases {
-        if case.name.is(name) {
-            return lay_choice(alloc, case.row.as_slice(), row, facts, laid);
+    match case_named(cases, hints, choice_in(value)) {
+        Some(position) => {
+            let row = line_in(value);
+            lay_choice(alloc, cases[position].row.as_slice(), row, facts, laid)
         }
+        None => Ok(()),
     }
-    Ok(())
 }
 
 /// Lays the fields of a case; the places of its labels end with it.

@@ -17,7 +17,7 @@ use crate::seen::DraftEnv;
 use rz_bits::BitBuf;
 use rz_core::{Facts, Stop};
 use rz_expr::value_in;
-use rz_types_fields::{NamesEnv, Note};
+use rz_types_fields::{NamesEnv, Notes};
 
 /// Writes late numbers over the zero bits that stand for them, one after the other: their names have in the end what is
 /// noted here and in the bodies within. `none` marks no bits.
@@ -25,7 +25,7 @@ use rz_types_fields::{NamesEnv, Note};
 pub fn fill<'a>(
     late: Lates<'a>,
     facts: &Facts,
-    notes: &mut Vec<Note<'a>>,
+    notes: &mut Notes<'a>,
     none: &BitBuf,
     bits: &mut BitBuf,
 ) -> Result<(), Stop<LayFault>>
@@ -49,7 +49,7 @@ pub fn fill<'a>(
 fn fill_one<'a>(
     one: Late<'a>,
     facts: &Facts,
-    notes: &mut Vec<Note<'a>>,
+    notes: &mut Notes<'a>,
     none: &BitBuf,
     bits: &mut BitBuf,
 ) -> Result<(), Stop<LayFault>>
@@ -60,7 +60,7 @@ fn fill_one<'a>(
     ensures length { IfOk result (λ _. length bits.new ≡ length bits.old) }
 {
     match one {
-        Late::Number(number) => fill_number(&number, facts, notes.as_slice(), none, bits),
+        Late::Number(number) => fill_number(&number, facts, notes, none, bits),
         Late::Inside(own, inner) => {
             let around = notes.len();
             push_notes(own, notes)?;
@@ -78,13 +78,13 @@ fn fill_one<'a>(
 fn fill_number(
     number: &LateNumber<'_>,
     facts: &Facts,
-    notes: &[Note<'_>],
+    notes: &Notes<'_>,
     none: &BitBuf,
     bits: &mut BitBuf,
 ) -> Result<(), Stop<LayFault>>
     requires none { none.now ≡ [] }
     requires within { IsWithin (length bits.old) (number_held number.now) }
-    ensures filled { Gives (filled_by facts.now (known notes.now) (number_held number.now) bits.old) (fault_seen refusal_of (left bits.new result)) }
+    ensures filled { Gives (filled_by facts.now (known notes.now.items) (number_held number.now) bits.old) (fault_seen refusal_of (left bits.new result)) }
     ensures length { IfOk result (λ _. length bits.new ≡ length bits.old) }
 {
     match number_late(number, facts, notes, none, bits) {
@@ -100,13 +100,13 @@ fn fill_number(
 fn number_late(
     number: &LateNumber<'_>,
     facts: &Facts,
-    notes: &[Note<'_>],
+    notes: &Notes<'_>,
     none: &BitBuf,
     bits: &BitBuf,
 ) -> Result<u32, LayFault>
     requires none { none.now ≡ [] }
     requires within { IsWithin (length bits.now) (number_held number.now) }
-    ensures { bits_made number.now.width result ≡ late_bits facts.now (known notes.now) (number_held number.now) bits.now }
+    ensures { bits_made number.now.width result ≡ late_bits facts.now (known notes.now.items) (number_held number.now) bits.now }
 {
     let env = DraftEnv {
         names: NamesEnv { facts, notes },

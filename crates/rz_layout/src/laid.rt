@@ -15,7 +15,7 @@ use crate::late::{Late, LateNumber, Lates, note_place, push_place};
 use rz_bits::{BitBuf, missing};
 use rz_core::{Listing, Stop, Word};
 use rz_expr::Expr;
-use rz_types_fields::{Note, NumForm};
+use rz_types_fields::{Notes, NumForm};
 use std::alloc::Global;
 
 /// The most bits of a resource: those of 16,777,212 bytes.
@@ -34,7 +34,7 @@ pub struct Laid<'a> {
     /// A mark for each bit up to the last late one: whether it is late.
     pub marks: BitBuf,
     /// The bodies that were entered, the numbers of rows of arrays, and the places of labels, the newest last.
-    pub notes: Vec<Note<'a>>,
+    pub notes: Notes<'a>,
     /// The late numbers of the body that is being laid, and of those within.
     pub late: Lates<'a>,
     /// The places of the labels that stand directly in the body that is being laid, in bits, and, where it is a row, in those
@@ -53,7 +53,7 @@ impl<'a> Laid<'a> {
             piece: 0,
             bits: BitBuf::new(alloc),
             marks: BitBuf::new(alloc),
-            notes: Vec::new(alloc),
+            notes: Notes::new(alloc),
             late: Listing::new(alloc),
             places: Vec::new(alloc),
         }

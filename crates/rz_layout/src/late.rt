@@ -9,7 +9,7 @@ ghost use Rattle.rz_types_fields.specs.Piece.{Place};
 
 use rz_core::{Listing, NoMemory, Word};
 use rz_expr::Expr;
-use rz_types_fields::{Note, NumForm};
+use rz_types_fields::{Note, Notes, NumForm};
 
 /// A number that is computed after all others.
 #[derive(Drop)]
@@ -39,7 +39,7 @@ pub enum Late<'a> {
 pub type Lates<'a> = Listing<Late<'a>>;
 
 /// Appends notes to others.
-pub fn push_notes<'a>(own: Vec<Note<'a>>, into: &mut Vec<Note<'a>>) -> Result<(), NoMemory>
+pub fn push_notes<'a>(own: Vec<Note<'a>>, into: &mut Notes<'a>) -> Result<(), NoMemory>
     ensures { OnOk result (into.new.items ≡ into.old.items ++ own.entry.items) }
 {
     for note in own {
@@ -59,7 +59,7 @@ pub fn push_lates<'a>(inner: Lates<'a>, into: &mut Lates<'a>) -> Result<(), NoMe
 }
 
 /// Notes the place of a label.
-pub fn note_place<'a>(name: &'a Word, at: u32, notes: &mut Vec<Note<'a>>) -> Result<(), NoMemory>
+pub fn note_place<'a>(name: &'a Word, at: u32, notes: &mut Notes<'a>) -> Result<(), NoMemory>
     requires { at < 2 ^ 31 }
     ensures known { OnOk result (known notes.new.items ≡ placed (Place name.now) at (known notes.old.items)) }
     ensures noted { OnOk result (IsNotedBy (stands_at name.now.bytes) notes.old.items notes.new.items) }

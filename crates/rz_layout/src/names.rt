@@ -13,7 +13,7 @@ use crate::late::{Late, Lates, push_lates};
 use rz_core::{NoMemory, Word};
 use rz_types::values::{next_value, rows_in};
 use rz_types::{Field, takes_value};
-use rz_types_fields::{InRow, Note, Row, Tree};
+use rz_types_fields::{InRow, Note, Notes, Row, Tree, note_front};
 use std::mem;
 
 /// Enters a body: from here on the names of its arrays have the numbers of their rows, and its labels no place, before
@@ -22,21 +22,17 @@ pub fn enter<'a>(
     fields: &'a [Field],
     which: Option<InRow<'a>>,
     row: &[Tree],
-    notes: &mut Vec<Note<'a>>,
+    notes: &mut Notes<'a>,
 ) -> Result<(), NoMemory>
     ensures known { OnOk result (known notes.new.items ≡ entered (which_of which.entry) (plain_body fields.now) row.now (known notes.old.items)) }
-    ensures noted { OnOk result (IsEntered fields.entry which.entry notes.old.items notes.new.items) }
+    ensures noted { OnOk result (IsEntered (which_of which.entry) (plain_body fields.now) notes.old.items notes.new.items) }
 {
-    notes.push(Note::Entered(fields, which))?;
+    note_front(fields, which, notes)?;
     count_rows(fields, row, notes)
 }
 
 /// The names of the arrays of a body have the numbers of their rows.
-fn count_rows<'a>(
-    fields: &'a [Field],
-    row: &[Tree],
-    notes: &mut Vec<Note<'a>>,
-) -> Result<(), NoMemory>
+fn count_rows<'a>(fields: &'a [Field], row: &[Tree], notes: &mut Notes<'a>) -> Result<(), NoMemory>
     ensures known { OnOk result (known notes.new.items ≡ counted (plain_body fields.now) row.now (known notes.old.items)) }
     ensures noted { OnOk result (IsNotedBy (declares (plain_body fields.now)) notes.old.items notes.new.items) }
 {
@@ -53,7 +49,7 @@ fn count_rows<'a>(
 fn enter_field<'a>(
     field: &'a Field,
     value: Option<&Tree>,
-    notes: &mut Vec<Note<'a>>,
+    notes: &mut Notes<'a>,
 ) -> Result<(), NoMemory>
     ensures known { OnOk result (known notes.new.items ≡ with_field (plain_field field.now) (option_map (λ v. v.now) value.entry) (known notes.old.items)) }
     ensures noted { OnOk result (IsNotedBy (gives_key (plain_field field.now)) notes.old.items notes.new.items) }
@@ -68,7 +64,7 @@ fn enter_field<'a>(
 fn enter_array<'a>(
     name: &'a Option<Word>,
     rows: &[Row],
-    notes: &mut Vec<Note<'a>>,
+    notes: &mut Notes<'a>,
 ) -> Result<(), NoMemory>
     ensures known { OnOk result (known notes.new.items ≡ with_count name.now (length rows.now) (known notes.old.items)) }
     ensures noted { OnOk result (IsNotedBy (gives_count name.now) notes.old.items notes.new.items) }

@@ -73,7 +73,7 @@ fn number_made(
     requires { IsWidth width }
     ensures { made form width (term_of expr.now) result ≡ number_form facts.now (draft_of laid.now) form width (Some (term_of expr.now)) None }
 {
-    if names_later(expr, laid.notes.as_slice()) {
+    if names_later(expr, &laid.notes) {
         return Ok(None);
     }
     match value_behind(expr, facts, laid) {

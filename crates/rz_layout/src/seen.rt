@@ -22,7 +22,7 @@ use crate::laid::Laid;
 use rz_bits::BitBuf;
 use rz_core::{Bytes, Facts, Fault, Mark, Stop};
 use rz_expr::{Env, Expr, FactWord, Key, Mention, MentionTest, Unvalued, first_mention, value_in};
-use rz_types_fields::{NamesEnv, Note, Texts, text_seen, value_noted};
+use rz_types_fields::{NamesEnv, Notes, Texts, text_seen, value_noted};
 use std::alloc::Global;
 
 /// What an expression sees of names and of the bits before a place, without the late ones.
@@ -86,11 +86,11 @@ fn is_hit(marks: &BitBuf, first: u32, width: u8) -> bool
 /// What has no place yet.
 #[derive(Clone, Copy)]
 struct Later<'a> {
-    notes: &'a [Note<'a>],
+    notes: &'a Notes<'a>,
 }
 
 impl MentionTest for Later<'_> {
-    ghost test = { λ test mention. is_later (met_in (known test.notes.now)) mention };
+    ghost test = { λ test mention. is_later (met_in (known test.notes.now.items)) mention };
 
     fn passes(&self, mention: Mention<'_>) -> bool {
         match mention {
@@ -104,15 +104,15 @@ impl MentionTest for Later<'_> {
 }
 
 /// Whether an expression names a label that has no place yet.
-pub fn names_later(expr: &Expr, notes: &[Note<'_>]) -> bool
-    ensures { result ≡ names_later (met_in (known notes.now)) (term_of expr.now) }
+pub fn names_later(expr: &Expr, notes: &Notes<'_>) -> bool
+    ensures { result ≡ names_later (met_in (known notes.now.items)) (term_of expr.now) }
 {
     first_mention(expr, &Later { notes }).is_some()
 }
 
 /// Whether a key has no value yet.
-fn is_later(notes: &[Note<'_>], key: Key<'_>) -> bool
-    ensures { result ≡ not (met_in (known notes.now) (key_of key.entry)) }
+fn is_later(notes: &Notes<'_>, key: Key<'_>) -> bool
+    ensures { result ≡ not (met_in (known notes.now.items) (key_of key.entry)) }
 {
     value_noted(notes, key).is_none()
 }
@@ -124,7 +124,7 @@ pub fn value_behind<'e>(expr: &'e Expr, facts: &Facts, laid: &Laid<'_>) -> Resul
     let env = DraftEnv {
         names: NamesEnv {
             facts,
-            notes: laid.notes.as_slice(),
+            notes: &laid.notes,
         },
         bits: &laid.bits,
         marks: &laid.marks,
@@ -145,7 +145,7 @@ pub fn bytes_behind(
     let env = DraftEnv {
         names: NamesEnv {
             facts,
-            notes: laid.notes.as_slice(),
+            notes: &laid.notes,
         },
         bits: &laid.bits,
         marks: &laid.marks,

@@ -18,7 +18,7 @@ use crate::laid::Laid;
 use crate::seen::{early_fault, later_fault, names_later, value_behind};
 use rz_core::{Facts, NoMemory};
 use rz_expr::Expr;
-use rz_types_fields::{Note, TextField, Texts, format_expressions, text_expressions};
+use rz_types_fields::{Notes, TextField, Texts, format_expressions, text_expressions};
 use std::alloc::Global;
 
 /// Why the first number in the formats of a text that has no value has none.
@@ -71,7 +71,7 @@ pub fn later_in(
     ensures { IfOk result (λ fault. option_map refusal_of fault ≡ later_size (draft_of laid.now) (terms_of_text (plain_text text.now))) }
 {
     let exprs = text_expressions(alloc, text)?;
-    if any_later(&exprs, laid.notes.as_slice()) {
+    if any_later(&exprs, &laid.notes) {
         Ok(Some(later_fault(laid)))
     } else {
         Ok(None)
@@ -79,8 +79,8 @@ pub fn later_in(
 }
 
 /// Whether one of these expressions names a label that has no place yet.
-fn any_later(exprs: &[&Expr], notes: &[Note<'_>]) -> bool
-    ensures { result ≡ list_any (names_later (met_in (known notes.now))) (map (λ expr. term_of expr.now) exprs.now) }
+fn any_later(exprs: &[&Expr], notes: &Notes<'_>) -> bool
+    ensures { result ≡ list_any (names_later (met_in (known notes.now.items))) (map (λ expr. term_of expr.now) exprs.now) }
 {
     for expr in exprs {
         if names_later(expr, notes) {

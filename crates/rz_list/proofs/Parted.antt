@@ -6,6 +6,7 @@ use Rattle.std.proofs.lemmas.Bool.Decides.{nat_tests}
 use Rattle.std.proofs.lemmas.Grind.{flat_map-append}
 use Rattle.std.proofs.lemmas.List.{drop_all, nil_from_length}
 use Rattle.rz_bridge.specs.declared.file.MacFile.{MacFile}
+use Rattle.rz_bridge_form.specs.Forms.{form_word}
 use Rattle.rz_bridge_form.specs.declared.form.Form.{Form}
 use Rattle.rz_bridge_form.specs.declared.form.Form.TheVariants.{Raw, AppleDouble, AppleSingle, MacBinary, BinHex}
 use Rattle.rz_core.specs.Decimal.{decimal_of}
@@ -19,7 +20,7 @@ use Rattle.rz_lex.specs.Spelled.{digits_of}
 use Rattle.rz_show_lines.specs.Head.{attr_written}
 use Rattle.rz_show_lines.specs.Written.{line_text}
 use Rattle.rz_list.specs.Parts.{after_name, before_name, finder_rest, fork_fact, lock_fact, resource_end, resource_front, shown_name}
-use Rattle.rz_list.specs.Text.{carried_facts, data_fact, date_facts, fact, file_text, finder_facts, form_word, name_told, resource_line}
+use Rattle.rz_list.specs.Text.{carried_facts, data_fact, date_facts, fact, file_text, finder_facts, name_told, resource_line}
 
 -- Facts.
 

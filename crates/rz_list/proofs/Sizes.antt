@@ -1,10 +1,9 @@
 -- What is written on one line fits there.
-use Rattle.std.proofs.Common.{◌≡◌, ℕ, ◌+◌, ◌/◌, ◌%◌, ◌^◌, ◌<◌, ◌≤◌, ℤ, pos, negsuc, if◌then◌else◌, List, [], ◌∷◌, ◌++◌, length, arith, length-append, append_assoc, sym, ap, ◌∙◌}
-use Rattle.std.specs.Prelude.{nat_le, ◌==◌, ◌||◌, codes, FitsSigned}
+use Rattle.std.proofs.Common.{◌≡◌, ℕ, ◌+◌, ◌^◌, ◌<◌, ◌≤◌, ℤ, if◌then◌else◌, List, [], ◌∷◌, ◌++◌, length, arith, length-append, append_assoc, sym, ap, ◌∙◌}
+use Rattle.std.specs.Prelude.{codes, FitsSigned}
 use Rattle.std.specs.Int.{w16}
 use Rattle.std.specs.List.{flat_map}
 use Rattle.std.proofs.lemmas.Fmt.{length-decimal-le}
-use Rattle.std.proofs.lemmas.Int.{ints}
 use Rattle.rz_bridge.specs.declared.file.MacFile.{MacFile}
 use Rattle.rz_bridge_form.specs.declared.form.Form.{Form}
 use Rattle.rz_bridge_form.specs.declared.form.Form.TheVariants.{Raw, AppleDouble, AppleSingle, MacBinary, BinHex}
@@ -14,14 +13,12 @@ use Rattle.rz_core.specs.Numbers.{be, length-be_4}
 use Rattle.rz_core.specs.Quoted.{literal_text, shown_byte}
 use Rattle.rz_core.specs.declared.resource.Resource.{Resource}
 use Rattle.rz_lex.specs.Spelled.{digits_of}
-use Rattle.rz_words.specs.Attribute.{bit_of, setting_word}
-use Rattle.rz_words.specs.declared.attribute.Attribute.{Attribute}
-use Rattle.rz_words.specs.declared.attribute.Attribute.TheVariants.{Changed, Locked, Preload, Protected, Purgeable, SystemHeap}
 use Rattle.rz_show_lines.specs.Cut.{cut}
-use Rattle.rz_show_lines.specs.Head.{attr_written, word_written}
+use Rattle.rz_show_lines.specs.Head.{attr_written}
 use Rattle.rz_show_lines.specs.Print.{signed_written}
-use Rattle.rz_show_lines.specs.Written.{a_word, line_text}
-use Rattle.rz_show_lines.proofs.ShortTokens.{negative_short, positive_short, quoted_short, size, size_both, size_one}
+use Rattle.rz_show_lines.specs.Written.{line_text}
+use Rattle.rz_show_lines.proofs.HeadSizes.{attr_size, id_size}
+use Rattle.rz_show_lines.proofs.ShortTokens.{quoted_short, size}
 use Rattle.rz_show_lines.proofs.Writes.{cut_again, cut_short, signed_is}
 use Rattle.rz_list.proofs.Dates.{date_size}
 use Rattle.rz_list.specs.Date.{date_told}
@@ -38,7 +35,7 @@ pub two_written : (start mid end a b : List ℕ) → start ≡ [] → mid ≡ cu
 two_written start mid end a b none first second fits =
     second ∙ ap (λ (l : List ℕ). cut (l ++ b)) (first ∙ ap (λ (l : List ℕ). cut (l ++ a)) none) ∙ cut_again a b ∙ cut_short (a ++ b) fits
 
--- Writes behind others.
+-- Writes after others.
 
 pub three_on : (old one two three a b c : List ℕ) → one ≡ cut (old ++ a) → two ≡ cut (one ++ b) → three ≡ cut (two ++ c) → three ≡ cut (old ++ (a ++ b ++ c))
 three_on old one two three a b c first second third =
@@ -140,50 +137,6 @@ pub count_size : (n : ℕ) → n < 2 ^ 64 → length (fact (codes "resources") (
 count_size n small = omega (arith, fact_size (codes "resources") (decimal_of n), number_size n small)
 
 -- Resources.
-
-setting_size : (attribute : Attribute) → length (setting_word attribute) ≤ 9
-setting_size SystemHeap = omega arith
-setting_size Purgeable = omega arith
-setting_size Locked = omega arith
-setting_size Protected = omega arith
-setting_size Preload = omega arith
-setting_size Changed = omega arith
-
-word_size : (attr : ℕ) (attribute : Attribute) → size (word_written attr attribute) ≤ 11
-word_size attr attribute = by_test (size (word_written attr attribute) ≤ 11) (attr / bit_of attribute % 2 == 1)
-    (λ h. rw h (omega (arith, size_one (a_word (setting_word attribute)) [], setting_size attribute)))
-    (λ h. rw h (omega arith))
-
-words_size : (attr : ℕ)
-    → size (word_written attr SystemHeap ++ word_written attr Purgeable ++ word_written attr Locked ++ word_written attr Protected ++ word_written attr Preload ++ word_written attr Changed) ≤ 66
-words_size attr =
-    let two = word_written attr SystemHeap ++ word_written attr Purgeable in
-    let three = two ++ word_written attr Locked in
-    let four = three ++ word_written attr Protected in
-    let five = four ++ word_written attr Preload in
-    omega (
-      arith,
-      size_both (word_written attr SystemHeap) (word_written attr Purgeable),
-      size_both two (word_written attr Locked),
-      size_both three (word_written attr Protected),
-      size_both four (word_written attr Preload),
-      size_both five (word_written attr Changed),
-      word_size attr SystemHeap,
-      word_size attr Purgeable,
-      word_size attr Locked,
-      word_size attr Protected,
-      word_size attr Preload,
-      word_size attr Changed,
-    )
-
-attr_size : (attr : ℕ) → size (attr_written attr) ≤ 66
-attr_size attr = by_test (size (attr_written attr) ≤ 66) (attr == 0)
-    (λ h. rw h (omega arith))
-    (λ h. by_test (size (attr_written attr) ≤ 66) (nat_le 128 attr || (attr % 2 == 1)) (λ k. rw (h, k) (omega arith)) (λ k. rw (h, k) (words_size attr)))
-
-id_size : (id : ℤ) → FitsSigned w16 id → size (signed_written id) ≤ 11
-id_size (pos n) fits = positive_short n (omega (arith, ints, fits))
-id_size (negsuc n) fits = negative_short n (omega (arith, ints, fits))
 
 signed_size : (id : ℤ) → FitsSigned w16 id → length (signed_of id) ≤ 11
 unfolding signed_of

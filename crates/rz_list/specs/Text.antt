@@ -2,6 +2,7 @@
 use Rattle.std.specs.Prelude.{ℕ, ◌==◌, if◌then◌else◌, List, [], ◌++◌, length, codes}
 use Rattle.std.specs.List.{flat_map}
 use Rattle.rz_bridge.specs.declared.file.MacFile.{MacFile}
+use Rattle.rz_bridge_form.specs.Forms.{form_word}
 use Rattle.rz_bridge_form.specs.declared.form.Form.{Form}
 use Rattle.rz_bridge_form.specs.declared.form.Form.TheVariants.{Raw, AppleDouble, AppleSingle, MacBinary, BinHex}
 use Rattle.rz_core.specs.Decimal.{decimal_of, signed_of}
@@ -17,14 +18,6 @@ use Rattle.rz_list.specs.Date.{date_told}
 -- a fact on a line of its own
 unfoldable pub fact : (word value : List ℕ) → List ℕ
 fact word value = word ++ codes " " ++ value ++ codes "\n"
-
--- a form by its word
-abbrev pub form_word : Form → List ℕ
-form_word Raw = codes "raw"
-form_word AppleDouble = codes "double"
-form_word AppleSingle = codes "single"
-form_word MacBinary = codes "macbin"
-form_word BinHex = codes "hqx"
 
 -- the name, and what the Finder keeps
 unfoldable pub finder_facts : MacFile → List ℕ

@@ -6,10 +6,11 @@ ghost use Rattle.std.specs.List.{flat_map};
 ghost use Rattle.rz_core.specs.Decimal.{decimal_of};
 ghost use Rattle.rz_folder.specs.Counts.{Rose};
 ghost use Rattle.rz_folder.specs.Sink.{PutsOut};
+ghost use Rattle.rz_bridge_form.specs.Forms.{form_word};
 ghost use Rattle.rz_list.specs.Held.{text_of, IsWhole};
 ghost use Rattle.rz_list.specs.Parts.{fork_fact, shown_name};
 ghost use Rattle.rz_list.specs.Puts.{PutsText};
-ghost use Rattle.rz_list.specs.Text.{carried_facts, fact, file_text, form_word, resource_line};
+ghost use Rattle.rz_list.specs.Text.{carried_facts, fact, file_text, resource_line};
 
 use crate::facts::{after_name, before_name, number_fact};
 use crate::put::{Failed, put_bytes, put_line, put_shown};

@@ -1,12 +1,12 @@
 //! The reader of the tokens of a store, from the first on. What it gives is in `specs/Reader`.
 
-ghost use Rattle.std.specs.Prelude.{◌≡◌, ◌↔◌, ◌≤◌, [], length, IsTrue, IfOk, OnErr};
+ghost use Rattle.std.specs.Prelude.{◌≡◌, ◌↔◌, [], length, IsTrue, IfOk, OnErr};
 ghost use Rattle.rz_pre_tokens.specs.Reader.{GivesFirst};
 ghost use Rattle.rz_pre_tokens.specs.Store.{size_of_all, tokens_of};
 
-use crate::piece::{Kind, Piece, mark_of, shape_of, size_of};
+use crate::piece::{Piece, mark_of, shape_of, size_of};
 use rz_core::NoMemory;
-use rz_lex::{Sign, Token};
+use rz_lex::Token;
 use std::alloc::Global;
 use std::marker::Model;
 
@@ -57,20 +57,6 @@ impl TokenReader {
         ensures { IsTrue result ↔ (self.now ≡ []) }
     {
         self.pieces.is_empty()
-    }
-
-    /// How many tokens stand up to the first `;`, with it, or are left where there is none: the room that a statement
-    /// takes first, so that its list seldom grows.
-    pub fn room(&self) -> usize
-        ensures { result ≤ length self.now }
-    {
-        for before in 0..self.pieces.len() {
-            let piece = self.pieces[self.pieces.len() - 1 - before];
-            if matches!(piece.kind, Kind::Sign(Sign::Semicolon)) {
-                return before + 1;
-            }
-        }
-        self.pieces.len()
     }
 
     /// The first of the tokens that are left, with a copy of its bytes; `None` exactly where none is left. The

@@ -91,8 +91,8 @@ ready_first hidden items outer-is is low =
 
 without_open : (list : OpenList) → IsWithout list → IsOpen list
 without_open list is = record {
-  fields = subst (λ (fields : List Field). IsSound (plain_body fields)) (sym is.fields) (tt, tt);
-  row = subst (λ (fields : List Field). IsSound (plain_body fields)) (sym is.row) (tt, tt);
+  fields = subst (λ (fields : List Field). IsSound (plain_body fields)) (sym is.fields) (tt, tt, tt);
+  row = subst (λ (fields : List Field). IsSound (plain_body fields)) (sym is.row) (tt, tt, tt);
   settled = (λ i. is_settled (plain_body (is.fields i)) (is.rows i));
 }
 

@@ -1,6 +1,6 @@
+pub mod Cased
 pub mod Examples
 pub mod Held
-pub mod Symbols
 pub mod Widths
 pub mod RowHeight
 pub mod Names

@@ -11,7 +11,8 @@ use Rattle.rz_types_fields.specs.declared.field.NumForm.TheVariants.{Bits, Boole
 use Rattle.rz_types.specs.Field.{case_and, field_and, no_cases, no_fields, Align, Array, Fill, Label, Number, PlainBody, PlainCases, PlainField, PlainNumber, Points, Switch, Text}
 use Rattle.rz_types.specs.Kept.{AreCasesKept, AreKept, IsKept, IsKeptWithin}
 use Rattle.rz_types.specs.Range.{is_between}
-use Rattle.rz_types.specs.Rules.{bad_width, may_be_width, unless}
+use Rattle.rz_types_fields.specs.Laid.{unless}
+use Rattle.rz_types.specs.Rules.{bad_width, may_be_width}
 use Rattle.rz_types.specs.Shape.{are_cases_shaped, are_shaped, body_depth, deepest_body, is_fixed_number, is_key_shaped, is_none_or, is_number_shaped, is_own_name, is_own_width, is_shaped, is_symbol_of, is_well_shaped}
 use Rattle.rz_types.specs.Walk.{and_names, around_names, names_of, Own}
 use Rattle.rz_show.specs.Printable.{HasWidth, HasWidths, HaveWidths, IsWidth}

@@ -3,6 +3,7 @@ use Rattle.std.specs.Prelude.{◌≡◌, ℕ, ◌+◌, min, ◌<◌, ◌≤◌, 
 use Rattle.std.specs.List.{AllByRecursion}
 use Rattle.rz_lex.specs.declared.sign.Sign.TheVariants as signs
 use Rattle.rz_types_fields.specs.declared.tree.Tree.{Tree}
+use Rattle.rz_types.specs.Cases.{AreNamesApart, AreNamesApartIn}
 use Rattle.rz_types.specs.Field.{field_and, no_fields, plain_body, plain_field, takes_value, PlainBody, PlainField}
 use Rattle.rz_show.specs.declared.entry.Entry.{Entry}
 use Rattle.rz_show.specs.declared.entry.Entry.TheVariants as entries
@@ -75,12 +76,12 @@ is_settled no_fields [] = true
 is_settled no_fields (row ∷ rows) = false
 is_settled (field_and field others) rows = takes_value field
 
--- widths and names of fields are such as may be
+-- widths and names of fields are such as may be, and the cases of each switch have different names
 abbrev pub IsSoundField : PlainField → Type 0
-IsSoundField field = HasWidth field × HasName field
+IsSoundField field = HasWidth field × HasName field × AreNamesApartIn field
 
 abbrev pub IsSound : PlainBody → Type 0
-IsSound body = HasWidths body × HasNames body
+IsSound body = HasWidths body × HasNames body × AreNamesApart body
 
 pub record IsOpen (list : OpenList) : Type 0 where
   pub fields : IsSound (plain_body list.fields.now)

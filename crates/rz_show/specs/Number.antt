@@ -1,8 +1,8 @@
 -- Numbers of rows as they are shown. (As MPW DeRez shows them.)
+pub use Rattle.rz_types_fields.specs.Symbols.{is_stored, symbol_for}
 use Rattle.std.specs.Prelude.{ℕ, ◌+◌, ◌/◌, ◌%◌, ◌==◌, ◌||◌, ℤ, pos, nat_abs, Bool, true, false, if◌then◌else◌, codes, List, [], ◌∷◌, Option, Some, None}
 use Rattle.rz_core.specs.Numbers.{be}
 use Rattle.rz_core.specs.declared.resource.Word.{Word}
-use Rattle.rz_expr.specs.Value.{reduced}
 use Rattle.rz_types_fields.specs.declared.field.NumForm.{NumForm}
 use Rattle.rz_types_fields.specs.declared.field.NumForm.TheVariants.{Boolean, Char}
 use Rattle.rz_types_fields.specs.declared.field.Radix.{Radix}
@@ -10,8 +10,6 @@ use Rattle.rz_types_fields.specs.declared.field.Radix.TheVariants.{Binary, Decim
 use Rattle.rz_types_fields.specs.declared.field.Symbol.{Symbol}
 use Rattle.rz_types.specs.Field.{PlainNumber}
 use Rattle.rz_types.specs.Shape.{is_empty}
-use Rattle.rz_types.specs.Stored.{stored_number}
-use Rattle.rz_types.specs.Value.{symbol_value}
 use Rattle.rz_show_lines.specs.Print.{by_name, in_binary, in_decimal, in_hex, in_literal, in_octal, in_text, signed_number, Single}
 
 -- By value.
@@ -57,17 +55,6 @@ abbrev pub by_value : PlainNumber → ℕ → Single
 by_value field number = by_form field.form field number
 
 -- By a symbol.
-
--- a value of a symbol, reduced to 32 bits as that of an expression is, is stored as the number
-abbrev pub is_stored : (width number : ℕ) → Option ℤ → Bool
-is_stored width number None = false
-is_stored width number (Some value) = stored_number width (reduced value) == number
-
--- the first of these symbols that, looked up among all by its name, gives the number
-abbrev pub symbol_for : (all : List Symbol) → (width number : ℕ) → List Symbol → Option Word
-symbol_for all width number [] = None
-symbol_for all width number (one ∷ symbols) =
-    if is_stored width number (symbol_value all one.name.bytes) then Some one.name else symbol_for all width number symbols
 
 -- a name, where there is one that is no live macro
 abbrev pub named_or : (hidden : List ℕ → Bool) → Option Word → Single → Single

@@ -204,9 +204,9 @@ impl<'a> ShowLines<'a> {
     /// last of its list is followed by a comma. A level is four blanks, and at most eight show. A number is shown by the
     /// first of its symbols that gives it, unless that is a live macro, and else by its value. Fields that take no value
     /// show nothing. Every row can be shown, and no memory is taken; what is read back is a matter of the row, and of
-    /// the live macros, which are hidden. Its time is in proportion to the fields of each row that is walked, the cases
-    /// of each switch and the text, and grows with the square of the symbols of one name in a field; a macro is looked
-    /// up only where a symbol is about to be shown. (MPW DeRez.)
+    /// the live macros, which are hidden. Its time is in proportion to the fields of each row that is walked and the
+    /// text; a case is looked up by its name, a symbol by the number, and a macro only where a symbol is about to be
+    /// shown. (MPW DeRez.)
     pub fn of_tree(
         facts: &'a Facts,
         fields: &'a [Field],

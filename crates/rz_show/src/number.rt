@@ -1,20 +1,18 @@
 //! Number fields as they are shown, by symbol or by value; changes with `specs/Number`.
 
-ghost use Rattle.std.specs.Prelude.{◌≡◌, ◌<◌, ◌≤◌, ◌/◌, nat_abs, length, option_map};
+ghost use Rattle.std.specs.Prelude.{◌≡◌, ◌<◌, ◌≤◌, ◌/◌, length, option_map};
 ghost use Rattle.std.specs.List.{AllByRecursion};
-ghost use Rattle.rz_show.specs.Number.{by_decimal, by_literal, by_radix, by_truth, by_value, is_literal_width, is_stored, number_shown, symbol_for};
+ghost use Rattle.rz_show.specs.Number.{by_decimal, by_literal, by_radix, by_truth, by_value, is_literal_width, number_shown};
 ghost use Rattle.rz_show_lines.specs.Print.{signed_number};
 ghost use Rattle.rz_show_lines.specs.Written.{IsName};
 ghost use Rattle.rz_show.specs.Printable.{IsWidth};
 ghost use Rattle.rz_show.specs.Hidden.{hides_in};
 ghost use Rattle.rz_show_lines.specs.Single.{single_of};
 ghost use Rattle.rz_types.specs.Field.{plain_number};
-ghost use Rattle.rz_types.specs.Value.{symbol_value};
 
 use crate::Hidden;
-use rz_core::Word;
 use rz_show_lines::{Single, signed_number};
-use rz_types::{NumField, NumForm, Radix, Symbol, stored_number};
+use rz_types::{NumField, NumForm, Radix, Symbol};
 
 /// How a number of a field is shown: by the first of its symbols that gives it, unless that is a live macro, and else by
 /// its value. No macro hides a symbol where none are given.
@@ -23,7 +21,7 @@ pub fn number_shown<'a>(field: &'a NumField, number: u32, hidden: Option<&Hidden
     requires names { AllByRecursion (λ symbol. IsName symbol.name.bytes) field.now.symbols }
     ensures { single_of result ≡ number_shown (hides_in (option_map (λ h. h.now) hidden.entry)) (plain_number field.now) number }
 {
-    if let Some(name) = symbol_for(field, field.symbols.as_slice(), number) {
+    if let Some(name) = field.symbols.name_for(field.width, number) {
         let name = name.bytes.as_slice();
         if !is_hidden(hidden, name) {
             return Single::Name(name);
@@ -39,51 +37,6 @@ fn is_hidden(hidden: Option<&Hidden>, name: &[u8]) -> bool
 {
     match hidden {
         Some(hidden) => hidden.has_short(name),
-        None => false,
-    }
-}
-
-/// The first of the symbols that, looked up by its name, gives a number. Only symbols whose own value is stored so are
-/// looked up.
-fn symbol_for<'a>(field: &NumField, symbols: &'a [Symbol], number: u32) -> Option<&'a Word>
-    ensures { option_map (λ name. name.now) result ≡ symbol_for symbols.now (nat_abs field.now.width) number symbols.now }
-{
-    for symbol in symbols {
-        if gives(field, symbol, number) {
-            let value = symbol_value(symbols, &symbol.name);
-            if is_stored(field, number, value) {
-                return Some(&symbol.name);
-            }
-        }
-    }
-    None
-}
-
-/// The value of the first symbol of a name, in whatever case.
-fn symbol_value(symbols: &[Symbol], name: &Word) -> Option<i32>
-    ensures { result ≡ symbol_value symbols.now name.now.bytes }
-{
-    for symbol in symbols {
-        if symbol.name.is(name.bytes.as_slice()) {
-            return Some(symbol.value);
-        }
-    }
-    None
-}
-
-/// Whether the own value of a symbol is stored as a number.
-fn gives(field: &NumField, symbol: &Symbol, number: u32) -> bool
-    ensures { result ≡ is_stored (nat_abs field.now.width) number (Some symbol.now.value) }
-{
-    is_stored(field, number, Some(symbol.value))
-}
-
-/// Whether a value of a symbol is stored as a number.
-fn is_stored(field: &NumField, number: u32, value: Option<i32>) -> bool
-    ensures { result ≡ is_stored (nat_abs field.now.width) number value }
-{
-    match value {
-        Some(value) => stored_number(field.width, value) == number,
         None => false,
     }
 }

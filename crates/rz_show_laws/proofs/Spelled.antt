@@ -17,8 +17,9 @@ use Rattle.rz_types_fields.specs.Laid.{first_value, line_in, other_values, rows_
 use Rattle.rz_types_fields.specs.Row.{By}
 use Rattle.rz_types_fields.specs.RowLabels.{row_of}
 use Rattle.rz_types_fields.specs.Sees.{sees, Late}
-use Rattle.rz_types_fields.specs.Spells.{is_case, put, AreBytes, BodySpells, CaseSpells, FieldSpells, Inside, IsGrouped, IsNumber, IsPlainText, IsSize, IsText, RowsSpell, Spells, When}
+use Rattle.rz_types_fields.specs.Spells.{anyhow, is_case, plainly, put, AreBytes, BodySpells, CaseSpells, FieldSpells, Inside, IsGrouped, IsNumber, IsPlainText, IsPlainValue, IsSize, IsText, Manner, RowsSpell, Spells, SpellsPlainly}
 use Rattle.rz_types.specs.Field.{case_and, field_and, no_cases, no_fields, takes_value, Align, Array, Fill, Label, Number, PlainBody, PlainCases, PlainField, PlainText, Points, Switch, Text}
+use Rattle.rz_types_fields.specs.Piece.{OneText}
 use Rattle.rz_types.specs.Passed.{at_field, at_front, behind, nothing_passed, Passed}
 use Rattle.rz_types.specs.Stored.{is_too_long}
 use Rattle.rz_types.specs.Text.{PlainPart}
@@ -61,14 +62,15 @@ either_short false A B C D one other is = other is
 alone : (value other : Option Tree) (rest : List Tree) → option_to_list value ≡ put other rest → rest ≡ [] → value ≡ other
 alone value other rest is none = one_value value other (is ∙ ap (put other) none)
 
-module _ (plain : Bool) where
-  has_number : (passed : Passed) (form : NumForm) (width : ℤ) (fixed : Option Term) (sight : Sight) (value : Option Tree) (bits : List Bool) → IsNumber plain passed form width fixed sight value bits
+-- in a manner that may ask for plain texts
+module _ (Plain : Type 0) (how : Manner) (leads : Plain → (passed : Passed) (text : PlainText) (sight : Sight) (value : Option Tree) → how passed (OneText text) sight value → IsPlainValue text sight value) where
+  has_number : (form : NumForm) (width : ℤ) (fixed : Option Term) (sight : Sight) (value : Option Tree) (bits : List Bool) → IsNumber form width fixed sight value bits
       → Has (is_none fixed) value
-  has_number passed form width None sight value bits is = (trees.Number is.0, is.1)
-  has_number passed form width (Some term) sight value bits is = is.1
+  has_number form width None sight value bits is = (trees.Number is.0, is.1)
+  has_number form width (Some term) sight value bits is = is.1
 
-  has_text : (form : TextForm) (known : Facts) (sight : Sight) (fixed : Option (List PlainPart)) (size : Option ℕ) (value : Option Tree) (bytes : List ℕ) → AreBytes plain form known sight fixed size value bytes → Has (is_none fixed) value
-  has_text form known sight None size value bytes are = (trees.Text bytes, are.0)
+  has_text : (form : TextForm) (known : Facts) (sight : Sight) (fixed : Option (List PlainPart)) (size : Option ℕ) (value : Option Tree) (bytes : List ℕ) → AreBytes known sight fixed value bytes → Has (is_none fixed) value
+  has_text form known sight None size value bytes are = (trees.Text bytes, are)
   has_text form known sight (Some parts) size value bytes are = are.0
 
   -- no form is too long without bytes
@@ -78,41 +80,41 @@ module _ (plain : Bool) where
   none_short forms.WordLong = refl
   none_short forms.Zero = refl
 
-  bytes_short : (form : TextForm) (known : Facts) (sight : Sight) (fixed : Option (List PlainPart)) (size : Option ℕ) (value : Option Tree) (bytes : List ℕ) → AreBytes plain form known sight fixed size value bytes
+  bytes_short : (form : TextForm) (known : Facts) (sight : Sight) (fixed : Option (List PlainPart)) (size : Option ℕ) (value : Option Tree) (bytes : List ℕ) → AreBytes known sight fixed value bytes
       → is_too_long form None (length bytes) ≡ false → is_too_long form None (length (text_in value)) ≡ false
   bytes_short form known sight None size value bytes are short =
-      ap (λ (o : Option Tree). is_too_long form None (length (text_in o))) are.0 ∙ ap (λ (bs : List ℕ). is_too_long form None (length bs)) (text_is bytes) ∙ short
+      ap (λ (o : Option Tree). is_too_long form None (length (text_in o))) are ∙ ap (λ (bs : List ℕ). is_too_long form None (length bs)) (text_is bytes) ∙ short
   bytes_short form known sight (Some parts) size value bytes are short = ap (λ (o : Option Tree). is_too_long form None (length (text_in o))) are.0 ∙ none_short form
 
   size_short : (form : TextForm) (known : Facts) (sight : Sight) (fixed : Option (List PlainPart)) (term : Option Term) (size : Option ℕ) (value : Option Tree) (bytes : List ℕ)
-      → IsSize form sight term size → AreBytes plain form known sight fixed size value bytes → is_too_long form size (length bytes) ≡ false
+      → IsSize form sight term size → AreBytes known sight fixed value bytes → is_too_long form size (length bytes) ≡ false
       → (is_none term && is_too_long form None (length (text_in value))) ≡ false
   size_short form known sight fixed None size value bytes is are short =
       bytes_short form known sight fixed size value bytes are (subst (λ (o : Option ℕ). is_too_long form o (length bytes) ≡ false) is short)
   size_short form known sight fixed (Some term) size value bytes is are short = refl
 
-  text_short : (text : PlainText) (known : Facts) (sight : Sight) (value : Option Tree) (bits : List Bool) → IsText plain text known sight value bits → exceeds text (text_in value) ≡ false
+  text_short : (text : PlainText) (known : Facts) (sight : Sight) (value : Option Tree) (bits : List Bool) → IsText text known sight value bits → exceeds text (text_in value) ≡ false
   text_short text known sight value bits is = size_short text.form known sight text.fixed text.size is.size value is.bytes is.has_size is.are_bytes is.short
 
-  bytes_plain : (form : TextForm) (known : Facts) (sight : Sight) (fixed : Option (List PlainPart)) (size : Option ℕ) (value : Option Tree) (bytes : List ℕ) → AreBytes plain form known sight fixed size value bytes → plain ≡ true
+  bytes_plain : (form : TextForm) (known : Facts) (sight : Sight) (fixed : Option (List PlainPart)) (size : Option ℕ) (value : Option Tree) (bytes : List ℕ) → AreBytes known sight fixed value bytes
+      → (value ≡ Some (trees.Text bytes) → IsPlainText form size bytes)
       → printed.AreBytes (text_in value)
-  bytes_plain form known sight None size value bytes are is =
-      let so : IsPlainText form size bytes = subst (λ (b : Bool). When b (IsPlainText form size bytes)) is are.1 in
-      subst (λ (o : Option Tree). printed.AreBytes (text_in o)) (sym are.0) (subst printed.AreBytes (sym (text_is bytes)) so.0)
-  bytes_plain form known sight (Some parts) size value bytes are is = subst (λ (o : Option Tree). printed.AreBytes (text_in o)) (sym are.0) tt
+  bytes_plain form known sight None size value bytes are plain =
+      subst (λ (o : Option Tree). printed.AreBytes (text_in o)) (sym are) (subst printed.AreBytes (sym (text_is bytes)) (plain are).0)
+  bytes_plain form known sight (Some parts) size value bytes are plain = subst (λ (o : Option Tree). printed.AreBytes (text_in o)) (sym are.0) tt
 
   -- what is said of a value, and of a row
   record Fine (field : PlainField) (value : Option Tree) : Type 0 where
     short : IsShortText field value
-    bytes : plain ≡ true → IsOfBytes field value
+    bytes : Plain → IsOfBytes field value
 
   record CasesFine (cases : PlainCases) (value : Option Tree) : Type 0 where
     short : IsShortCase cases value
-    bytes : plain ≡ true → IsCaseOfBytes cases value
+    bytes : Plain → IsCaseOfBytes cases value
 
   record RowFine (body : PlainBody) (row : List Tree) : Type 0 where
     short : AreShortTexts body row
-    bytes : plain ≡ true → AreOfBytes body row
+    bytes : Plain → AreOfBytes body row
 
   rows_fine : (name : Option Word) (count : Option ℤ) (row : PlainBody) (rows : List (List Tree)) (value : Option Tree) → rows_in value ≡ rows → AllByRecursion (RowFine row) rows → Fine (Array name count row) value
   rows_fine name count row rows value is all = record {
@@ -133,17 +135,17 @@ module _ (plain : Bool) where
 
   module _ (known : Facts) (all : List Bool) where
     has_case : (cases : PlainCases) (names : Environment) (passed : Passed) (value : Option Tree) (at : ℕ) (late : Late) (after : ℕ) (late_after : Late)
-        → CaseSpells plain known all cases names passed value at late after late_after → Has true value
+        → CaseSpells how known all cases names passed value at late after late_after → Has true value
     has_case no_cases names passed value at late after late_after is = absurd is
     has_case (case_and name row others) names passed value at late after late_after is =
-        either_way (is_case name value) _ (CaseSpells plain known all others names passed value at late after late_after) (Has true value)
+        either_way (is_case name value) _ (CaseSpells how known all others names passed value at late after late_after) (Has true value)
         (λ one. (trees.Choice name one.0, one.1)) (λ other. has_case others names passed value at late after late_after other) is
 
     has_value : (field : PlainField) (names : Environment) (passed : Passed) (value : Option Tree) (at : ℕ) (late : Late) (after : ℕ) (late_after : Late)
-        → FieldSpells plain known all field names passed value at late after late_after → Has (takes_value field) value
+        → FieldSpells how known all field names passed value at late after late_after → Has (takes_value field) value
     has_value (Number number) names passed value at late after late_after spells =
         let it = spells.1 in
-        subst (Has (is_none number.fixed)) (sym (alone value it.0 it.1 it.4 it.6.0)) (has_number passed number.form number.width number.fixed (sees known all names at) it.0 it.5.bits it.5.stored)
+        subst (Has (is_none number.fixed)) (sym (alone value it.0 it.1 it.4 it.6.0)) (has_number number.form number.width number.fixed (sees known all names at) it.0 it.5.bits it.5.stored)
     has_value (Text text) names passed value at late after late_after spells =
         let it = spells.1 in
         subst (Has (is_none text.fixed)) (sym (alone value it.0 it.1 it.4 it.6.0)) (has_text text.form known (sees known all names at) text.fixed it.5.stored.size it.0 it.5.stored.bytes it.5.stored.are_bytes)
@@ -163,7 +165,7 @@ module _ (plain : Bool) where
 
     mutual
       field_fine : (field : PlainField) (names : Environment) (passed : Passed) (value : Option Tree) (at : ℕ) (late : Late) (after : ℕ) (late_after : Late)
-          → FieldSpells plain known all field names passed value at late after late_after → Fine field value
+          → FieldSpells how known all field names passed value at late after late_after → Fine field value
       field_fine (Number number) names passed value at late after late_after spells = record { short = tt; bytes = λ so. tt }
       field_fine (Text text) names passed value at late after late_after spells =
           let it = spells.1 in
@@ -171,7 +173,8 @@ module _ (plain : Bool) where
           let stored = it.5.stored in
           record {
             short = subst (λ (o : Option Tree). exceeds text (text_in o) ≡ false) same (text_short text known (sees known all names at) it.0 it.5.bits stored);
-            bytes = λ so. subst (λ (o : Option Tree). printed.AreBytes (text_in o)) same (bytes_plain text.form known (sees known all names at) text.fixed stored.size it.0 stored.bytes stored.are_bytes so);
+            bytes = λ so. subst (λ (o : Option Tree). printed.AreBytes (text_in o)) same (bytes_plain text.form known (sees known all names at) text.fixed stored.size it.0 stored.bytes stored.are_bytes
+                (leads so passed text (sees known all names at) it.0 it.5.manner stored.size stored.bytes stored.has_size));
           }
       field_fine (Points points) names passed value at late after late_after spells = record { short = tt; bytes = λ so. tt }
       field_fine (Fill unit count) names passed value at late after late_after spells = record { short = tt; bytes = λ so. tt }
@@ -179,21 +182,21 @@ module _ (plain : Bool) where
       field_fine (Label name) names passed value at late after late_after spells = record { short = tt; bytes = λ so. tt }
       field_fine (Array name count row) names passed value at late after late_after (rows, is, stated, counted, are_rows, spells) =
           rows_fine name count row rows value (ap rows_in is ∙ rows_are rows)
-          (rows_short (RowFine row) (λ number line. Inside row (row_of name number) names (λ own. BodySpells plain known all row own (at_front row passed) line))
+          (rows_short (RowFine row) (λ number line. Inside row (row_of name number) names (λ own. BodySpells how known all row own (at_front row passed) line))
           (λ number line from late_from to late_to one. body_fine row one.0 (at_front row passed) line from late_from to late_to one.2) 1 rows at late after late_after spells)
       field_fine (Switch cases) names passed value at late after late_after spells =
           let it = cases_fine cases names passed value at late after late_after spells in record { short = it.short; bytes = it.bytes }
 
       cases_fine : (cases : PlainCases) (names : Environment) (passed : Passed) (value : Option Tree) (at : ℕ) (late : Late) (after : ℕ) (late_after : Late)
-          → CaseSpells plain known all cases names passed value at late after late_after → CasesFine cases value
+          → CaseSpells how known all cases names passed value at late after late_after → CasesFine cases value
       cases_fine no_cases names passed value at late after late_after spells = record { short = tt; bytes = λ so. tt }
       cases_fine (case_and name row others) names passed value at late after late_after spells =
-          either_fine name row others value _ (CaseSpells plain known all others names passed value at late after late_after)
+          either_fine name row others value _ (CaseSpells how known all others names passed value at late after late_after)
           (λ one. subst (RowFine row) (sym (ap line_in one.1 ∙ line_is name one.0)) (body_fine row one.2.0 (at_front row passed) one.0 at late after late_after one.2.2))
           (λ other. cases_fine others names passed value at late after late_after other) spells
 
       body_fine : (body : PlainBody) (names : Environment) (passed : Passed) (values : List Tree) (at : ℕ) (late : Late) (after : ℕ) (late_after : Late)
-          → BodySpells plain known all body names passed values at late after late_after → RowFine body values
+          → BodySpells how known all body names passed values at late after late_after → RowFine body values
       body_fine no_fields names passed values at late after late_after spells = record { short = tt; bytes = λ so. tt }
       body_fine (field_and field fields) names passed values at late after late_after (value, rest, mid, late_mid, are, one, others) =
           let front = at_field (field_and field fields) passed in
@@ -207,8 +210,17 @@ module _ (plain : Bool) where
             bytes = λ so. (subst (IsOfBytes field) (sym here) (first.bytes so), subst (AreOfBytes fields) (sym left) (more.bytes so));
           }
 
-pub spelled_short : (plain : Bool) (known : Facts) (body : PlainBody) (row : List Tree) (bytes : List ℕ) → Spells plain known body row bytes → AreShortTexts body row
-spelled_short plain known body row bytes spells = (body_fine plain known _ body spells.names (at_front body nothing_passed) row 0 [] spells.end spells.late spells.fields).short
+pub spelled_short : (known : Facts) (body : PlainBody) (row : List Tree) (bytes : List ℕ) → Spells known body row bytes → AreShortTexts body row
+spelled_short known body row bytes spells =
+    (body_fine ⊥ anyhow (λ none passed text sight value is. absurd none) known _ body spells.names (at_front body nothing_passed) row 0 [] spells.end spells.late spells.fields).short
 
-pub spelled_bytes : (known : Facts) (body : PlainBody) (row : List Tree) (bytes : List ℕ) → Spells true known body row bytes → AreOfBytes body row
-spelled_bytes known body row bytes spells = (body_fine true known _ body spells.names (at_front body nothing_passed) row 0 [] spells.end spells.late spells.fields).bytes refl
+plain_fine : (known : Facts) (body : PlainBody) (row : List Tree) (bytes : List ℕ) → SpellsPlainly known body row bytes → RowFine (Unit {0}) plainly (λ so passed text sight value is. is) body row
+plain_fine known body row bytes plain =
+    let spells = plain.spelling in
+    body_fine (Unit {0}) plainly (λ so passed text sight value is. is) known _ body spells.names (at_front body nothing_passed) row 0 [] spells.end spells.late spells.fields
+
+pub plain_short : (known : Facts) (body : PlainBody) (row : List Tree) (bytes : List ℕ) → SpellsPlainly known body row bytes → AreShortTexts body row
+plain_short known body row bytes plain = (plain_fine known body row bytes plain).short
+
+pub spelled_bytes : (known : Facts) (body : PlainBody) (row : List Tree) (bytes : List ℕ) → SpellsPlainly known body row bytes → AreOfBytes body row
+spelled_bytes known body row bytes plain = (plain_fine known body row bytes plain).bytes tt

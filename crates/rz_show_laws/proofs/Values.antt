@@ -17,7 +17,7 @@ use Rattle.rz_expr.specs.Environment.{predefined}
 use Rattle.rz_expr.specs.Grammar.{bytes_number}
 use Rattle.rz_expr.specs.Term.{Constant, Named, Term}
 use Rattle.rz_expr.specs.Value.{known_value, reduced}
-use Rattle.rz_types_fields.proofs.Symbols.{as_symbol}
+use Rattle.rz_types_fields.proofs.SymbolNames.{as_symbol}
 use Rattle.rz_types_fields.specs.Text as parts
 use Rattle.rz_types_fields.specs.declared.field.NumForm.{NumForm}
 use Rattle.rz_types_fields.specs.declared.field.NumForm.TheVariants.{Bits, Boolean, Byte, Char, Integer, Longint}

@@ -16,7 +16,7 @@ ghost use Rattle.rz_show_laws.specs.Short.{AreShortTexts};
 ghost use Rattle.rz_show.specs.Showing.{showings_text, Showing};
 ghost use Rattle.rz_show_laws.specs.Showable.{CanBeShown};
 ghost use Rattle.rz_show_laws.specs.Statement.{IsPrintedAs};
-ghost use Rattle.rz_types_fields.specs.Spells.{Spells};
+ghost use Rattle.rz_types_fields.specs.Spells.{Spells, SpellsPlainly};
 
 use rz_lex::lines_of_page;
 use rz_show_lines_laws::{printed_line, printed_lines, printed_page};
@@ -53,8 +53,10 @@ pub fn shown_text()
 /// A law, with nothing to run: of a row that spells bytes no text without a size is longer than its length can say; and
 /// of one that spells them plainly the texts are bytes.
 pub fn spelled_texts()
-    ensures short { (plain : Bool) (known : Facts) (body : PlainBody) (row : List Tree) (bytes : List ℕ) → Spells plain known body row bytes
+    ensures short { (known : Facts) (body : PlainBody) (row : List Tree) (bytes : List ℕ) → Spells known body row bytes
         → AreShortTexts body row }
-    ensures bytes { (known : Facts) (body : PlainBody) (row : List Tree) (bytes : List ℕ) → Spells true known body row bytes
+    ensures plain_short { (known : Facts) (body : PlainBody) (row : List Tree) (bytes : List ℕ) → SpellsPlainly known body row bytes
+        → AreShortTexts body row }
+    ensures bytes { (known : Facts) (body : PlainBody) (row : List Tree) (bytes : List ℕ) → SpellsPlainly known body row bytes
         → AreOfBytes body row }
 {}

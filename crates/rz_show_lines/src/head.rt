@@ -1,7 +1,7 @@
 //! The parts of a header: its word, type and id, and its attributes; changes with `specs/Head`.
 #![tactic(auto, using(crate::proofs::Writes::writes))]
 
-ghost use Rattle.std.specs.Prelude.{◌≡◌, ◌==◌, ◌++◌, ◌/◌, ◌%◌};
+ghost use Rattle.std.specs.Prelude.{◌≡◌, ◌++◌};
 ghost use Rattle.rz_show_lines.specs.Cut.{cut};
 ghost use Rattle.rz_show_lines.specs.Head.{attr_written, head_front, word_written};
 ghost use Rattle.rz_show_lines.specs.Written.{line_text};

@@ -11,6 +11,9 @@ use rz_pre_tokens::TokenReader;
 use rz_stmt_brackets::{all_tokens_are_statements, is_end, one_cutting, open_behind};
 use std::alloc::Global;
 
+/// The tokens for which a statement has room before it grows.
+const FIRST_ROOM: usize = 16;
+
 /// The first statement of the tokens that are left: all of them up to the first `;` that stands outside all
 /// brackets, or without such a `;` all of them. `None` exactly where none is left. The tokens after it are left
 /// then. Where memory is refused some tokens may be lost. (MPW Rez.)
@@ -21,7 +24,7 @@ pub fn next_statement(alloc: Global, reader: &mut TokenReader) -> Result<Option<
 {
     one_cutting();
     all_tokens_are_statements();
-    let mut tokens = Tokens::with_capacity(alloc, reader.room())?;
+    let mut tokens = Tokens::with_capacity(alloc, FIRST_ROOM)?;
     let mut depth = 0;
     while let Some(token) = reader.next(alloc)? {
         tokens.push(token)?;

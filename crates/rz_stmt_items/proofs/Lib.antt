@@ -1,3 +1,4 @@
+pub mod Cased
 pub mod Alone
 pub mod Mirror
 pub mod First

@@ -14,7 +14,7 @@ use Rattle.rz_stmt_items.specs.Fits.{exceeds, is_char, list_of}
 use Rattle.rz_stmt_items.specs.Unfit.{mark_of, no_case, other_count, out_of_range, too_few, too_long, too_many, wrong_kind}
 use Rattle.rz_types_fields.specs.declared.tree.Tree.{Tree}
 use Rattle.rz_types_fields.specs.declared.tree.Tree.TheVariants as trees
-use Rattle.rz_types.specs.Field.{takes_value, PlainBody, PlainCases, PlainField, PlainNumber, PlainText}
+use Rattle.rz_types.specs.Field.{takes_value, PlainBody, PlainCase, PlainCases, PlainField, PlainNumber, PlainText}
 use Rattle.rz_types.specs.Field as fields
 use Rattle.rz_types.specs.Range.{fits_number}
 use Rattle.rz_types.specs.Shape.{numbers_of}
@@ -156,3 +156,7 @@ abbrev mutual
 -- the row of the items of a statement at this place
 abbrev pub matched : Facts → Mark → PlainBody → List PlainItem → Result (List Tree) Fault
 matched known place body items = whole_matched (row_matched known body place items) items
+
+-- the choice of a case, and the row of its items at this place
+abbrev pub choice_matched : Facts → Mark → PlainCase → List PlainItem → Result Tree Fault
+choice_matched known place one items = matched known place one.row items >>= choice one.name

@@ -9,10 +9,13 @@ ghost use Rattle.rz_core.specs.declared.fault.Fault.{Fault as fault};
 ghost use Rattle.rz_stmt_items.specs.Item.{plain_item, plain_items};
 ghost use Rattle.rz_stmt_items.specs.Places.{AreItemsWithin};
 ghost use Rattle.rz_stmt_items.specs.Match.{IsMatch};
-ghost use Rattle.rz_stmt_items.specs.Matched.{case_matched, counted, item_for, matched, row_matched, rows_matched};
+ghost use Rattle.rz_stmt_items.specs.Matched.{case_matched, choice_matched, counted, item_for, matched, row_matched, rows_matched};
 ghost use Rattle.rz_types_fields.specs.declared.tree.Tree.{Tree as tree};
 ghost use Rattle.rz_types_fields.specs.Row.{IsRow};
-ghost use Rattle.rz_types.specs.Field.{plain_array, plain_body, plain_cases, plain_field, Switch};
+ghost use Rattle.rz_types.specs.Cases.{AreNamesApart, AreNamesApartIn, AreNamesApartWithin};
+ghost use Rattle.rz_types.specs.Field.{plain_array, plain_body, plain_case, plain_cases, plain_field, Switch};
+ghost use Rattle.rz_types.specs.Kept.{Differ};
+ghost use Rattle.rz_types.specs.Rules.{case_names};
 ghost use Rattle.rz_types.specs.Template.{template_of};
 
 use crate::fault::{mark_of, no_case, other_count, too_few, too_many, wrong_kind};
@@ -21,7 +24,9 @@ use crate::number::number_for;
 use crate::text::text_for;
 use crate::{Item, Items};
 use rz_core::{Facts, Fault, Mark, Stop, Word};
-use rz_types::{ArrayField, Case, Field, Template, rules_hold_within, takes_value};
+use rz_types::{
+    ArrayField, Case, CaseHints, Field, Template, case_named, rules_hold_within, takes_value,
+};
 use rz_types_fields::{Row, RowList, Tree};
 use std::alloc::Global;
 
@@ -79,6 +84,7 @@ fn match_all(
     place: Mark,
     facts: &Facts,
 ) -> Result<Row, Stop<Fault>>
+    requires { AreNamesApart (plain_body fields.now) }
     ensures { Gives (matched facts.now place (plain_body fields.now) (plain_items items.now)) result }
 {
     let line = match match_row(alloc, fields, items, 0, place, facts) {
@@ -102,6 +108,7 @@ fn match_row(
     place: Mark,
     facts: &Facts,
 ) -> Result<Line, Stop<Fault>>
+    requires { AreNamesApart (plain_body fields.now) }
     ensures { Gives (row_matched facts.now (plain_body fields.now) place (plain_items items.now) before (plain_items (drop before items.now))) (seen (line_of items.now) result) }
 {
     let mut row = Row::with_capacity(alloc, values_of(fields))?;
@@ -141,7 +148,8 @@ fn item_for(
     position: u64,
     facts: &Facts,
 ) -> Result<Tree, Stop<Fault>>
-    requires { position < 2 ^ 63 }
+    requires position { position < 2 ^ 63 }
+    requires apart { AreNamesApartIn (plain_field field.now) }
     ensures { Gives (item_for facts.now (plain_field field.now) position (plain_item item.now)) result }
 {
     match field {
@@ -154,7 +162,9 @@ fn item_for(
             Err(wrong_kind(position, mark_of(item)))
         }
         Field::Array(array) => array_for(alloc, array, item, position, facts),
-        Field::Switch(cases) => choice_for(alloc, cases.as_slice(), item, position, facts),
+        Field::Switch(cases, hints) => {
+            choice_for(alloc, cases.as_slice(), hints, item, position, facts)
+        }
     }
 }
 
@@ -167,7 +177,8 @@ fn array_for(
     position: u64,
     facts: &Facts,
 ) -> Result<Tree, Stop<Fault>>
-    requires { position < 2 ^ 63 }
+    requires position { position < 2 ^ 63 }
+    requires apart { AreNamesApartIn (plain_array array.now) }
     ensures { Gives (item_for facts.now (plain_array array.now) position (plain_item item.now)) result }
 {
     match item {
@@ -202,6 +213,7 @@ fn rows_for(
     place: Mark,
     facts: &Facts,
 ) -> Result<RowList, Stop<Fault>>
+    requires { AreNamesApart (plain_body fields.now) }
     ensures { Gives (rows_matched (row_matched facts.now (plain_body fields.now) place (plain_items items.now)) (length items.now) 0 (plain_items items.now)) result }
 {
     let mut rows = RowList::new(alloc);
@@ -227,16 +239,19 @@ fn rows_for(
 fn choice_for(
     alloc: Global,
     cases: &[Case],
+    hints: &CaseHints,
     item: &Item,
     position: u64,
     facts: &Facts,
 ) -> Result<Tree, Stop<Fault>>
-    requires { position < 2 ^ 63 }
+    requires position { position < 2 ^ 63 }
+    requires differ { Differ (case_names (plain_cases cases.now)) }
+    requires apart { AreNamesApartWithin (plain_cases cases.now) }
     ensures { Gives (item_for facts.now (Switch (plain_cases cases.now)) position (plain_item item.now)) result }
 {
     match item {
         Item::Named(name, items, mark) => {
-            case_for(alloc, cases, name, items.as_slice(), *mark, facts)
+            case_for(alloc, cases, hints, name, items.as_slice(), *mark, facts)
         }
         _ => Err(wrong_kind(position, mark_of(item))),
     }
@@ -247,20 +262,36 @@ fn choice_for(
 fn case_for(
     alloc: Global,
     cases: &[Case],
+    hints: &CaseHints,
     name: &Word,
     items: &[Item],
     mark: Mark,
     facts: &Facts,
 ) -> Result<Tree, Stop<Fault>>
+    requires differ { Differ (case_names (plain_cases cases.now)) }
+    requires apart { AreNamesApartWithin (plain_cases cases.now) }
     ensures { Gives (case_matched facts.now (plain_cases cases.now) mark name.now.bytes (plain_items items.now)) result }
 {
-    for case in cases {
-        if case.name.is(name.bytes.as_slice()) {
-            return match match_all(alloc, case.row.as_slice(), items, mark, facts) {
-                Ok(row) => Ok(Tree::Choice(case.name.copy(alloc)?, row)),
-                Err(stop) => Err(stop),
-            };
-        }
+    match case_named(cases, hints, name.bytes.as_slice()) {
+        Some(position) => row_for(alloc, &cases[position], items, mark, facts),
+        None => Err(Stop::Refused(no_case(alloc, mark, name)?)),
     }
-    Err(Stop::Refused(no_case(alloc, mark, name)?))
+}
+
+/// A case, and the row that the items are.
+#[cycle(matching)]
+fn row_for(
+    alloc: Global,
+    case: &Case,
+    items: &[Item],
+    mark: Mark,
+    facts: &Facts,
+) -> Result<Tree, Stop<Fault>>
+    requires { AreNamesApart (plain_case case.now).row }
+    ensures { Gives (choice_matched facts.now mark (plain_case case.now) (plain_items items.now)) result }
+{
+    match match_all(alloc, case.row.as_slice(), items, mark, facts) {
+        Ok(row) => Ok(Tree::Choice(case.name.copy(alloc)?, row)),
+        Err(stop) => Err(stop),
+    }
 }

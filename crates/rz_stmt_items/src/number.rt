@@ -61,7 +61,7 @@ fn expression_value(
 ) -> Result<i32, Stop<Fault>>
     ensures { Gives (expression_value facts.now (plain_number field.now) (term_of expr.now) mark) result }
 {
-    let value = symbol_number_of(alloc, expr, mark, facts, field.symbols.as_slice())?;
+    let value = symbol_number_of(alloc, expr, mark, facts, &field.symbols)?;
     in_range(field, mark, value)
 }
 

@@ -1,6 +1,6 @@
 //! The `change` statement; changes with `specs/Change`.
 
-ghost use Rattle.std.specs.Prelude.{◌≡◌, IfOk, option_map};
+ghost use Rattle.std.specs.Prelude.{IfOk, option_map};
 ghost use Rattle.rz_core.specs.Decided.{Decided};
 ghost use Rattle.rz_stmt_lists.specs.Change.{change_of, IsChange};
 

@@ -1,6 +1,6 @@
 //! The `delete` statement; changes with `specs/Delete`.
 
-ghost use Rattle.std.specs.Prelude.{◌≡◌, IfOk, option_map};
+ghost use Rattle.std.specs.Prelude.{IfOk, option_map};
 ghost use Rattle.rz_core.specs.Decided.{Decided};
 ghost use Rattle.rz_stmt_lists.specs.Delete.{delete_of, IsDelete};
 

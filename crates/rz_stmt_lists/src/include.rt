@@ -1,6 +1,6 @@
 //! The `include` statement, and which resources of its file it takes; changes with `specs/Include`.
 
-ghost use Rattle.std.specs.Prelude.{◌≡◌, IfOk, option_map};
+ghost use Rattle.std.specs.Prelude.{IfOk, option_map};
 ghost use Rattle.rz_core.specs.Decided.{Decided};
 ghost use Rattle.rz_stmt_lists.specs.Include.{include_of, part_of, IsInclude, IsPart};
 ghost use Rattle.rz_stmt_brackets.specs.Statements.{is_empty};

@@ -1,6 +1,6 @@
 //! Which resources of a type are meant: all, one id or a range of ids, or a name; changes with `specs/Pick`.
 
-ghost use Rattle.std.specs.Prelude.{◌≡◌, IfOk, List, map, option_map};
+ghost use Rattle.std.specs.Prelude.{◌≡◌, IfOk, map, option_map};
 ghost use Rattle.rz_core.specs.Decided.{Decided};
 ghost use Rattle.rz_stmt_lists.specs.Pick.{pick_of, picks_one, AreIds, IsIds, IsNamePick, IsPick, IsPicked};
 ghost use Rattle.rz_stmt_lists.specs.Steps.{AreTwoIds, IsOneId};

@@ -1,6 +1,6 @@
 //! The `read` statement; changes with `specs/Read`.
 
-ghost use Rattle.std.specs.Prelude.{◌≡◌, IfOk, option_map};
+ghost use Rattle.std.specs.Prelude.{IfOk, option_map};
 ghost use Rattle.rz_core.specs.Decided.{Decided};
 ghost use Rattle.rz_stmt_lists.specs.Read.{read_of, IsNamed, IsRead};
 

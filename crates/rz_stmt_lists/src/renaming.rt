@@ -1,6 +1,6 @@
 //! What chosen resources become: a type, and maybe a head; changes with `specs/Renaming`.
 
-ghost use Rattle.std.specs.Prelude.{◌≡◌, IfOk, option_map};
+ghost use Rattle.std.specs.Prelude.{IfOk, option_map};
 ghost use Rattle.rz_core.specs.Decided.{Decided};
 ghost use Rattle.rz_stmt_data.specs.Head.{head_of};
 ghost use Rattle.rz_stmt_lists.specs.Pick.{pick_of};

@@ -8,14 +8,14 @@ ghost use Rattle.rz_types_fields.specs.Field.{plain_array, plain_body, plain_cas
 ghost use Rattle.rz_stmt_type.specs.Constants.{body_value, case_value, cases_value, count_value, declare_of, declared, field_value, given_value, key_value, made_of, made_value, number_of_width, number_value, scope_value, two_value, width_value};
 ghost use Rattle.rz_stmt_fields.specs.Form.{array_form, body_form, boxed_term, case_form, cases_form, declare_form, field_form, made_form, number_form, scope_form, width_form};
 
-use crate::values::values_of;
+use crate::values::symbols_of;
 use rz_core::{Fault, Mark, OsType, Stop};
 use rz_expr::Expr;
 use rz_stmt_fields::{
     ArrayExpr, CaseExpr, CaseExprs, DeclareExpr, FieldExpr, FieldExprs, MadeExpr, NumberExpr,
     ScopeExpr, Width,
 };
-use rz_types_fields::{ArrayField, Body, Case, Cases, Field, NumField, constant_value};
+use rz_types_fields::{ArrayField, Body, Case, Cases, Field, NumField, constant_value, switch_of};
 use std::alloc::Global;
 
 /// The room of fewer fields isn't given back while others wait.
@@ -202,7 +202,7 @@ fn value_field(alloc: Global, mark: Mark, field: FieldExpr) -> Result<Field, Sto
             Err(stop) => Err(stop),
         },
         FieldExpr::Switch(cases) => match value_cases(alloc, mark, cases) {
-            Ok(cases) => Ok(Field::Switch(cases)),
+            Ok(cases) => Ok(switch_of(alloc, cases)?),
             Err(stop) => Err(stop),
         },
     }
@@ -340,7 +340,7 @@ fn make_number(
         fixed,
     } = number;
     drop(given);
-    let symbols = values_of(alloc, mark, form, width, names.as_slice());
+    let symbols = symbols_of(alloc, mark, form, width, names.as_slice());
     drop(names);
     match symbols {
         Ok(symbols) => Ok(NumField {

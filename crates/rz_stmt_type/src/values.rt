@@ -8,14 +8,14 @@ ghost use Rattle.rz_stmt_fields.specs.Form.{named_of};
 ghost use Rattle.rz_types_fields.specs.Range.{fits_number};
 ghost use Rattle.rz_stmt_type.specs.Values.{given_or, out_of_range, values_of};
 
-use rz_core::{Fault, Kept, Mark, Stop};
+use rz_core::{Fault, Kept, Listing, Mark, Stop};
 use rz_expr::Expr;
 use rz_stmt_fields::Named;
 use rz_types_fields::{NumForm, Symbol, Symbols, constant_value, fits_number};
 use std::alloc::Global;
 
-/// The symbols with their values, or the first fault among them.
-pub fn values_of(
+/// The symbols with their values, which are looked up by numbers of the width, or the first fault among them.
+pub fn symbols_of(
     alloc: Global,
     mark: Mark,
     form: NumForm,
@@ -24,7 +24,23 @@ pub fn values_of(
 ) -> Result<Symbols, Stop<Fault>>
     ensures { Gives (values_of (fits_number form width) mark (pos 0) (map named_of names.now)) result }
 {
-    let mut symbols = Symbols::new(alloc);
+    match values_of(alloc, mark, form, width, names) {
+        Ok(symbols) => Ok(Symbols::of(alloc, width, symbols)?),
+        Err(stop) => Err(stop),
+    }
+}
+
+/// The same, as a list.
+fn values_of(
+    alloc: Global,
+    mark: Mark,
+    form: NumForm,
+    width: i32,
+    names: &[Named],
+) -> Result<Listing<Symbol>, Stop<Fault>>
+    ensures { Gives (values_of (fits_number form width) mark (pos 0) (map named_of names.now)) result }
+{
+    let mut symbols = Listing::new(alloc);
     let mut next = 0;
     for named in names {
         let value = match given_or(alloc, mark, next, &named.value) {

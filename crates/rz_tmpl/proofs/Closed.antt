@@ -136,43 +136,34 @@ wide (suc left) k (list Uncounted row rest) kept inner value = no inner
 has_bits : (n : ℕ) → 8 ≤ n → (nat_le 1 n ≡ true) × (nat_le 8 n ≡ true)
 has_bits n is = (grind (arith, nat_tests), grind (arith, nat_tests))
 
--- No field is a label.
+-- Names.
 
-label_plain : (plain : Plain) (told : Names) → is_told_label (field_of plain) told ≡ false
-label_plain (Number size hex) told = refl
-label_plain Character told = refl
-label_plain TypeName told = refl
-label_plain Rectangle told = refl
-label_plain (Zeros size) told = refl
-label_plain (Aligned size) told = refl
-label_plain Pascal told = refl
-label_plain ZeroEnded told = refl
-label_plain Rest told = refl
+-- the field of an entry is no label, and gives no key a value
+pub nameless : (plain : Plain)
+    → ((told : Names) → is_told_label (field_of plain) told ≡ false) × ((key : Key) → is_label (field_of plain) key ≡ false) × ((key : Key) → gives_key (field_of plain) key ≡ false)
+nameless (Number size hex) = (λ told. refl, λ key. refl, λ key. refl)
+nameless Character = (λ told. refl, λ key. refl, λ key. refl)
+nameless TypeName = (λ told. refl, λ key. refl, λ key. refl)
+nameless Rectangle = (λ told. refl, λ key. refl, λ key. refl)
+nameless (Zeros size) = (λ told. refl, λ key. refl, λ key. refl)
+nameless (Aligned size) = (λ told. refl, λ key. refl, λ key. refl)
+nameless Pascal = (λ told. refl, λ key. refl, λ key. refl)
+nameless ZeroEnded = (λ told. refl, λ key. refl, λ key. refl)
+nameless Rest = (λ told. refl, λ key. refl, λ key. refl)
 
 pub no_label : (k : ℕ) (items : Items) (told : Names) → ends_at_label (body_from k items) told ≡ false
 no_label k none told = refl
 no_label k (one plain rest) told =
-    ap (λ (t : Bool). t || (is_some (fixed_width (field_of plain)) && ends_at_label (body_from k rest) told)) (label_plain plain told)
+    ap (λ (t : Bool). t || (is_some (fixed_width (field_of plain)) && ends_at_label (body_from k rest) told)) ((nameless plain).0 told)
     ∙ ap (λ (t : Bool). is_some (fixed_width (field_of plain)) && t) (no_label k rest told) ∙ and_false (is_some (fixed_width (field_of plain)))
 no_label k (count less rest) told = no_label k rest told
 no_label k (list Counted row rest) told = refl
 no_label k (list Uncounted row rest) told = refl
 
-pub near_plain : (plain : Plain) (key : Key) → is_label (field_of plain) key ≡ false
-near_plain (Number size hex) key = refl
-near_plain Character key = refl
-near_plain TypeName key = refl
-near_plain Rectangle key = refl
-near_plain (Zeros size) key = refl
-near_plain (Aligned size) key = refl
-near_plain Pascal key = refl
-near_plain ZeroEnded key = refl
-near_plain Rest key = refl
-
 pub no_near : (k : ℕ) (items : Items) (key : Key) → is_near (body_from k items) key ≡ false
 no_near k none key = refl
 no_near k (one plain rest) key =
-    ap (λ (t : Bool). t || (is_measured (field_of plain) && is_near (body_from k rest) key)) (near_plain plain key)
+    ap (λ (t : Bool). t || (is_measured (field_of plain) && is_near (body_from k rest) key)) ((nameless plain).1 key)
     ∙ ap (λ (t : Bool). is_measured (field_of plain) && t) (no_near k rest key) ∙ and_false (is_measured (field_of plain))
 no_near k (count less rest) key = no_near k rest key
 no_near k (list Counted row rest) key = refl
@@ -186,21 +177,10 @@ list_key n = count_key (list_name n).bytes
 pub same_list : (n : ℕ) → is_same_key (list_key n) (list_key n) ≡ true
 same_list n = key_itself (list_key n)
 
-pub gives_plain : (plain : Plain) (key : Key) → gives_key (field_of plain) key ≡ false
-gives_plain (Number size hex) key = refl
-gives_plain Character key = refl
-gives_plain TypeName key = refl
-gives_plain Rectangle key = refl
-gives_plain (Zeros size) key = refl
-gives_plain (Aligned size) key = refl
-gives_plain Pascal key = refl
-gives_plain ZeroEnded key = refl
-gives_plain Rest key = refl
-
 pub declared : (left k : ℕ) (items : Items) → is_kept left true items ≡ true → waits true items ≡ false → declares (body_from k items) (list_key (next_named k items)) ≡ true
 declared left k none kept ends = no_more ends
 declared left k (one plain rest) kept ends =
-    ap (λ (t : Bool). t || declares (body_from k rest) (list_key (next_named k rest))) (gives_plain plain (list_key (next_named k rest))) ∙ declared left k rest kept ends
+    ap (λ (t : Bool). t || declares (body_from k rest) (list_key (next_named k rest))) ((nameless plain).2 (list_key (next_named k rest))) ∙ declared left k rest kept ends
 declared left k (count less rest) kept ends = no kept
 declared zero k (list form row rest) kept ends = no kept
 declared (suc left) k (list Counted row rest) kept ends = or_left _ _ (or_left _ _ (same_list k))

@@ -1,5 +1,5 @@
 -- Places are told by the entries before them.
-use Rattle.std.proofs.Common.{◌≡◌, Bool, List, [], ◌∷◌, ◌++◌, Option, Some, refl, sym, ap, ◌∙◌}
+use Rattle.std.proofs.Common.{◌≡◌, List, [], ◌∷◌, ◌++◌, Option, Some, refl, sym, ap, ◌∙◌}
 use Rattle.std.specs.Prelude.{option_map, option_and_then}
 use Rattle.rz_tmpl_entries.specs.Items.{at, count, entries_before, entries_of, inside, list, none, one, Items, Place}
 use Rattle.rz_tmpl_entries.specs.Bodies.{append, behind}

@@ -1,5 +1,5 @@
 -- The place after an entry, and what the code keeps of a place.
-use Rattle.std.specs.Prelude.{◌≡◌, ℕ, ◌≤◌, ◌+◌, Bool, false, List, [], ◌∷◌, length, take, drop, Option, Some, None, option_map}
+use Rattle.std.specs.Prelude.{◌≡◌, ℕ, ◌≤◌, ◌+◌, false, List, [], ◌∷◌, length, take, drop, Option, Some, None, option_map}
 use Rattle.rz_tmpl_entries.specs.Cut.{entry_fault, next_fault, standing, Standing}
 use Rattle.rz_tmpl_entries.specs.Entry.{entry_of}
 use Rattle.rz_tmpl_entries.specs.Items.{at, count, has_value, innermost, inside, list, none, one, waiting_outside, waits, Items, Place}

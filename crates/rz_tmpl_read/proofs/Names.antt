@@ -4,7 +4,7 @@ use Rattle.std.specs.Prelude.{not, nat_lt, if◌then◌else◌, ◌&&◌, ◌||�
 use Rattle.std.proofs.lemmas.Bool.Decides.{nat_tests}
 use Rattle.rz_core.specs.declared.resource.Word.{Word}
 use Rattle.rz_expr.specs.Environment.{place_of, Key}
-use Rattle.rz_tmpl.proofs.Closed.{list_key, near_plain, no_near, same_list}
+use Rattle.rz_tmpl.proofs.Closed.{list_key, nameless, no_near, same_list}
 use Rattle.rz_tmpl.proofs.Kept.{listed, no, no_more}
 use Rattle.rz_tmpl.proofs.Names.{apart, untrue}
 use Rattle.rz_tmpl.specs.Body.{body_from, count_field, field_of, list_name, lists_of, next_named, rows_term}
@@ -51,7 +51,7 @@ no_row (Some row) n = by row.name
 pub unlabelled : (k : ℕ) (items : Items) (label : List ℕ) → has_label (body_from k items) label ≡ false
 unlabelled k none label = refl
 unlabelled k (one entry rest) label =
-    ap (λ (t : Bool). t || has_label (body_from k rest) label) (near_plain entry (place_of label)) ∙ unlabelled k rest label
+    ap (λ (t : Bool). t || has_label (body_from k rest) label) ((nameless entry).1 (place_of label)) ∙ unlabelled k rest label
 unlabelled k (count less rest) label = unlabelled k rest label
 unlabelled k (list Counted row rest) label = unlabelled (k + 1 + lists_of row) rest label
 unlabelled k (list Uncounted row rest) label = unlabelled (k + lists_of row) rest label

@@ -12,7 +12,7 @@ use Rattle.rz_bits.proofs.Bytes.{length-bits_of}
 use Rattle.rz_core.proofs.Lists.{all_append}
 use Rattle.rz_core.specs.Numbers.{be}
 use Rattle.rz_core.specs.declared.facts.Facts.{Facts}
-use Rattle.rz_expr.specs.Environment.{Environment}
+use Rattle.rz_expr.specs.Environment.{Environment, Sight}
 use Rattle.rz_tmpl.specs.Body.{bits_of as width_of, field_of, free, radix_of, text_of}
 use Rattle.rz_tmpl_entries.specs.declared.entry.Plain.{Plain}
 use Rattle.rz_tmpl_entries.specs.declared.entry.Plain.TheVariants as plain
@@ -25,7 +25,8 @@ use Rattle.rz_types_fields.specs.Field.{PlainField, PlainNumber}
 use Rattle.rz_types_fields.specs.Passed.{Passed}
 use Rattle.rz_types_fields.specs.Piece.{free_integer, Filler, OneNumber, OneText, Piece, Zeros}
 use Rattle.rz_types_fields.specs.Sees.{sees, Late}
-use Rattle.rz_types_fields.specs.Spells.{group_in, is_late_size, marks, numbers_of_group, put, FieldSpells, InOrder, IsStored, IsText, PieceSpells, RowSpells}
+use Rattle.rz_types_fields.specs.Laid.{text_in, text_of_tree}
+use Rattle.rz_types_fields.specs.Spells.{group_in, is_late_size, marks, numbers_of_group, plainly, put, FieldSpells, InOrder, IsPlainText, IsPlainValue, IsStored, IsText, PieceSpells, RowSpells}
 use Rattle.rz_types_fields.specs.Stored.{is_too_long, stored_text}
 use Rattle.rz_types_fields.specs.declared.field.NumForm.{NumForm}
 use Rattle.rz_types_fields.specs.declared.field.NumForm.TheVariants as forms
@@ -101,12 +102,22 @@ gap Byte place = omega arith
 gap Word place = omega arith
 gap Long place = omega arith
 
+-- texts that are one have the same bytes
+same_text : (one other : List ℕ) → ◌≡◌ {A = Option Tree} (Some (trees.Text one)) (Some (trees.Text other)) → one ≡ other
+same_text one other is = sym (ap text_of_tree (trees.outs-Text one)) ∙ ap text_in is ∙ ap text_of_tree (trees.outs-Text other)
+
+-- a text without a size is plain by its bytes
+plain_of : (form : TextForm) (hex : Bool) (sight : Sight) (value : Option Tree) (own : List ℕ) → value ≡ Some (trees.Text own) → IsPlainText form None own
+    → IsPlainValue (record { form = form; hex = hex; size = None; fixed = None }) sight value
+plain_of form hex sight value own is plain size bytes sized is_text =
+    subst (λ (o : Option ℕ). IsPlainText form o bytes) (sym sized) (subst (IsPlainText form None) (same_text own bytes (sym is ∙ is_text)) plain)
+
 module _ (known : Facts) (bytes : List ℕ) (small : AreSmall bytes) where
   abbrev Stands : Environment → Passed → Piece → Option Tree → RowSpells
-  Stands names passed piece value = PieceSpells true known (bits_of bytes) names passed piece value
+  Stands names passed piece value = PieceSpells plainly known (bits_of bytes) names passed piece value
 
   abbrev Field : PlainField → Environment → Passed → Option Tree → RowSpells
-  Field field names passed value = FieldSpells true known (bits_of bytes) field names passed value
+  Field field names passed value = FieldSpells plainly known (bits_of bytes) field names passed value
 
   -- From bits.
 
@@ -124,16 +135,17 @@ module _ (known : Facts) (bytes : List ℕ) (small : AreSmall bytes) where
       )
 
   pub to_bits : (names : Environment) (passed : Passed) (piece : Piece) (value : Option Tree) (place : ℕ) (late : Late) (own : List ℕ) (next : ℕ)
-      → IsStored true passed piece known (8 * place) (sees known (bits_of bytes) names (8 * place)) value (bits_of own)
-      → is_late_size passed.met late piece (sees known (bits_of bytes) names (8 * place)) ≡ false → IsThere bytes place own next → next ≤ 16777212
+      → IsStored piece known (8 * place) (sees known (bits_of bytes) names (8 * place)) value (bits_of own)
+      → plainly passed piece (sees known (bits_of bytes) names (8 * place)) value → is_late_size passed.met late piece (sees known (bits_of bytes) names (8 * place)) ≡ false → IsThere bytes place own next → next ≤ 16777212
       → (late_after : Late) × Stands names passed piece value (8 * place) late (8 * next) late_after
-  to_bits names passed piece value place late own next stored early there short =
+  to_bits names passed piece value place late own next stored manner early there short =
       let long = length-bits_of own in
       let ends = there.ends in (
         late ++ marks passed.met late piece (sees known (bits_of bytes) names (8 * place)) (length (bits_of own)),
         record {
           bits = bits_of own;
           stored = stored;
+          manner = manner;
           early = early;
           there = bits_there bytes place own there.there;
           ends = omega (arith, long, ends);
@@ -159,7 +171,7 @@ module _ (known : Facts) (bytes : List ℕ) (small : AreSmall bytes) where
         → next ≤ 16777212 → (late_after : Late) × Stands names passed (OneNumber number) value (8 * place) late (8 * next) late_after
     stands_number names passed value place late piece next (n, is, less, same) there short =
         to_bits names passed (OneNumber number) value place late piece next
-        (n, is, subst (λ (p : ℕ). n < p) (sym power) less, ap bits_of same ∙ be_bits count n ∙ ap (λ (w : ℕ). number_bits w n) (sym eight)) refl there short
+        (n, is, subst (λ (p : ℕ). n < p) (sym power) less, ap bits_of same ∙ be_bits count n ∙ ap (λ (w : ℕ). number_bits w n) (sym eight)) tt refl there short
 
     from_number : (names : Environment) (passed : Passed) (value : Option Tree) (place : ℕ) (late : Late) (after : ℕ) (late_after : Late)
         → Field (free form (pos width) radix) names passed value (8 * place) late after late_after → (piece : List ℕ) × IsNumberIn count value piece × Ends bytes place piece after
@@ -271,7 +283,7 @@ module _ (known : Facts) (bytes : List ℕ) (small : AreSmall bytes) where
       → IsPiece (plain.Zeros size) place value piece → IsThere bytes place piece next → next ≤ 16777212
       → (late_after : Late) × InOrder (Stands names) passed (Zeros unit ∷ []) (option_to_list value) (8 * place) late (8 * next) late_after
   to_zeros size unit same names passed value place late piece next (is, own) there short =
-      let it = to_bits names passed (Zeros unit) value place late piece next (is, ap bits_of own ∙ zeros_bits (bytes_of size) ∙ ap zeros (sym same)) refl there short in
+      let it = to_bits names passed (Zeros unit) value place late piece next (is, ap bits_of own ∙ zeros_bits (bytes_of size) ∙ ap zeros (sym same)) tt refl there short in
       (it.0, just (Stands names) passed (Zeros unit) value (8 * place) late (8 * next) it.0 it.1)
 
   from_aligned : (size : Size) (names : Environment) (passed : Passed) (value : Option Tree) (place : ℕ) (late : Late) (after : ℕ) (late_after : Late)
@@ -290,7 +302,7 @@ module _ (known : Facts) (bytes : List ℕ) (small : AreSmall bytes) where
       → (late_after : Late) × Field (field_of (plain.Aligned size)) names passed value (8 * place) late (8 * next) late_after
   to_aligned size names passed value place late piece next (is, own) there short =
       let it = to_bits names passed (Filler (width_of size)) value place late piece next
-      (is, ap bits_of own ∙ zeros_bits (missing (bytes_of size) place) ∙ ap zeros (sym (gap size place))) refl there short in
+      (is, ap bits_of own ∙ zeros_bits (missing (bytes_of size) place) ∙ ap zeros (sym (gap size place))) tt refl there short in
       (it.0, (tt, just (Stands names) passed (Filler (width_of size)) value (8 * place) late (8 * next) it.0 it.1))
 
   -- Texts.
@@ -315,7 +327,7 @@ module _ (known : Facts) (bytes : List ℕ) (small : AreSmall bytes) where
       let is = only (Stands names) passed (text texts.Pascal false) value (8 * place) late after late_after order in
       let own : List ℕ = is.stored.bytes in
       let few : length own < 256 = not_long (length own) (sym (ap (λ (size : Option ℕ). is_too_long texts.Pascal size (length own)) is.stored.has_size) ∙ is.stored.short) in
-      (length own ∷ own, (own, is.stored.are_bytes.0, few, refl), from_text texts.Pascal false names passed value place late after late_after is (few, is.stored.are_bytes.1.0))
+      (length own ∷ own, (own, is.stored.are_bytes, few, refl), from_text texts.Pascal false names passed value place late after late_after is (few, (is.manner is.stored.size is.stored.bytes is.stored.has_size is.stored.are_bytes).0))
 
   from_ended : (names : Environment) (passed : Passed) (value : Option Tree) (place : ℕ) (late : Late) (after : ℕ) (late_after : Late)
       → Field (field_of plain.ZeroEnded) names passed value (8 * place) late after late_after → (piece : List ℕ) × IsPiece plain.ZeroEnded place value piece × Ends bytes place piece after
@@ -323,15 +335,15 @@ module _ (known : Facts) (bytes : List ℕ) (small : AreSmall bytes) where
       let is = only (Stands names) passed (text texts.Zero false) value (8 * place) late after late_after order in
       let own : List ℕ = is.stored.bytes in (
         own ++ 0 ∷ [],
-        (own, is.stored.are_bytes.0, is.stored.are_bytes.1.1, refl),
-        from_text texts.Zero false names passed value place late after late_after is (all_append (λ byte. byte < 256) own (0 ∷ []) is.stored.are_bytes.1.0 (omega arith, tt)),
+        (own, is.stored.are_bytes, (is.manner is.stored.size is.stored.bytes is.stored.has_size is.stored.are_bytes).1, refl),
+        from_text texts.Zero false names passed value place late after late_after is (all_append (λ byte. byte < 256) own (0 ∷ []) (is.manner is.stored.size is.stored.bytes is.stored.has_size is.stored.are_bytes).0 (omega arith, tt)),
       )
 
   from_rest : (names : Environment) (passed : Passed) (value : Option Tree) (place : ℕ) (late : Late) (after : ℕ) (late_after : Late)
       → Field (field_of plain.Rest) names passed value (8 * place) late after late_after → (piece : List ℕ) × IsPiece plain.Rest place value piece × Ends bytes place piece after
   from_rest names passed value place late after late_after (grouped, order) =
       let is = only (Stands names) passed (text texts.Open true) value (8 * place) late after late_after order in
-      (is.stored.bytes, is.stored.are_bytes.0, from_text texts.Open true names passed value place late after late_after is is.stored.are_bytes.1.0)
+      (is.stored.bytes, is.stored.are_bytes, from_text texts.Open true names passed value place late after late_after is (is.manner is.stored.size is.stored.bytes is.stored.has_size is.stored.are_bytes).0)
 
   there_all : (place : ℕ) (piece : List ℕ) (next : ℕ) → IsThere bytes place piece next → AllSmall piece
   there_all place piece next there = subst AllSmall there.there (there_small (length piece) place bytes small)
@@ -340,10 +352,11 @@ module _ (known : Facts) (bytes : List ℕ) (small : AreSmall bytes) where
   not_over count few = grind (arith, nat_tests, few)
 
   to_text : (form : TextForm) (hex : Bool) (names : Environment) (passed : Passed) (value : Option Tree) (place : ℕ) (late : Late) (own : List ℕ) (next : ℕ)
-      → IsText true (record { form = form; hex = hex; size = None; fixed = None }) known (sees known (bits_of bytes) names (8 * place)) value (bits_of own)
+      → IsText (record { form = form; hex = hex; size = None; fixed = None }) known (sees known (bits_of bytes) names (8 * place)) value (bits_of own)
+      → IsPlainValue (record { form = form; hex = hex; size = None; fixed = None }) (sees known (bits_of bytes) names (8 * place)) value
       → IsThere bytes place own next → next ≤ 16777212 → (late_after : Late) × Field (text_of form hex) names passed value (8 * place) late (8 * next) late_after
-  to_text form hex names passed value place late own next is there short =
-      let it = to_bits names passed (text form hex) value place late own next is refl there short in
+  to_text form hex names passed value place late own next is plain there short =
+      let it = to_bits names passed (text form hex) value place late own next is plain refl there short in
       (it.0, (tt, just (Stands names) passed (text form hex) value (8 * place) late (8 * next) it.0 it.1))
 
   to_pascal : (names : Environment) (passed : Passed) (value : Option Tree) (place : ℕ) (late : Late) (piece : List ℕ) (next : ℕ) → IsPiece plain.Pascal place value piece
@@ -351,20 +364,23 @@ module _ (known : Facts) (bytes : List ℕ) (small : AreSmall bytes) where
   to_pascal names passed value place late piece next (own, is, few, same) there short =
       let all : AllSmall (length own ∷ own) = subst AllSmall same (there_all place piece next there) in
       to_text texts.Pascal false names passed value place late piece next
-      (record { size = None; has_size = refl; bytes = own; are_bytes = (is, (all.1, tt, tt, tt)); short = not_over (length own) few; are_bits = ap bits_of same }) there short
+      (record { size = None; has_size = refl; bytes = own; are_bytes = is; short = not_over (length own) few; are_bits = ap bits_of same })
+      (plain_of texts.Pascal false _ value own is (all.1, tt, tt, tt)) there short
 
   to_ended : (names : Environment) (passed : Passed) (value : Option Tree) (place : ℕ) (late : Late) (piece : List ℕ) (next : ℕ) → IsPiece plain.ZeroEnded place value piece
       → IsThere bytes place piece next → next ≤ 16777212 → (late_after : Late) × Field (field_of plain.ZeroEnded) names passed value (8 * place) late (8 * next) late_after
   to_ended names passed value place late piece next (own, is, nonzero, same) there short =
       let all = each_append (λ byte. byte < 256) own (0 ∷ []) (subst AllSmall same (there_all place piece next there)) in
       to_text texts.Zero false names passed value place late piece next
-      (record { size = None; has_size = refl; bytes = own; are_bytes = (is, (all.0, nonzero, tt, tt)); short = refl; are_bits = ap bits_of same }) there short
+      (record { size = None; has_size = refl; bytes = own; are_bytes = is; short = refl; are_bits = ap bits_of same })
+      (plain_of texts.Zero false _ value own is (all.0, nonzero, tt, tt)) there short
 
   to_rest : (names : Environment) (passed : Passed) (value : Option Tree) (place : ℕ) (late : Late) (piece : List ℕ) (next : ℕ) → IsPiece plain.Rest place value piece
       → IsThere bytes place piece next → next ≤ 16777212 → (late_after : Late) × Field (field_of plain.Rest) names passed value (8 * place) late (8 * next) late_after
   to_rest names passed value place late piece next is there short =
       to_text texts.Open true names passed value place late piece next
-      (record { size = None; has_size = refl; bytes = piece; are_bytes = (is, (there_all place piece next there, tt, tt, tt)); short = refl; are_bits = refl }) there short
+      (record { size = None; has_size = refl; bytes = piece; are_bytes = is; short = refl; are_bits = refl })
+      (plain_of texts.Open true _ value piece is (there_all place piece next there, tt, tt, tt)) there short
 
   -- Entries.
 

@@ -14,7 +14,7 @@ use Rattle.rz_tmpl_read.specs.Reading.{AreRead, IsSaid}
 use Rattle.rz_tmpl_read.specs.Says.{Says}
 use Rattle.rz_types.specs.Readable.{is_readable}
 use Rattle.rz_types_fields.specs.Field.{PlainBody}
-use Rattle.rz_types_fields.specs.Spells.{Spells}
+use Rattle.rz_types_fields.specs.Spells.{SpellsPlainly}
 use Rattle.rz_types_fields.specs.declared.tree.Tree.{Tree}
 use Rattle.rz_unlay.specs.Reading.{IsTold}
 
@@ -25,7 +25,7 @@ decided_so P Q (Some x) same is = (same x).0 is
 -- the laws
 abbrev pub Plainly : Type 0
 Plainly = (known : Facts) (items : Items) (row : List Tree) (bytes : List ℕ) → is_kept 60 false items ≡ true → waits false items ≡ false → 1 + lists_of items ≤ 2 ^ 64
-    → Spells true known (tmpl_body items) row bytes ↔ Says items row bytes
+    → SpellsPlainly known (tmpl_body items) row bytes ↔ Says items row bytes
 
 abbrev pub Closes : Type 0
 Closes = (items : Items) → is_kept 60 false items ≡ true → waits false items ≡ false → is_readable (tmpl_body items) ≡ is_closed items

@@ -19,7 +19,7 @@ use Rattle.rz_types_fields.specs.Field.{Array, PlainBody}
 use Rattle.rz_types_fields.specs.Passed.{at_field, at_front, behind, Passed}
 use Rattle.rz_types_fields.specs.RowLabels.{row_of}
 use Rattle.rz_types_fields.specs.Sees.{Late}
-use Rattle.rz_types_fields.specs.Spells.{put, BodySpells, Inside, RowsSpell, RowSpells}
+use Rattle.rz_types_fields.specs.Spells.{plainly, put, BodySpells, Inside, RowSpells, RowsSpell}
 use Rattle.rz_types_fields.specs.declared.tree.Tree.{Tree}
 use Rattle.rz_types_fields.specs.declared.tree.Tree.TheVariants as trees
 
@@ -28,7 +28,7 @@ rows_are value rows row rest some whole = ap rows_first (whole ∙ ap (λ (v : O
 
 module _ (known : Facts) (bytes : List ℕ) (small : AreSmall bytes) where
   abbrev Body : PlainBody → Environment → Passed → List Tree → RowSpells
-  Body body names passed row = BodySpells true known (bits_of bytes) body names passed row
+  Body body names passed row = BodySpells plainly known (bits_of bytes) body names passed row
 
   -- the names give the list that a count waits for its rows
   ahead_given : (left k : ℕ) (items : Items) (names : Environment) (passed : Passed) (row : List Tree) (at : ℕ) (late : Late) (after : ℕ) (late_after : Late)

@@ -22,7 +22,7 @@ use Rattle.rz_types_fields.specs.Passed.{at_field, at_front, behind, declares, g
 use Rattle.rz_types_fields.specs.RowLabels.{is_row, row_number, row_of, RowOf}
 use Rattle.rz_types_fields.specs.Sees.{Late}
 use Rattle.rz_types_fields.specs.Solve.{is_same_key}
-use Rattle.rz_types_fields.specs.Spells.{BodySpells, HasPlace, Inside, RowsSpell, RowSpells, Within}
+use Rattle.rz_types_fields.specs.Spells.{plainly, BodySpells, HasPlace, Inside, RowSpells, RowsSpell, Within}
 use Rattle.rz_types_fields.specs.declared.tree.Tree.{Tree}
 use Rattle.rz_types_fields.specs.declared.tree.Tree.TheOpen.{Tree-F}
 use Rattle.rz_types_fields.specs.declared.tree.Tree.TheVariants as trees
@@ -114,7 +114,7 @@ has_for k items row which outer j n small is =
 
 module _ (known : Facts) (bytes : List ℕ) (small : AreSmall bytes) (short : length bytes ≤ 16777212) where
   abbrev Body : PlainBody → Environment → Passed → List Tree → RowSpells
-  Body body names passed row = BodySpells true known (bits_of bytes) body names passed row
+  Body body names passed row = BodySpells plainly known (bits_of bytes) body names passed row
 
   -- to the place that is said, which stands in the bytes
   abbrev To : RowSpells → ℕ → Late → ℕ → Type 0

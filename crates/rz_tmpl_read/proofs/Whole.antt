@@ -12,7 +12,7 @@ use Rattle.rz_tmpl_read.proofs.Said.{said}
 use Rattle.rz_tmpl_read.proofs.Spelled.{has_for, names_for, spelled, within_for}
 use Rattle.rz_tmpl_read.specs.Says.{BodySays, Says}
 use Rattle.rz_types_fields.specs.Passed.{at_front, nothing_passed, outside}
-use Rattle.rz_types_fields.specs.Spells.{Spells}
+use Rattle.rz_types_fields.specs.Spells.{SpellsPlainly}
 use Rattle.rz_types_fields.specs.declared.tree.Tree.{Tree}
 
 -- whole bytes are filled
@@ -32,35 +32,38 @@ full_bytes bytes =
     let none : missing 8 (length (bits_of bytes)) ≡ 0 = omega (arith, long) in
     sym (ap (filled 8) front ∙ ap (λ (n : ℕ). bits_of bytes ++ zeros n) none ∙ append-nil (bits_of bytes))
 
-pub said_is : ((known : Facts) (items : Items) (row : List Tree) (bytes : List ℕ) → Spells true known (tmpl_body items) row bytes → length bytes ≤ 16777212)
+pub said_is : ((known : Facts) (items : Items) (row : List Tree) (bytes : List ℕ) → SpellsPlainly known (tmpl_body items) row bytes → length bytes ≤ 16777212)
     → (known : Facts) (items : Items) (row : List Tree) (bytes : List ℕ) → is_kept 60 false items ≡ true → waits false items ≡ false → 1 + lists_of items ≤ 2 ^ 64
-    → Spells true known (tmpl_body items) row bytes ↔ Says items row bytes
+    → SpellsPlainly known (tmpl_body items) row bytes ↔ Says items row bytes
 said_is short known items row bytes kept ends few = (to_said, to_spelled)
   where
-    to_said : Spells true known (tmpl_body items) row bytes → Says items row bytes
-    to_said is =
+    to_said : SpellsPlainly known (tmpl_body items) row bytes → Says items row bytes
+    to_said plain =
+        let is = plain.spelling in
         let it = said known bytes is.are_bytes 60 1 false items is.names (at_front (tmpl_body items) nothing_passed) row 0 [] is.end is.late kept ends few (λ j low high apart. start_held 1 items j) is.fields in
         record {
           said = subst (λ (n : ℕ). BodySays bytes items row 0 n) (whole_end bytes is.end it.0 it.1 is.within is.filled) it.2;
-          few = is.few;
-          short = short known items row bytes is;
+          few = plain.few;
+          short = short known items row bytes plain;
           are_bytes = is.are_bytes;
         }
 
-    to_spelled : Says items row bytes → Spells true known (tmpl_body items) row bytes
+    to_spelled : Says items row bytes → SpellsPlainly known (tmpl_body items) row bytes
     to_spelled is =
         let names = names_for 1 items row None outside in
         let it = spelled known bytes is.are_bytes is.short 60 1 false items names (at_front (tmpl_body items) nothing_passed) row 0 [] (length bytes) kept ends few (omega arith)
         (has_for 1 items row None outside) is.said in
         let long = length-bits_of bytes in
         record {
-          names = names;
-          own = within_for 1 items row None outside;
-          end = 8 * length bytes;
-          late = it.0;
-          fields = it.2;
-          filled = full_bytes bytes;
-          within = omega (arith, long);
-          are_bytes = is.are_bytes;
+          spelling = record {
+            names = names;
+            own = within_for 1 items row None outside;
+            end = 8 * length bytes;
+            late = it.0;
+            fields = it.2;
+            filled = full_bytes bytes;
+            within = omega (arith, long);
+            are_bytes = is.are_bytes;
+          };
           few = is.few;
         }

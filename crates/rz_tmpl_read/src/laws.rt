@@ -5,7 +5,7 @@ ghost use Rattle.rz_core.specs.declared.facts.Facts.{Facts};
 ghost use Rattle.rz_tmpl.specs.Body.{lists_of, tmpl_body};
 ghost use Rattle.rz_tmpl_entries.specs.Items.{is_kept, waits, Items};
 ghost use Rattle.rz_tmpl_read.specs.Says.{Says};
-ghost use Rattle.rz_types_fields.specs.Spells.{Spells};
+ghost use Rattle.rz_types_fields.specs.Spells.{SpellsPlainly};
 ghost use Rattle.rz_types_fields.specs.declared.tree.Tree.{Tree};
 
 use rz_unlay::spelled_bytes_are_few;
@@ -14,7 +14,7 @@ use rz_unlay::spelled_bytes_are_few;
 /// plainly exactly where the bytes say it.
 pub fn said_rows_are_plain()
     ensures { (known : Facts) (items : Items) (row : List Tree) (bytes : List ℕ) → is_kept 60 false items ≡ true → waits false items ≡ false
-        → 1 + lists_of items ≤ 2 ^ 64 → Spells true known (tmpl_body items) row bytes ↔ Says items row bytes }
+        → 1 + lists_of items ≤ 2 ^ 64 → SpellsPlainly known (tmpl_body items) row bytes ↔ Says items row bytes }
 {
     spelled_bytes_are_few();
 }

@@ -60,7 +60,7 @@ use Rattle.rz_tools_work.specs.Work.{with_list, Work}
 use Rattle.rz_tools.specs.Step.{Means, Steps}
 use Rattle.rz_set.specs.ResSet.{found}
 use Rattle.rz_types_fields.specs.Row.{IsRow}
-use Rattle.rz_types_fields.specs.Spells.{Spells}
+use Rattle.rz_types_fields.specs.Spells.{Spells, SpellsPlainly}
 use Rattle.rz_types.specs.Field.{PlainBody}
 use Rattle.rz_types_table.specs.Table.{Declaration}
 use Rattle.rz_tools_work.specs.ToolWords.{number_in, numbered, tool_in}
@@ -169,16 +169,16 @@ put_behind mark over front r new = rw (new_name front r new, none_forbidden over
 -- The laws of the crates below.
 
 abbrev pub RowsAreRows : Type 0
-RowsAreRows = (plain : Bool) (known : Facts) (body : PlainBody) (row : List Tree) (bytes : List ℕ) → Spells plain known body row bytes → IsRow body row
+RowsAreRows = (known : Facts) (body : PlainBody) (row : List Tree) (bytes : List ℕ) → SpellsPlainly known body row bytes → IsRow body row
 
 abbrev pub PlainIsSpelled : Type 0
-PlainIsSpelled = (known : Facts) (body : PlainBody) (row : List Tree) (bytes : List ℕ) → Spells true known body row bytes → Spells false known body row bytes
+PlainIsSpelled = (known : Facts) (body : PlainBody) (row : List Tree) (bytes : List ℕ) → SpellsPlainly known body row bytes → Spells known body row bytes
 
 abbrev pub TextsAreShort : Type 0
-TextsAreShort = (plain : Bool) (known : Facts) (body : PlainBody) (row : List Tree) (bytes : List ℕ) → Spells plain known body row bytes → AreShortTexts body row
+TextsAreShort = (known : Facts) (body : PlainBody) (row : List Tree) (bytes : List ℕ) → SpellsPlainly known body row bytes → AreShortTexts body row
 
 abbrev pub TextsAreBytes : Type 0
-TextsAreBytes = (known : Facts) (body : PlainBody) (row : List Tree) (bytes : List ℕ) → Spells true known body row bytes → AreOfBytes body row
+TextsAreBytes = (known : Facts) (body : PlainBody) (row : List Tree) (bytes : List ℕ) → SpellsPlainly known body row bytes → AreOfBytes body row
 
 abbrev pub ArePrintedAs : Type 0
 ArePrintedAs = (hidden : List ℕ → Bool) (list : List Showing) → SparesTruth hidden → AllByRecursion (CanBeShown hidden) list → IsPrintedAs hidden (showings_text hidden list) list
@@ -201,9 +201,9 @@ module _ (laws : Laws) (known : Known) where
         record {
           shaped = tells.tree.shaped;
           kept = tells.tree.kept;
-          is = laws.rows true (facts_of known.moment r) body row r.bytes spelled;
+          is = laws.rows (facts_of known.moment r) body row r.bytes spelled;
           bytes = laws.bytes (facts_of known.moment r) body row r.bytes spelled;
-          short = laws.short true (facts_of known.moment r) body row r.bytes spelled;
+          short = laws.short (facts_of known.moment r) body row r.bytes spelled;
           uses = tells.bare;
         },
       )
@@ -248,8 +248,8 @@ module _ (laws : Laws) (known : Known) (around : Around) (warnings : List Fault)
       → IsMade around.paths around.files mark known.types items (record { kind = r.kind; id = r.id; name = r.name; attr = r.attr; moment = around.setting.moment }) (Ok r)
   row_made mark r body row items tells same fits =
       let there : Facts = record { kind = r.kind; id = r.id; name = r.name; attr = r.attr; moment = around.setting.moment } in
-      let spelled : Spells false there body row r.bytes =
-      subst (λ (m : Moment). Spells false (record { kind = r.kind; id = r.id; name = r.name; attr = r.attr; moment = m }) body row r.bytes) (sym at)
+      let spelled : Spells there body row r.bytes =
+      subst (λ (m : Moment). Spells (record { kind = r.kind; id = r.id; name = r.name; attr = r.attr; moment = m }) body row r.bytes) (sym at)
       (laws.plain (facts_of known.moment r) body row r.bytes tells.tree.told.1) in
       inl (r.bytes, inl (body, sym (ap (λ (o : Option PlainBody). ok_or o (no_type mark there)) tells.tree.declared), inl (items, sym (same there), inl (row, fits there, spelled))), refl)
 

@@ -31,3 +31,4 @@ pub mod Replied
 pub mod PutBack
 pub mod OthersStay
 pub mod Asking
+pub mod Beginning

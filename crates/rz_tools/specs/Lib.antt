@@ -15,3 +15,4 @@ pub mod Program
 pub mod Asked
 pub mod Shown
 pub mod Headline
+pub mod Begin

@@ -1,9 +1,11 @@
-//! Laws of arguments: they are one command or have one misplaced argument, and define no reserved word.
+//! Laws of arguments: they are one command or have one misplaced argument, define no reserved word, and name each form.
 
-ghost use Rattle.std.specs.Prelude.{◌≡◌, ◌⊎◌, ℕ, List};
+ghost use Rattle.std.specs.Prelude.{◌≡◌, ◌⊎◌, ℕ, List, Some};
+ghost use Rattle.rz_bridge_form.specs.Forms.{form_word};
+ghost use Rattle.rz_bridge_form.specs.declared.form.Form.{Form};
 ghost use Rattle.rz_pre.specs.Lexed.{HaveLexedTexts};
 ghost use Rattle.rz_tools_args.specs.Definition.{AreFree};
-ghost use Rattle.rz_tools_args.specs.Command.{Asked, IsCommand, IsMisplaced};
+ghost use Rattle.rz_tools_args.specs.Command.{form_named, Asked, IsCommand, IsMisplaced};
 ghost use Rattle.rz_tools_args.specs.Items.{defs_of};
 
 use rz_lex::{cut_back, every_line_is_cut, one_cut, tokens_are_lexed};
@@ -42,4 +44,9 @@ pub fn definitions_are_lexed()
 /// A law, with nothing to run: what the words of a command define or undefine is no reserved word.
 pub fn definitions_are_free()
     ensures { (words : List (List ℕ)) (asked : Asked) → IsCommand words asked → AreFree (defs_of asked.items) }
+{}
+
+/// A law, with nothing to run: the word of each form, which `list` tells on its first line, is read as that form.
+pub fn words_of_forms_are_read()
+    ensures { (form : Form) → form_named (form_word form) ≡ Some form }
 {}

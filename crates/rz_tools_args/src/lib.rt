@@ -24,6 +24,7 @@ pub use flag::{Flag, Sort, Switch};
 pub use item::{Item, Value};
 pub use laws::{
     definitions_are_free, definitions_are_lexed, every_list_of_words_is_read, one_command,
+    words_of_forms_are_read,
 };
 pub use name::CommandName;
 pub use number::number_told;

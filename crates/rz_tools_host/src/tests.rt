@@ -1,10 +1,11 @@
-//! Tests of the edge over a host that gives what it is told: which arguments and which moment a run has, or why it doesn't
-//! begin.
+//! Tests of the edge over a runtime that gives what it is told: which words and which moment a run has, or why it
+//! doesn't begin. The same over a host in memory.
 
 ghost use Rattle.std.specs.Io.{WritesAtMost};
 
-use super::{given, moment_at, moment_of};
-use std::alloc::{Alloc, AllocError, Global};
+use super::start::{moment_at, moment_of};
+use super::{MemHost, RealHost, given};
+use std::alloc::{AllocError, Global};
 use std::env::FillError;
 use std::io;
 use std::io::ErrorKind;
@@ -14,10 +15,9 @@ use std::time::Duration;
 /// The first second of 1904.
 const FIRST: i64 = -2_082_844_800;
 
-/// A host that gives what it is told.
+/// A runtime that gives what it is told.
 #[derive(Drop)]
-struct Host<'a> {
-    alloc: Global,
+struct Told<'a> {
     /// The arguments, of which the first is the program's name.
     args: &'a [&'a [u8]],
     /// What the environment has for `SOURCE_DATE_EPOCH`. It has nothing else.
@@ -26,32 +26,16 @@ struct Host<'a> {
     now: Option<Duration>,
 }
 
-impl<'a> Host<'a> {
-    /// A host that gives these arguments, this value of `SOURCE_DATE_EPOCH` and this time.
-    fn of(
-        alloc: Global,
-        args: &'a [&'a [u8]],
-        epoch: Option<&'a [u8]>,
-        now: Option<Duration>,
-    ) -> Host<'a> {
-        Host {
-            alloc,
-            args,
-            epoch,
-            now,
-        }
-    }
+/// The host of a runtime that gives these arguments, this value of `SOURCE_DATE_EPOCH` and this time.
+fn host_of<'a>(
+    args: &'a [&'a [u8]],
+    epoch: Option<&'a [u8]>,
+    now: Option<Duration>,
+) -> RealHost<Told<'a>> {
+    RealHost::new(Told { args, epoch, now })
 }
 
-impl Alloc for Host<'_> {
-    type A = Global;
-
-    fn alloc(&self) -> Global {
-        self.alloc
-    }
-}
-
-impl Env for Host<'_> {
+impl Env for Told<'_> {
     fn arg(&self, i: usize, buf: &mut [u8]) -> Result<usize, FillError> {
         fill(self.args.get(i).copied(), buf)
     }
@@ -65,7 +49,7 @@ impl Env for Host<'_> {
     }
 }
 
-impl Clock for Host<'_> {
+impl Clock for Told<'_> {
     fn monotonic(&self) -> io::Result<Duration> {
         Err(io::Error::from(ErrorKind::Unsupported))
     }
@@ -92,8 +76,8 @@ fn fill(value: Option<&[u8]>, buf: &mut [u8]) -> Result<usize, FillError>
 }
 
 /// The second of the moment that a run has over this host, or the status where it has none.
-fn second_of(host: &Host<'_>) -> Result<i64, u8> {
-    match moment_of(host) {
+fn second_of(alloc: Global, host: &RealHost<Told<'_>>) -> Result<i64, u8> {
+    match moment_of(alloc, host) {
         Ok(moment) => Ok(moment.unix),
         Err(hindrance) => Err(hindrance.status()),
     }
@@ -121,8 +105,8 @@ fn the_environment_tells_the_moment_before_the_clock(rt: HostRuntime) {
     ];
     for (epoch, second) in told {
         let now = Duration::from_secs(7);
-        let host = Host::of(rt.alloc(), &[], Some(epoch), Some(now));
-        assert_eq!(rt; second_of(&host), second, "{epoch:?}");
+        let host = host_of(&[], Some(epoch), Some(now));
+        assert_eq!(rt; second_of(rt.alloc(), &host), second, "{epoch:?}");
     }
 }
 
@@ -142,8 +126,8 @@ fn the_clock_tells_the_moment_where_the_environment_does_not(rt: HostRuntime) {
         (None, FIRST),
     ];
     for (now, second) in told {
-        let host = Host::of(rt.alloc(), &[], None, now);
-        assert_eq!(rt; second_of(&host), Ok(second), "{now:?}");
+        let host = host_of(&[], None, now);
+        assert_eq!(rt; second_of(rt.alloc(), &host), Ok(second), "{now:?}");
     }
 }
 
@@ -176,7 +160,7 @@ fn lines_of(alloc: Global, args: &[String]) -> Result<String, AllocError> {
 }
 
 #[test]
-fn the_arguments_are_those_behind_the_name(rt: HostRuntime) {
+fn the_words_are_the_arguments_after_the_name(rt: HostRuntime) {
     let told: [(&[&[u8]], &str); 6] = [
         (&[], ""),
         (&[b"rezkit"], ""),
@@ -187,22 +171,22 @@ fn the_arguments_are_those_behind_the_name(rt: HostRuntime) {
     ];
     for (words, wanted) in told {
         let now = Duration::from_secs(7);
-        let host = Host::of(rt.alloc(), words, None, Some(now));
-        let (args, moment) = given(&host).ok().expect(&rt, "a run begins");
-        let lines = lines_of(rt.alloc(), args.as_slice()).expect(&rt, "memory");
+        let host = host_of(words, None, Some(now));
+        let run = given(rt.alloc(), &host).ok().expect(&rt, "a run begins");
+        let lines = lines_of(rt.alloc(), run.words.as_slice()).expect(&rt, "memory");
         assert_eq!(rt; lines.as_str(), wanted);
-        assert_eq!(rt; moment.unix, 7);
+        assert_eq!(rt; run.moment.unix, 7);
     }
 }
 
 #[test]
 fn arguments_come_with_the_moment_of_the_environment(rt: HostRuntime) {
     let words: &[&[u8]] = &[b"rezkit", b"rez", b"one.r"];
-    let host = Host::of(rt.alloc(), words, Some(b"951827696"), None);
-    let (args, moment) = given(&host).ok().expect(&rt, "a run begins");
-    let lines = lines_of(rt.alloc(), args.as_slice()).expect(&rt, "memory");
+    let host = host_of(words, Some(b"951827696"), None);
+    let run = given(rt.alloc(), &host).ok().expect(&rt, "a run begins");
+    let lines = lines_of(rt.alloc(), run.words.as_slice()).expect(&rt, "memory");
     assert_eq!(rt; lines.as_str(), "rez\none.r\n");
-    assert_eq!(rt; moment.unix, 951_827_696);
+    assert_eq!(rt; run.moment.unix, 951_827_696);
 }
 
 #[test]
@@ -219,9 +203,69 @@ fn no_run_begins_without_its_words_or_its_moment(rt: HostRuntime) {
     ];
     for (args, epoch, line) in told {
         let now = Duration::from_secs(7);
-        let host = Host::of(rt.alloc(), args, Some(epoch), Some(now));
-        let hindrance = given(&host).err().expect(&rt, "no run begins");
+        let host = host_of(args, Some(epoch), Some(now));
+        let hindrance = given(rt.alloc(), &host).err().expect(&rt, "no run begins");
         assert_eq!(rt; hindrance.line(), line);
         assert_eq!(rt; hindrance.status(), 5);
+    }
+}
+
+/// The second at which a run begins over a host in memory with these variables, whose clock tells 7, or the status.
+fn second_in(alloc: Global, variables: &[(&str, &[u8])]) -> Result<i64, u8> {
+    let host = MemHost {
+        args: &[b"rezkit", b"rez"],
+        variables,
+        clock: Some(7),
+    };
+    match given(alloc, &host) {
+        Ok(run) => Ok(run.moment.unix),
+        Err(hindrance) => Err(hindrance.status()),
+    }
+}
+
+#[test]
+fn a_host_in_memory_has_the_variables_that_it_is_given(rt: HostRuntime) {
+    let told: [(&[(&str, &[u8])], Result<i64, u8>); 6] = [
+        (&[], Ok(7)),
+        (&[("SOURCE_DATE", b"1"), ("TZ", b"2")], Ok(7)),
+        (&[("TZ", b"2"), ("SOURCE_DATE_EPOCH", b"1")], Ok(1)),
+        (
+            &[("SOURCE_DATE_EPOCH", b"1"), ("SOURCE_DATE_EPOCH", b"2")],
+            Ok(1),
+        ),
+        (&[("SOURCE_DATE_EPOCH", b"")], Err(5)),
+        (&[("SOURCE_DATE_EPOCH", b"\xFF")], Err(5)),
+    ];
+    for (variables, second) in told {
+        assert_eq!(rt; second_in(rt.alloc(), variables), second);
+    }
+}
+
+#[test]
+fn a_host_in_memory_has_the_arguments_that_it_is_given(rt: HostRuntime) {
+    let told: [(&[&[u8]], Option<&str>); 5] = [
+        (&[], Some("")),
+        (&[b"rezkit"], Some("")),
+        (&[b"rezkit", b"rez", b"\xC3\xA9.r"], Some("rez\n\u{e9}.r\n")),
+        (&[b"rezkit", b"rez", b"\xFF"], None),
+        (&[b"\xFF", b"rez"], None),
+    ];
+    for (args, wanted) in told {
+        let host = MemHost {
+            args,
+            variables: &[],
+            clock: None,
+        };
+        match given(rt.alloc(), &host) {
+            Ok(run) => {
+                let lines = lines_of(rt.alloc(), run.words.as_slice()).expect(&rt, "memory");
+                assert_eq!(rt; Some(lines.as_str()), wanted);
+                assert_eq!(rt; run.moment.unix, FIRST);
+            }
+            Err(hindrance) => {
+                assert_eq!(rt; None, wanted);
+                assert_eq!(rt; hindrance.status(), 5);
+            }
+        }
     }
 }

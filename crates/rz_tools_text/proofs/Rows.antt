@@ -30,7 +30,7 @@ use Rattle.rz_types_table.specs.Table.{declared_for}
 use Rattle.rz_tools_text.specs.Shown.{its_bytes, its_row, IsShownBy, Known, Shown, TellsRow}
 use Rattle.rz_types.specs.Field.{PlainBody}
 use Rattle.rz_types_fields.specs.Row.{IsRow}
-use Rattle.rz_types_fields.specs.Spells.{Spells}
+use Rattle.rz_types_fields.specs.Spells.{SpellsPlainly}
 use Rattle.rz_types_table.specs.Table.{Declaration}
 use Rattle.rz_unlay.specs.Reading.{facts_of, IsTree}
 
@@ -170,8 +170,8 @@ module _ (known : Known) (r : Resource) (facts : Facts) (are : facts ≡ facts_o
     row_told row own is is_own (Err refused) answer = tt
 
 -- a row that is told is one of its fields
-pub told_is_row : ((plain : Bool) (known : Facts) (body : PlainBody) (row : List Tree) (bytes : List ℕ) → Spells plain known body row bytes → IsRow body row)
+pub told_is_row : ((known : Facts) (body : PlainBody) (row : List Tree) (bytes : List ℕ) → SpellsPlainly known body row bytes → IsRow body row)
     → (known : Known) (r : Resource) (body own : PlainBody) (row given : List Tree) → own ≡ body → given ≡ row → TellsRow known r body row → IsRow own given
 told_is_row rows known r body own row given is_own same tells =
     subst (λ (b : PlainBody). IsRow b given) (sym is_own)
-    (subst (IsRow body) (sym same) (rows true (facts_of known.moment r) body row r.bytes tells.tree.told.1))
+    (subst (IsRow body) (sym same) (rows (facts_of known.moment r) body row r.bytes tells.tree.told.1))

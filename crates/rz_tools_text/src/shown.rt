@@ -11,7 +11,6 @@ ghost use Rattle.rz_show.specs.Shown.{row_uses};
 ghost use Rattle.rz_tools_text.specs.Held.{known_of, macros_held};
 ghost use Rattle.rz_types_table.specs.Table.{declared_for};
 ghost use Rattle.rz_tools_text.specs.Shown.{Shown, TellsRow};
-ghost use Rattle.rz_types.specs.Field.{plain_body};
 ghost use Rattle.rz_types.specs.Template.{template_of};
 ghost use Rattle.rz_types_table.specs.TypeTable.{table_of};
 ghost use Rattle.rz_unlay.specs.Reading.{facts_of};
@@ -21,7 +20,7 @@ use rz_core::{Bytes, Facts, Moment, NoMemory, Words};
 use rz_folder::{Put, Sink};
 use rz_fork::ResView;
 use rz_show::{Hidden, ShowLines, uses_hidden};
-use rz_types::{Body, Template};
+use rz_types::Template;
 use rz_types_fields::Row;
 use rz_types_table::TypeTable;
 use rz_unlay::{spelled_rows_are_rows, tree_under};
@@ -160,21 +159,21 @@ fn row_told(
     ensures { IfOk result (Decided (TellsRow (known_of known.now) (lent view.now) (template_of template.now))) }
 {
     match tree_under(alloc, Some(template), view.bytes, facts)? {
-        Some(row) => unless_hidden(alloc, template.body(), row, known),
+        Some(row) => unless_hidden(alloc, template, row, known),
         None => Ok(None),
     }
 }
 
-/// A row of these fields, unless it chooses a case whose name is a macro.
+/// A row of the fields of a template, unless it chooses a case whose name is a macro.
 fn unless_hidden(
     alloc: Global,
-    fields: &Body,
+    template: &Template,
     row: Row,
     known: &Known,
 ) -> Result<Option<Row>, NoMemory>
-    ensures { IfOk result (λ found. found ≡ (if row_uses (hides known.now.macros) (plain_body fields.now) row then None else Some row)) }
+    ensures { IfOk result (λ found. found ≡ (if row_uses (hides known.now.macros) (template_of template.now) row then None else Some row)) }
 {
-    if uses_hidden(alloc, fields.as_slice(), row.as_slice(), &known.macros)? {
+    if uses_hidden(alloc, template, row.as_slice(), &known.macros)? {
         Ok(None)
     } else {
         Ok(Some(row))

@@ -9,5 +9,6 @@ pub mod OneKind
 pub mod LeastWidths
 mod Examples
 pub mod Apart
+pub mod Cased
 pub mod Texts
 pub mod OwnNames

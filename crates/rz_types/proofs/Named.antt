@@ -1,7 +1,6 @@
 -- Names in expressions that have values.
-use Rattle.std.proofs.Common.{◌≡◌, ℕ, ℤ, pos, negsuc, Bool, true, false, ◌||◌, List, Option, Some, None, Result, Ok, Err, refl, sym, ap, ◌∙◌, arith}
-use Rattle.std.specs.Prelude.{◌+ℤ◌, ◌*ℤ◌, ◌^◌, [], ◌∷◌, ◌++◌, if◌then◌else◌, int_div, int_le, int_lt, int_rem, nat_lt, not, option_and_then}
-use Rattle.std.specs.Int.{int_shr}
+use Rattle.std.proofs.Common.{◌≡◌, ℕ, ℤ, pos, Bool, true, false, ◌||◌, List, Option, Some, None, Result, Ok, Err, refl, sym, ap, arith}
+use Rattle.std.specs.Prelude.{◌+ℤ◌, [], ◌∷◌, ◌++◌, if◌then◌else◌, int_le, int_lt, not, option_and_then}
 use Rattle.std.specs.List.{find, list_all, list_any}
 use Rattle.std.specs.Option.{is_some}
 use Rattle.std.specs.Str.{str_to_ascii_lowercase}
@@ -13,14 +12,15 @@ use Rattle.rz_expr.specs.Environment.{count_key, place_in_key, place_key, predef
 use Rattle.rz_expr.specs.Mention.{alone, around, counted, fact, indexed, mentions, name_mentioned, with_bits, Mention}
 use Rattle.rz_expr.specs.Mention as terms
 use Rattle.rz_expr.specs.Term.{BitsAt, Constant, FactOf, Indexed, Named, OfOne, OfTwo, RowNumber, RowsOf, Term}
-use Rattle.rz_expr.specs.Value.{divided, is_zero, known_bits, known_value, number_at, operate, operate_one, place_in_row, reduced, shifted, value_of}
+use Rattle.rz_expr.specs.Value.{known_bits, known_value, number_at, operate, operate_one, place_in_row, value_of}
 use Rattle.rz_expr.specs.declared.expr.BinaryOp.{BinaryOp}
-use Rattle.rz_expr.specs.declared.expr.BinaryOp.TheVariants as two
 use Rattle.rz_expr.specs.declared.value.EvalFault.{EvalFault}
-use Rattle.rz_expr.specs.declared.value.EvalFault.TheVariants.{BadIndex, BadShift, DataWidth, ZeroDivisor}
+use Rattle.rz_expr.specs.declared.value.EvalFault.TheVariants.{BadIndex, BadShift, DataWidth, LaterData, UnknownName, ZeroDivisor}
 use Rattle.rz_expr.proofs.Items.{all_more, all_two, found_there, none_all, none_found}
 use Rattle.rz_types_fields.specs.Laid.{met_in}
 use Rattle.rz_types_fields.specs.Sees.{is_later, names_later}
+use Rattle.rz_types_fields.specs.Value.{IsArithmetic}
+use Rattle.rz_types_fields.proofs.Arithmetic.{operate_sound}
 use Rattle.rz_types.specs.Names.{FillsRows, GivesCounts, GivesNumbers, GivesOwn, GivesRows, NamesNothing}
 use Rattle.rz_types.specs.Readable.{all_known, is_known_there}
 use Rattle.rz_types.specs.Rules.{is_named_there, unknown_name}
@@ -32,40 +32,18 @@ chained : (first : Result ℤ EvalFault) (next : ℤ → Result ℤ EvalFault) �
 chained (Ok x) next one rest = rest x
 chained (Err fault) next one rest = one
 
-either : (test : Bool) (fault : EvalFault) (x : ℤ) → NamesNothing (Err fault) → NamesNothing (if test then Err fault else Ok x)
-either true fault x one = one
-either false fault x one = tt
-
-or_fault : (test : Bool) (fault : EvalFault) (x : ℤ) → NamesNothing (Err fault) → NamesNothing (if test then Ok x else Err fault)
-or_fault true fault x one = tt
-or_fault false fault x one = one
-
-divided_known : (quotient : ℤ → ℤ → ℤ) (left right : ℤ) → NamesNothing (divided quotient left right)
-divided_known quotient left right = either (is_zero right) ZeroDivisor (reduced (quotient left right)) tt
-
-shifted_known : (shift : ℤ → ℕ → ℤ) (left right : ℤ) → NamesNothing (shifted shift left right)
-shifted_known shift left (pos count) = or_fault (nat_lt count 32) (BadShift (pos count)) (reduced (shift left count)) tt
-shifted_known shift left (negsuc n) = tt
+-- what an operator gives
+arithmetic_known : (value : Result ℤ EvalFault) → IsArithmetic value → NamesNothing value
+arithmetic_known (Ok number) is = tt
+arithmetic_known (Err ZeroDivisor) is = tt
+arithmetic_known (Err (UnknownName name)) is = absurd is
+arithmetic_known (Err (BadIndex number)) is = tt
+arithmetic_known (Err (LaterData first end)) is = tt
+arithmetic_known (Err (DataWidth width)) is = tt
+arithmetic_known (Err (BadShift count)) is = tt
 
 operate_known : (op : BinaryOp) (left right : ℤ) → NamesNothing (operate op left right)
-operate_known two.Times left right = tt
-operate_known two.Divide left right = divided_known int_div left right
-operate_known two.Remainder left right = divided_known int_rem left right
-operate_known two.Plus left right = tt
-operate_known two.Minus left right = tt
-operate_known two.ShiftLeft left right = shifted_known (λ number count. number *ℤ pos (2 ^ count)) left right
-operate_known two.ShiftRight left right = shifted_known int_shr left right
-operate_known two.Greater left right = tt
-operate_known two.GreaterEqual left right = tt
-operate_known two.Less left right = tt
-operate_known two.LessEqual left right = tt
-operate_known two.Equal left right = tt
-operate_known two.NotEqual left right = tt
-operate_known two.BitAnd left right = tt
-operate_known two.BitXor left right = tt
-operate_known two.BitOr left right = tt
-operate_known two.And left right = tt
-operate_known two.Or left right = tt
+operate_known op left right = arithmetic_known (operate op left right) (operate_sound op left right)
 
 value_known : (name : List ℕ) (given : Option ℤ) → is_some given ≡ true → NamesNothing (known_value name given)
 value_known name (Some value) is = tt

@@ -1,5 +1,6 @@
 -- What is passed after numbers, texts and switches.
 use Rattle.std.proofs.Common.{◌≡◌, Bool, true, List, Result, Ok, Err, refl, sym, ap, subst, ◌∙◌}
+use Rattle.std.specs.Global.{Box}
 use Rattle.std.specs.Prelude.{option_map, IfOk, OnOk}
 use Rattle.rz_expr.specs.Term.{term_of}
 use Rattle.rz_types_fields.specs.declared.field.Case.{Case}
@@ -10,6 +11,7 @@ use Rattle.rz_types_fields.specs.declared.field.Field.TheVariants as fields_of
 use Rattle.rz_types_fields.specs.declared.field.Field.TheVariants.{rolls-Num, rolls-Switch, rolls-Text}
 use Rattle.rz_types_fields.specs.declared.field.NumField.{NumField}
 use Rattle.rz_types_fields.specs.declared.field.TextField.{TextField}
+use Rattle.rz_types_fields.specs.declared.hints.CaseHints.{CaseHints}
 use Rattle.rz_types_fields.specs.Field.{array_step, case_step, field_step, plain_cases, plain_field, plain_number, plain_text, Number, PlainBody, PlainCase, PlainField, Switch, Text}
 use Rattle.rz_types_fields.specs.Passed.{behind, between, told_by}
 use Rattle.rz_types.specs.Notes.{passed, passed_at}
@@ -23,8 +25,8 @@ num_is field number is = ap plain_field is ∙ ap plain_field (sym (rolls-Num nu
 text_is : (field : Field) (text : TextField) → field ≡ fields_of.Text text → plain_field field ≡ Text (plain_text text)
 text_is field text is = ap plain_field is ∙ ap plain_field (sym (rolls-Text text)) ∙ fold-roll-Field PlainField PlainField PlainCase field_step array_step case_step (Field-F.Text text)
 
-switch_is : (field : Field) (cases : List Case) → field ≡ fields_of.Switch cases → plain_field field ≡ Switch (plain_cases cases)
-switch_is field cases is = ap plain_field is ∙ ap plain_field (sym (rolls-Switch cases)) ∙ fold-roll-Field PlainField PlainField PlainCase field_step array_step case_step (Field-F.Switch cases)
+switch_is : (field : Field) (cases : List Case) (hints : Box CaseHints) → field ≡ fields_of.Switch cases hints → plain_field field ≡ Switch (plain_cases cases)
+switch_is field cases hints is = ap plain_field is ∙ ap plain_field (sym (rolls-Switch cases hints)) ∙ fold-roll-Field PlainField PlainField PlainCase field_step array_step case_step (Field-F.Switch cases hints)
 
 module _ {E : Type 0} (field : Field) (result : Result Bool E) (fields : PlainBody) (old new : List Note) where
   abbrev Behind : PlainField → Type 0
@@ -44,20 +46,20 @@ module _ {E : Type 0} (field : Field) (result : Result Bool E) (fields : PlainBo
   pub text_behind : (text : TextField) → field ≡ fields_of.Text text → OnOk result (new ≡ old) → Behind (plain_field field)
   text_behind text is same = unchanged (plain_field field) same (ap (λ (plain : PlainField). behind plain (passed_at fields old)) (sym (text_is field text is)))
 
-  pub switch_behind : (cases : List Case) → field ≡ fields_of.Switch cases → OnOk result (new ≡ old) → Behind (plain_field field)
-  switch_behind cases is same = unchanged (plain_field field) same (ap (λ (plain : PlainField). behind plain (passed_at fields old)) (sym (switch_is field cases is)))
+  pub switch_behind : (cases : List Case) (hints : Box CaseHints) → field ≡ fields_of.Switch cases hints → OnOk result (new ≡ old) → Behind (plain_field field)
+  switch_behind cases hints is same = unchanged (plain_field field) same (ap (λ (plain : PlainField). behind plain (passed_at fields old)) (sym (switch_is field cases hints is)))
 
   -- what is near at a switch isn't in its cases
-  pub switch_read : (outermost : Bool) (rest : PlainBody) (cases items : List Case) → field ≡ fields_of.Switch cases → items ≡ cases
+  pub switch_read : (outermost : Bool) (rest : PlainBody) (cases items : List Case) (hints : Box CaseHints) → field ≡ fields_of.Switch cases hints → items ≡ cases
       → IfOk result (λ read. read ≡ are_cases_read (passed old) (plain_cases items)) → IfOk result (λ read. read ≡ is_read outermost rest (passed_at fields old) (plain_field field))
-  switch_read outermost rest cases items is same read = by result read
+  switch_read outermost rest cases items hints is same read = by result read
     where
       by : (r : Result Bool E) → IfOk r (λ read. read ≡ are_cases_read (passed old) (plain_cases items))
           → IfOk r (λ read. read ≡ is_read outermost rest (passed_at fields old) (plain_field field))
       by (Ok read) so =
           so ∙ ap (λ (cases : List Case). are_cases_read (passed old) (plain_cases cases)) same
           ∙ cases_at fields (passed old) (plain_cases cases)
-          ∙ ap (is_read outermost rest (passed_at fields old)) (sym (switch_is field cases is))
+          ∙ ap (is_read outermost rest (passed_at fields old)) (sym (switch_is field cases hints is))
       by (Err stop) so = tt
 
 pub ok_same : {A E : Type 0} (result : Result Bool E) (x : A) → OnOk result (x ≡ x)

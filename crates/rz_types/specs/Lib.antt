@@ -12,6 +12,7 @@ pub use Rattle.rz_types_fields.specs.Sees
 pub mod Walk
 pub mod Rules
 pub mod Kept
+pub mod Cases
 pub mod Names
 pub mod Template
 pub mod Readable

@@ -12,6 +12,7 @@ use Rattle.rz_expr.specs.Environment.{predefined}
 use Rattle.rz_expr.specs.Mention.{alone, around, counted, fact, indexed, mentions, name_mentioned, with_bits, Mention}
 use Rattle.rz_expr.specs.Term.{Term}
 use Rattle.rz_types_fields.specs.Field.{case_and, field_and, no_cases, no_fields, takes_value, Align, Array, Fill, Label, Number, PlainBody, PlainCases, PlainField, Points, Switch, Text}
+use Rattle.rz_types_fields.specs.Laid.{unless}
 use Rattle.rz_types_fields.specs.Range.{is_between, may_be_size}
 use Rattle.rz_types_fields.specs.Piece.{expressions_of}
 use Rattle.rz_types_fields.specs.declared.field.NumForm.{NumForm}
@@ -52,10 +53,6 @@ may_be_count count = is_between (pos 0) (pos 16777212) count
 -- how many rows may be stated of an array
 abbrev pub may_be_rows : ℤ → Bool
 may_be_rows count = is_between (pos 0) (pos 1048576) count
-
--- a value that may not be
-abbrev pub unless : Bool → ℤ → Option ℤ
-unless allowed value = if allowed then None else Some value
 
 abbrev pub unless_size : TextForm → Option ℤ → Option ℤ
 unless_size form None = None

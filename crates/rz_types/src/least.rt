@@ -25,7 +25,7 @@ fn least_width(field: &Field) -> u64
         }
         Field::Align(_) | Field::Label(_) => 0,
         Field::Array(array) => least_rows(array.count, least_widths(array.row.as_slice())),
-        Field::Switch(cases) => least_of_cases(cases.as_slice()),
+        Field::Switch(cases, _hints) => least_of_cases(cases.as_slice()),
     }
 }
 

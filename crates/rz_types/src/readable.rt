@@ -134,7 +134,7 @@ fn is_read<'a>(
                 Ok(false)
             }
         }
-        Field::Switch(cases) => are_cases_read(cases.as_slice(), notes),
+        Field::Switch(cases, _hints) => are_cases_read(cases.as_slice(), notes),
     }
 }
 

@@ -5,8 +5,9 @@ ghost use Rattle.rz_types.specs.Template.{template_of};
 ghost use Rattle.rz_core.specs.Stop.{Gives, seen};
 ghost use Rattle.rz_core.specs.Lists.{or_else};
 ghost use Rattle.rz_types_fields.specs.Field.{plain_body, plain_cases, plain_field, plain_text};
+ghost use Rattle.rz_types_fields.specs.Laid.{unless};
 ghost use Rattle.rz_types_fields.specs.Shape.{is_well_shaped};
-ghost use Rattle.rz_types.specs.Rules.{array_twice, bad_case, bad_place, bad_rows, bad_size, bad_width, case_names, checked, has_values, label_twice, may_be_count, may_be_rows, may_be_width, name_fault, no_values, repeated, unknown_fault, unless, width_fault};
+ghost use Rattle.rz_types.specs.Rules.{array_twice, bad_case, bad_place, bad_rows, bad_size, bad_width, case_names, checked, has_values, label_twice, may_be_count, may_be_rows, may_be_width, name_fault, no_values, repeated, unknown_fault, width_fault};
 ghost use Rattle.rz_types_check.specs.Walked.{own_of};
 
 use crate::keys::{Keys, key_rule};
@@ -93,7 +94,7 @@ fn bad_place(
             Some(fault) => Ok(Some(fault)),
             None => Ok(no_values(position, array.row.as_slice())),
         },
-        Field::Switch(cases) => case_twice(alloc, position, cases.as_slice()),
+        Field::Switch(cases, _hints) => case_twice(alloc, position, cases.as_slice()),
         _ => Ok(None),
     }
 }
@@ -238,7 +239,7 @@ fn bad_width(field: &Field) -> Option<i32>
         Field::Text(text) => bad_size(text),
         Field::Fill(_, count) => unless(may_be_count(*count), *count),
         Field::Array(array) => bad_rows(array.count),
-        Field::Points(_) | Field::Align(_) | Field::Label(_) | Field::Switch(_) => None,
+        Field::Points(_) | Field::Align(_) | Field::Label(_) | Field::Switch(..) => None,
     }
 }
 

@@ -139,7 +139,7 @@ fn walk_field<'a>(
     }
     match field {
         Field::Array(array) => walk_array(alloc, array, walk),
-        Field::Switch(cases) => walk_cases(alloc, position, cases.as_slice(), walk),
+        Field::Switch(cases, _hints) => walk_cases(alloc, position, cases.as_slice(), walk),
         _ => Ok(()),
     }
 }

@@ -42,7 +42,7 @@ shifted_sound : (shift : ℤ → ℕ → ℤ) (left right : ℤ) → IsArithmeti
 shifted_sound shift left (pos count) = or_fault (nat_lt count 32) (BadShift (pos count)) (reduced (shift left count)) tt
 shifted_sound shift left (negsuc n) = tt
 
-operate_sound : (op : BinaryOp) (left right : ℤ) → IsArithmetic (operate op left right)
+pub operate_sound : (op : BinaryOp) (left right : ℤ) → IsArithmetic (operate op left right)
 operate_sound two.Times left right = tt
 operate_sound two.Divide left right = divided_sound int_div left right
 operate_sound two.Remainder left right = divided_sound int_rem left right

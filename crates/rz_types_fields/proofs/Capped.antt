@@ -7,7 +7,7 @@ use Rattle.rz_types_fields.specs.declared.field.Field.{Field}
 use Rattle.rz_types_fields.specs.declared.keys.CaseKey.{CaseKey}
 use Rattle.rz_types_fields.proofs.Bodies.{body_next}
 
-some_is : (a b : ℕ) → ◌≡◌ {A = Option ℕ} (Some a) (Some b) → a ≡ b
+pub some_is : (a b : ℕ) → ◌≡◌ {A = Option ℕ} (Some a) (Some b) → a ≡ b
 some_is a b is = cc
 
 -- after widths that are capped alike the keys are the same

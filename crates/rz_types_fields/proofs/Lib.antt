@@ -1,8 +1,13 @@
 pub mod SameNames
-pub mod Symbols
+pub mod SymbolNames
+pub mod SymbolPlaces
+pub mod SymbolWalks
 pub mod RowKeys
 pub mod RowPlaces
 pub mod Noting
+pub mod Positions
+pub mod HeldNotes
+pub mod Fronts
 pub mod Arithmetic
 pub mod Appending
 pub mod Bodies

@@ -114,7 +114,7 @@ field_step (Field-F.Fill unit count) = Fill unit count
 field_step (Field-F.Align unit) = Align unit
 field_step (Field-F.Label name) = Label name
 field_step (Field-F.Array array) = array
-field_step (Field-F.Switch cases) = Switch (cases_of cases)
+field_step (Field-F.Switch cases hints) = Switch (cases_of cases)
 
 -- the plain field that a field is
 abbrev pub plain_field : Field → PlainField

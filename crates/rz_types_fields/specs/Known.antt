@@ -1,8 +1,10 @@
 -- What the code notes of names, as contracts see it: the numbers of rows, the places and the numbers of rows around that the
 -- notes give them, and which names are met after them.
-use Rattle.std.specs.Prelude.{◌≡◌, ℕ, ℤ, Bool, ◌&&◌, ◌||◌, not, if◌then◌else◌, List, [], ◌∷◌, ◌++◌, Option, Some, option_map}
+use Rattle.std.specs.Prelude.{◌≡◌, ℕ, ℤ, pos, Bool, ◌&&◌, ◌||◌, not, if◌then◌else◌, List, [], ◌∷◌, ◌++◌, Option, Some, None, option_map}
 use Rattle.std.specs.Option.{is_some}
-use Rattle.rz_expr.specs.Environment.{count_key, Environment, Key}
+use Rattle.rz_core.specs.Lists.{or_else}
+use Rattle.rz_expr.specs.Environment.{count_key, row_key, Environment, Key}
+use Rattle.rz_expr.specs.NameKey.{key_of}
 use Rattle.rz_types_fields.specs.Field.{plain_body, PlainBody}
 use Rattle.rz_types_fields.specs.Front.{value_inside}
 use Rattle.rz_types_fields.specs.Solve.{is_same_key}
@@ -10,29 +12,38 @@ use Rattle.rz_types_fields.specs.Passed.{counts_rows, declares, gives_rows, outs
 use Rattle.rz_types_fields.specs.RowLabels.{row_value, RowOf}
 use Rattle.rz_types_fields.specs.declared.names.InRow.{InRow}
 use Rattle.rz_types_fields.specs.declared.names.Note.{Note}
-use Rattle.rz_types_fields.specs.declared.names.Note.TheVariants.{Counted, Entered, Placed, PlaceTold, Rows, Told}
-use Rattle.rz_types_fields.specs.declared.names.Said.{Said}
-use Rattle.rz_types_fields.specs.declared.names.Said.TheVariants.{Nothing, Value}
+use Rattle.rz_types_fields.specs.declared.names.Note.TheVariants.{Coming, Counted, Hidden, Numbered, Placed, PlaceTold, Rows, Told}
 
 -- which row of an array a body is, as the code has it
 abbrev pub which_of : Option InRow → Option RowOf
 which_of which = option_map (λ row. record { name = row.array.now; number = row.number }) which
 
--- the value of a key after one note more, where it has another before it: a number told it, rows of an array were read or are
--- laid, a label was read or laid, all rows of an array were, which have labels, or a body was entered, whose own names hide those
--- outside
-abbrev pub noting : Note → Key → Option ℤ → Option ℤ
-noting (Told name rows) key other = if is_same_key (count_key name.now.bytes) key then Some rows else other
-noting (Counted name rows) key other = if counts_rows name.now.bytes key then Some rows else other
-noting (Placed name at) key other = if stands_at name.now.bytes key then Some at else other
-noting (PlaceTold name at) key other = if stands_at name.now.bytes key then Some at else other
-noting (Rows row count places) key other = if gives_rows (plain_body row.now) key then row_value (plain_body row.now) count places.items key else other
-noting (Entered fields which) key other = value_inside (which_of which) (plain_body fields.now) key other
+-- a note speaks of a key: of an array by the number of its rows, or of the row around; of a label by its place, or of those in
+-- the rows of an array
+abbrev pub speaks : Note → Key → Bool
+speaks (Told name rows) key = is_same_key (count_key name.now.bytes) key
+speaks (Counted name rows) key = counts_rows name.now.bytes key
+speaks (PlaceTold name at) key = stands_at name.now.bytes key
+speaks (Placed name at) key = stands_at name.now.bytes key
+speaks (Numbered name number) key = is_same_key (row_key name.now.bytes) key
+speaks (Hidden own) key = is_same_key (key_of own) key
+speaks (Rows row count places) key = gives_rows (plain_body row.now) key
+speaks (Coming row) key = gives_rows (plain_body row.now) key
 
--- what is so after a note that says this, where something else was so before it
-abbrev pub said_or : Said → Option ℤ → Option ℤ
-said_or Nothing before = before
-said_or (Value value) before = value
+-- the value that it says: none of the names of a body that was just entered
+abbrev pub said : Note → Key → Option ℤ
+said (Told name rows) key = Some rows
+said (Counted name rows) key = Some rows
+said (PlaceTold name at) key = Some at
+said (Placed name at) key = Some at
+said (Numbered name number) key = Some (pos number)
+said (Hidden own) key = None
+said (Rows row count places) key = row_value (plain_body row.now) count places.items key
+said (Coming row) key = None
+
+-- the value of a key after one note more, where it has another before it
+abbrev pub noting : Note → Key → Option ℤ → Option ℤ
+noting note key other = if speaks note key then said note key else other
 
 -- after all notes, the oldest first
 abbrev pub noted : Option ℤ → List Note → Key → Option ℤ
@@ -42,14 +53,17 @@ noted other (note ∷ notes) key = noted (noting note key other) notes key
 abbrev pub known : List Note → Environment
 known notes = record { give = λ key. noted (outside.give key) notes key }
 
--- whether a key is met after one note more, where it was or wasn't before it: what a number told isn't met by that
+-- whether a key is met after one note more, where it was or wasn't before it: what a number told isn't met by that, and neither is
+-- the row around
 abbrev pub meeting : Note → Key → Bool → Bool
 meeting (Told name rows) key before = before
-meeting (PlaceTold name at) key before = before
 meeting (Counted name rows) key before = counts_rows name.now.bytes key || before
+meeting (PlaceTold name at) key before = before
 meeting (Placed name at) key before = stands_at name.now.bytes key || before
+meeting (Numbered name number) key before = before
+meeting (Hidden own) key before = not (is_same_key (key_of own) key) && before
 meeting (Rows row count places) key before = gives_rows (plain_body row.now) key || before
-meeting (Entered fields which) key before = not (declares (plain_body fields.now) key) && before
+meeting (Coming row) key before = not (gives_rows (plain_body row.now) key) && before
 
 abbrev pub met_noted : Bool → List Note → Key → Bool
 met_noted before [] key = before
@@ -65,6 +79,25 @@ pub record AreRowsNoted (row : PlainBody) (count : ℕ) (places : List ℤ) (old
   pub grew : new ≡ old ++ more
   pub values : (key : Key) (before : Option ℤ) → noted before more key ≡ (if gives_rows row key then row_value row count places key else before)
   pub all_met : (key : Key) (before : Bool) → met_noted before more key ≡ (gives_rows row key || before)
+
+-- notes were added at the end after which keys have these values, and these are met
+pub record Adds (values : Key → Option ℤ → Option ℤ) (mets : Key → Bool → Bool) (old new : List Note) : Type 0 where
+  pub more : List Note
+  pub grew : new ≡ old ++ more
+  pub values_are : (key : Key) (before : Option ℤ) → noted before more key ≡ values key before
+  pub mets_are : (key : Key) (before : Bool) → met_noted before more key ≡ mets key before
+
+-- by these keys have no value, and aren't met
+abbrev pub Hides : (Key → Bool) → List Note → List Note → Type 0
+Hides gives old new = Adds (λ key before. if gives key then None else before) (λ key before. not (gives key) && before) old new
+
+-- by these keys have values that are told
+abbrev pub Tells : (Key → Option ℤ) → List Note → List Note → Type 0
+Tells stated old new = Adds (λ key before. or_else (stated key) before) (λ key before. before) old new
+
+-- by those of the front of a body its own names hide those outside
+abbrev pub IsFront : Option RowOf → PlainBody → List Note → List Note → Type 0
+IsFront which body old new = Adds (value_inside which body) (λ key before. not (declares body key) && before) old new
 
 -- some were only added at the end
 abbrev pub Grew : {A : Type 0} → List A → List A → Type 0

@@ -134,9 +134,9 @@ abbrev pub line_in : Option Tree → List Tree
 line_in None = []
 line_in (Some value) = line_of_tree (out-Tree value)
 
--- a refusal, unless a test holds
-abbrev pub unless : Bool → Refusal → Option Refusal
-unless holds fault = if holds then None else Some fault
+-- this, unless a test holds
+abbrev pub unless : {A : Type 0} → Bool → A → Option A
+unless holds x = if holds then None else Some x
 
 -- the bits of a value, which is in the range of the field: 207
 abbrev pub ranged : ℕ → NumForm → ℤ → ℤ → Result (List Bool) Refusal

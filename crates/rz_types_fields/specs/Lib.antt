@@ -6,6 +6,7 @@ pub mod Place
 pub mod Field
 pub mod Shape
 pub mod Stored
+pub mod Symbols
 pub mod Width
 pub mod Solve
 pub mod Piece
@@ -17,3 +18,5 @@ pub mod Sees
 pub mod Spells
 pub mod Laid
 pub mod Known
+pub mod Newest
+pub mod Positions

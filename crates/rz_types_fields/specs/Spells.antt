@@ -83,27 +83,51 @@ pub record AreRows (row : PlainBody) (rows : ℕ) (names : Environment) : Type 0
 abbrev pub nowhere : Mark
 nowhere = record { file = 0; line = 0 }
 
-abbrev pub When : Bool → Type 0 → Type 0
-When true P = P
-When false P = Unit {0}
-
--- the bits of a number: of the row's value, or of the value of its expression, which is in the range of its field; plainly where
--- they tell the values of its names again that weren't known before it
-abbrev pub IsNumber : (plain : Bool) → Passed → NumForm → ℤ → Option Term → Sight → Option Tree → List Bool → Type 0
-IsNumber plain passed form width None sight value bits =
+-- the bits of a number: of the row's value, or of the value of its expression, which is in the range of its field
+abbrev pub IsNumber : NumForm → ℤ → Option Term → Sight → Option Tree → List Bool → Type 0
+IsNumber form width None sight value bits =
     (n : ℕ) × (value ≡ Some (trees.Number n)) × (n < 2 ^ nat_abs width) × (bits ≡ number_bits (nat_abs width) n)
-IsNumber plain passed form width (Some term) sight value bits =
+IsNumber form width (Some term) sight value bits =
     (v : ℤ) × (value ≡ None) × (value_of term sight ≡ Ok v) × (fits_number form width v ≡ true)
     × (bits ≡ number_bits (nat_abs width) (stored_number (nat_abs width) v))
-    × When plain (SolvesBack (is_known passed) (nat_abs width) sight term (stored_number (nat_abs width) v))
 
 -- the size of a text: none, or the value of its expression, where a text of this type may have it
 abbrev pub IsSize : TextForm → Sight → Option Term → Option ℕ → Type 0
 IsSize form sight None size = size ≡ None
 IsSize form sight (Some term) size = (n : ℕ) × (value_of term sight ≡ Ok (pos n)) × (may_be_size form (pos n) ≡ true) × (size ≡ Some n)
 
--- a value of a text is plain where what is stored tells it again: each of its bytes is one, a `cstring` has no zero byte, no
--- text is longer than its size leaves of it, and a `string` with a size has no zero byte at its end
+-- the bytes of a text: those of the row's value, or those of its fixed parts
+abbrev pub AreBytes : Facts → Sight → Option (List PlainPart) → Option Tree → List ℕ → Type 0
+AreBytes known sight None value bytes = value ≡ Some (trees.Text bytes)
+AreBytes known sight (Some parts) value bytes = (value ≡ None) × (bytes_seen nowhere known sight parts ≡ Ok bytes)
+
+-- the bits of a text: it has a size that it may have, or isn't too long without one
+pub record IsText (text : PlainText) (known : Facts) (sight : Sight) (value : Option Tree) (bits : List Bool) : Type 0 where
+  pub size : Option ℕ
+  pub has_size : IsSize text.form sight text.size size
+  pub bytes : List ℕ
+  pub are_bytes : AreBytes known sight text.fixed value bytes
+  pub short : is_too_long text.form size (length bytes) ≡ false
+  pub are_bits : bits ≡ bits_of (stored_text text.form size bytes)
+
+-- the bits of a piece at a place
+abbrev pub IsStored : Piece → Facts → ℕ → Sight → Option Tree → List Bool → Type 0
+IsStored (OneNumber number) known at sight value bits = IsNumber number.form number.width number.fixed sight value bits
+IsStored (OneText text) known at sight value bits = IsText text known sight value bits
+IsStored (Zeros count) known at sight value bits = (value ≡ None) × (bits ≡ zeros count)
+IsStored (Filler unit) known at sight value bits = (value ≡ None) × (bits ≡ zeros (missing unit at))
+IsStored (Place name) known at sight value bits = (value ≡ None) × (sight.names.give (place_key name.bytes) ≡ Some (pos at)) × (bits ≡ [])
+
+-- Plain values: what is stored tells them again.
+
+-- the value of a number's expression tells the values of its names that weren't known before it
+abbrev pub IsPlainNumber : Passed → ℤ → Option Term → Sight → Type 0
+IsPlainNumber passed width None sight = Unit {0}
+IsPlainNumber passed width (Some term) sight =
+    (v : ℤ) → value_of term sight ≡ Ok v → SolvesBack (is_known passed) (nat_abs width) sight term (stored_number (nat_abs width) v)
+
+-- a value of a text: each of its bytes is one, a `cstring` has no zero byte, no text is longer than its size leaves of it, and a
+-- `string` with a size has no zero byte at its end
 abbrev pub IsPlainZero : TextForm → List ℕ → Type 0
 IsPlainZero texts.Zero bytes = AllByRecursion (λ byte. byte ≢ 0) bytes
 IsPlainZero form bytes = Unit {0}
@@ -123,27 +147,22 @@ left_by form size = size
 abbrev pub IsPlainText : TextForm → Option ℕ → List ℕ → Type 0
 IsPlainText form size bytes = AllByRecursion (λ byte. byte < 256) bytes × IsPlainZero form bytes × IsPlainShort (left_by form size) bytes × IsPlainEnd form size bytes
 
--- the bytes of a text: those of the row's value, which is plain where that is asked for, or those of its fixed parts
-abbrev pub AreBytes : (plain : Bool) → TextForm → Facts → Sight → Option (List PlainPart) → Option ℕ → Option Tree → List ℕ → Type 0
-AreBytes plain form known sight None size value bytes = (value ≡ Some (trees.Text bytes)) × When plain (IsPlainText form size bytes)
-AreBytes plain form known sight (Some parts) size value bytes = (value ≡ None) × (bytes_seen nowhere known sight parts ≡ Ok bytes)
+abbrev pub IsPlainValue : PlainText → Sight → Option Tree → Type 0
+IsPlainValue text sight value = (size : Option ℕ) (bytes : List ℕ) → IsSize text.form sight text.size size → value ≡ Some (trees.Text bytes) → IsPlainText text.form size bytes
 
--- the bits of a text: it has a size that it may have, or isn't too long without one
-pub record IsText (plain : Bool) (text : PlainText) (known : Facts) (sight : Sight) (value : Option Tree) (bits : List Bool) : Type 0 where
-  pub size : Option ℕ
-  pub has_size : IsSize text.form sight text.size size
-  pub bytes : List ℕ
-  pub are_bytes : AreBytes plain text.form known sight text.fixed size value bytes
-  pub short : is_too_long text.form size (length bytes) ≡ false
-  pub are_bits : bits ≡ bits_of (stored_text text.form size bytes)
+-- what is asked of the value of a piece, beside that its bits stand at their place
+abbrev pub Manner : Type 1
+Manner = Passed → Piece → Sight → Option Tree → Type 0
 
--- the bits of a piece at a place
-abbrev pub IsStored : (plain : Bool) → Passed → Piece → Facts → ℕ → Sight → Option Tree → List Bool → Type 0
-IsStored plain passed (OneNumber number) known at sight value bits = IsNumber plain passed number.form number.width number.fixed sight value bits
-IsStored plain passed (OneText text) known at sight value bits = IsText plain text known sight value bits
-IsStored plain passed (Zeros count) known at sight value bits = (value ≡ None) × (bits ≡ zeros count)
-IsStored plain passed (Filler unit) known at sight value bits = (value ≡ None) × (bits ≡ zeros (missing unit at))
-IsStored plain passed (Place name) known at sight value bits = (value ≡ None) × (sight.names.give (place_key name.bytes) ≡ Some (pos at)) × (bits ≡ [])
+abbrev pub anyhow : Manner
+anyhow passed piece sight value = Unit {0}
+
+abbrev pub plainly : Manner
+plainly passed (OneNumber number) sight value = IsPlainNumber passed number.width number.fixed sight
+plainly passed (OneText text) sight value = IsPlainValue text sight value
+plainly passed piece sight value = Unit {0}
+
+-- Late numbers.
 
 -- an expression is late, where there is one; so is a number with it
 abbrev pub is_late_value : Names → Late → Option Term → Sight → Bool
@@ -175,10 +194,11 @@ abbrev pub most_bits : ℕ
 most_bits = 134217696
 
 -- a piece is at its place among all bits, seen with the finished names; no piece ends after the most bits
-pub record PieceSpells (plain : Bool) (known : Facts) (all : List Bool) (names : Environment) (passed : Passed) (piece : Piece) (value : Option Tree) (at : ℕ)
+pub record PieceSpells (how : Manner) (known : Facts) (all : List Bool) (names : Environment) (passed : Passed) (piece : Piece) (value : Option Tree) (at : ℕ)
     (late : Late) (after : ℕ) (late_after : Late) : Type 0 where
   pub bits : List Bool
-  pub stored : IsStored plain passed piece known at (sees known all names at) value bits
+  pub stored : IsStored piece known at (sees known all names at) value bits
+  pub manner : how passed piece (sees known all names at) value
   pub early : is_late_size passed.met late piece (sees known all names at) ≡ false
   pub there : take (length bits) (drop at all) ≡ bits
   pub ends : after ≡ at + length bits
@@ -232,11 +252,11 @@ choice_in (Some value) = choice_of_tree (out-Tree value)
 abbrev pub is_case : Word → Option Tree → Bool
 is_case name value = str_eq_ignore_ascii_case name.bytes (choice_in value)
 
-module _ (plain : Bool) (known : Facts) (all : List Bool) where
+module _ (how : Manner) (known : Facts) (all : List Bool) where
   -- a field without fields within it: its pieces
   abbrev pub PiecesSpell : PlainField → Environment → Passed → Option Tree → RowSpells
   PiecesSpell field names passed value at late after late_after =
-      IsGroupedFor field value × InOrder (PieceSpells plain known all names) passed (pieces_of field) (values_for field value) at late after late_after
+      IsGroupedFor field value × InOrder (PieceSpells how known all names) passed (pieces_of field) (values_for field value) at late after late_after
 
   abbrev mutual
     -- a field, seen with the names of its body: an array is its rows, a switch is the fields of the case that is chosen
@@ -284,15 +304,22 @@ count_in value = fold-Tree ℕ count_step value
 abbrev pub values_in : List Tree → ℕ
 values_in row = sum_by count_in row
 
--- the row spells these bytes: its fields one after the other from the first bit on, and then zero bits to a whole byte;
--- plainly where the bytes tell the row again and it has at most 1,048,576 values
-pub record Spells (plain : Bool) (known : Facts) (body : PlainBody) (row : List Tree) (bytes : List ℕ) : Type 0 where
+-- in this manner the row spells these bytes: its fields one after the other from the first bit on, and then zero bits to a whole
+-- byte
+pub record Spelling (how : Manner) (known : Facts) (body : PlainBody) (row : List Tree) (bytes : List ℕ) : Type 0 where
   pub names : Environment
   pub own : Within body None outside names
   pub end : ℕ
   pub late : Late
-  pub fields : BodySpells plain known (bits_of bytes) body names (at_front body nothing_passed) row 0 [] end late
+  pub fields : BodySpells how known (bits_of bytes) body names (at_front body nothing_passed) row 0 [] end late
   pub filled : bits_of bytes ≡ filled 8 (take end (bits_of bytes))
   pub within : end ≤ length (bits_of bytes)
   pub are_bytes : (k : ℕ) → slice_index bytes k < 256
-  pub few : When plain (values_in row ≤ 1048576)
+
+abbrev pub Spells : Facts → PlainBody → List Tree → List ℕ → Type 0
+Spells known body row bytes = Spelling anyhow known body row bytes
+
+-- plainly where the bytes tell the row again and it has at most 1,048,576 values
+pub record SpellsPlainly (known : Facts) (body : PlainBody) (row : List Tree) (bytes : List ℕ) : Type 0 where
+  pub spelling : Spelling plainly known body row bytes
+  pub few : values_in row ≤ 1048576

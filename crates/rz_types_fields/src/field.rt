@@ -3,7 +3,7 @@
 ghost use Rattle.std.specs.Prelude.{◌≡◌};
 ghost use Rattle.rz_types_fields.specs.Field.{plain_field, takes_value};
 
-use crate::Texts;
+use crate::{CaseHints, Symbols, Texts};
 use rz_core::{Listing, Word};
 use rz_expr::Expr;
 
@@ -62,9 +62,6 @@ pub struct Symbol {
     /// The value.
     pub value: i32,
 }
-
-/// The symbols of a number, in order.
-pub type Symbols = Listing<Symbol>;
 
 /// A list of expressions.
 pub type Exprs = Listing<Expr>;
@@ -153,8 +150,8 @@ pub enum Field {
     Label(Word),
     /// `array`
     Array(ArrayField),
-    /// `switch`
-    Switch(Cases),
+    /// `switch`, with hints where its cases stand.
+    Switch(Cases, Box<CaseHints>),
 }
 
 /// The fields of a type declaration, in order.
@@ -169,6 +166,6 @@ pub fn takes_value(field: &Field) -> bool
         Field::Text(text) => text.fixed.is_none(),
         Field::Points(points) => points.fixed.is_none(),
         Field::Fill(..) | Field::Align(_) | Field::Label(_) => false,
-        Field::Array(_) | Field::Switch(_) => true,
+        Field::Array(_) | Field::Switch(..) => true,
     }
 }

@@ -89,7 +89,7 @@ pub fn fixed_width(field: &Field) -> Option<u64>
             Some(capped(u64::from(*unit) * u64::from(count.unsigned_abs())))
         }
         Field::Label(_) => Some(0),
-        Field::Align(_) | Field::Switch(_) => None,
+        Field::Align(_) | Field::Switch(..) => None,
         Field::Array(array) => rows_width(array.count, fixed_widths(array.row.as_slice())),
     }
 }

@@ -18,12 +18,16 @@
 
 mod expressions;
 mod field;
+mod hints;
 mod keys;
+mod lower;
 mod name_key;
 mod names;
+mod notes;
 mod place;
 mod range;
 mod stored;
+mod symbol_list;
 mod text;
 mod tree;
 mod value;
@@ -31,17 +35,19 @@ mod value;
 pub use expressions::{expressions_of, format_expressions, text_expressions};
 pub use field::{
     ArrayField, Body, Case, Cases, Exprs, Field, NumField, NumForm, PointField, Radix, Symbol,
-    Symbols, TextField, TextForm, takes_value,
+    TextField, TextForm, takes_value,
 };
+pub use hints::{CaseHints, switch_of};
 pub use keys::{CaseKey, case_keys, fixed_width, fixed_widths, key_bits, sized_bytes, text_width};
 pub use name_key::{
-    Standing, counts_rows, declares, gives_key, has_label, is_label, is_predefined, is_same_key,
-    standing_of, stands_at, states,
+    Standing, declares, gives_key, is_label, is_predefined, is_same_key, standing_of, states,
 };
-pub use names::{InRow, NamesEnv, Note, is_met, note_rows, value_noted};
+pub use names::{InRow, Note, note_front, note_rows};
+pub use notes::{NamesEnv, Notes, is_met, value_noted};
 pub use place::{TextPlace, may_say, may_stand};
 pub use range::{fits_number, may_be_size, own_width};
 pub use stored::{is_too_long, stored_number};
+pub use symbol_list::Symbols;
 pub use text::{
     FileResource, Format, FormatArg, FormatArgs, ResKey, TextPart, Texts, text_of, text_seen,
 };

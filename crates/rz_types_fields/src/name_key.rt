@@ -72,7 +72,7 @@ pub fn is_label(field: &Field, key: Key<'_>) -> bool
 }
 
 /// Whether a label of this name stands directly in a body.
-pub fn has_label(row: &[Field], label: &Word) -> bool
+fn has_label(row: &[Field], label: &Word) -> bool
     ensures { result ≡ has_label (plain_body row.now) (str_to_ascii_lowercase label.now.bytes) }
 {
     for field in row {
@@ -106,14 +106,10 @@ pub fn gives_key(field: &Field, key: Key<'_>) -> bool
     }
 }
 
-/// Whether one of the fields of a body gives a name a value. No field gives the number of a row around, so for one of these
-/// the fields aren't looked through.
+/// Whether one of the fields of a body gives a name a value.
 pub fn declares(row: &[Field], key: Key<'_>) -> bool
     ensures { result ≡ declares (plain_body row.now) (key_of key.entry) }
 {
-    if let Key::Row(_) = key {
-        return false;
-    }
     for field in row {
         if gives_key(field, key) {
             return true;

@@ -1,23 +1,22 @@
-//! What expressions see of names: notes of the numbers of rows, of places, and of rows around, the oldest first, of which the
-//! newest of a name counts.
+//! Notes of what is known of names: the numbers of rows, the places of labels, and the names that a body hides. They stand in a
+//! list, in `notes`, of which the newest that speaks of a name counts.
 
-ghost use Rattle.std.specs.Prelude.{◌≡◌, ◌||◌, ℤ, Bool, OnOk, Option, Some, if◌then◌else◌};
+ghost use Rattle.std.specs.Prelude.{◌≡◌, false, OnOk, if◌then◌else◌};
 ghost use Rattle.std.specs.Str.{str_to_ascii_lowercase};
-ghost use Rattle.std.specs.Option.{unwrap_or};
-ghost use Rattle.rz_expr.specs.Environment.{place_in_key, IsSeenIn};
+ghost use Rattle.rz_expr.specs.Environment.{place_in_key};
 ghost use Rattle.rz_expr.specs.NameKey.{key_of};
-ghost use Rattle.rz_types_fields.specs.Field.{plain_body, plain_field};
-ghost use Rattle.rz_types_fields.specs.Front.{stated_by, stated_in, stated_value, value_inside};
-ghost use Rattle.rz_types_fields.specs.Known.{AreRowsNoted, known, meeting, met, noting, said_or, which_of};
-ghost use Rattle.rz_types_fields.specs.RowLabels.{label_count, label_index, labels_count, numbers_row, row_value};
-ghost use Rattle.rz_types_fields.specs.Value.{no_bits, see};
+ghost use Rattle.rz_types_fields.specs.Field.{plain_array, plain_body, plain_field};
+ghost use Rattle.rz_types_fields.specs.Front.{stated_by, stated_in, stated_value};
+ghost use Rattle.rz_types_fields.specs.Known.{said, speaks, which_of, Adds, AreRowsNoted, Hides, IsFront, Tells};
+ghost use Rattle.rz_types_fields.specs.Passed.{declares, gives_count, gives_key};
+ghost use Rattle.rz_types_fields.specs.RowLabels.{is_row, label_count, label_index, labels_count, row_number, row_value};
+ghost use Rattle.rz_types_fields.specs.Solve.{is_same_key};
 
-use crate::name_key::{
-    counts_rows, declares, gives_count, gives_rows, is_label, is_same_key, stands_at,
-};
-use crate::{Field, fact_of};
-use rz_core::{Facts, NoMemory, Word};
-use rz_expr::{Env, FactWord, Key, value_outside};
+use crate::name_key::{counts_rows, gives_rows, is_label, is_same_key, stands_at};
+use crate::notes::Notes;
+use crate::{ArrayField, Field};
+use rz_core::{NoMemory, Word};
+use rz_expr::Key;
 
 /// Which row of an array a body is.
 #[derive(Clone, Copy)]
@@ -28,10 +27,10 @@ pub struct InRow<'a> {
     pub number: u64,
 }
 
-/// What is known of the number of rows of an array, or of the place of a label.
+/// What is known of the number of rows of an array, of the place of a label, or of the row around.
 #[derive(Drop)]
 pub enum Note<'a> {
-    /// A number told how many rows an array has.
+    /// A number told how many rows an array has, or that is stated.
     Told(&'a Word, i64),
     /// An array has so many rows.
     Counted(&'a Word, i64),
@@ -39,158 +38,40 @@ pub enum Note<'a> {
     PlaceTold(&'a Word, i32),
     /// A label stands at this place, in bits from the start of the resource.
     Placed(&'a Word, i32),
+    /// The row of this number was entered, from 1, of an array of this name.
+    Numbered(&'a Word, u64),
+    /// A body was entered that has this label or array, which has no value yet.
+    Hidden(Key<'a>),
     /// All rows of an array have these fields, there are so many of them, and the labels that stand directly in them have these
     /// places, in bits from the start of the resource: those of each row in order, row by row.
     Rows(&'a [Field], u64, Vec<i32>),
-    /// A body was entered: its own labels have no place yet, and its own arrays no number of rows but the one that is stated.
-    /// It may be a row of an array.
-    Entered(&'a [Field], Option<InRow<'a>>),
+    /// A body was entered that has an array whose rows have these fields: the labels directly in them have no values yet.
+    Coming(&'a [Field]),
 }
 
-/// What an expression sees of a resource and of what was noted: `true` and `false`, the place of each label and the
-/// number of rows of each array that is known, the places of labels in their rows, the number of each row around, and the
-/// facts. (MPW Rez.)
-#[derive(Drop)]
-pub struct NamesEnv<'a> {
-    /// What is known of the resource.
-    pub facts: &'a Facts,
-    /// What was noted, the oldest first: the newest of a name counts.
-    pub notes: &'a [Note<'a>],
-}
-
-impl Env for NamesEnv<'_> {
-    ghost view = { λ env. see env.facts.now no_bits (known env.notes.now) };
-
-    ghost belongs = { λ env finished. IsSeenIn (see env.facts.now no_bits (known env.notes.now)) finished };
-
-    fn give(&self, key: Key<'_>) -> Option<i128> {
-        value_noted(self.notes, key)
-    }
-
-    fn bits(&self, _first: i64, _width: i32) -> Option<u32> {
-        None
-    }
-
-    fn fact(&self, which: FactWord) -> i32 {
-        fact_of(self.facts, which)
-    }
-
-    ghost law = { λ env finished seen. seen };
-}
-
-/// The value that is known of a key: a place in bits from the start of the resource, a number of rows, or that of a row around,
-/// from 1; of `true` and `false` their values. `None` where none is known. It looks from the newest note on, and for each body
-/// that was entered through its fields.
-pub fn value_noted(notes: &[Note<'_>], key: Key<'_>) -> Option<i128>
-    ensures { result ≡ (known notes.now).give (key_of key.entry) }
-{
-    for newer in 0..notes.len() {
-        match note_gives(&notes[notes.len() - 1 - newer], key) {
-            Said::Value(value) => return value,
-            Said::Nothing => {}
-        }
-    }
-    value_outside(key)
-}
-
-/// What a note says of a key.
-#[derive(Clone, Copy)]
-enum Said {
-    /// Nothing: what the older notes say holds.
-    Nothing,
-    /// Its value, or that it has none.
-    Value(Option<i128>),
-}
-
-/// What a note says of a key.
-fn note_gives(note: &Note<'_>, key: Key<'_>) -> Said
-    ensures { (before : Option ℤ) → noting note.now (key_of key.entry) before ≡ said_or result before }
+/// Whether a note speaks of a key.
+pub fn speaks(note: &Note<'_>, key: Key<'_>) -> bool
+    ensures { result ≡ speaks note.now (key_of key.entry) }
 {
     match note {
-        Note::Told(array, rows) | Note::Counted(array, rows) => {
-            said_if(counts_rows(array, key), i128::from(*rows))
-        }
-        Note::Placed(label, place) | Note::PlaceTold(label, place) => {
-            said_if(stands_at(label, key), i128::from(*place))
-        }
-        Note::Rows(row, count, places) => {
-            if gives_rows(row, key) {
-                Said::Value(row_value(row, *count, places.as_slice(), key))
-            } else {
-                Said::Nothing
-            }
-        }
-        Note::Entered(fields, which) => value_inside(which, fields, key),
+        Note::Told(name, _) | Note::Counted(name, _) => counts_rows(name, key),
+        Note::PlaceTold(name, _) | Note::Placed(name, _) => stands_at(name, key),
+        Note::Numbered(name, _) => is_same_key(Key::Row(name), key),
+        Note::Hidden(own) => is_same_key(*own, key),
+        Note::Rows(row, ..) | Note::Coming(row) => gives_rows(row, key),
     }
 }
 
-/// This value, where it is said.
-fn said_if(said: bool, value: i128) -> Said
-    ensures { (before : Option ℤ) → (if said then Some value else before) ≡ said_or result before }
+/// The value that a note says of a key of which it speaks.
+pub fn said(note: &Note<'_>, key: Key<'_>) -> Option<i128>
+    ensures { result ≡ said note.now (key_of key.entry) }
 {
-    if said {
-        Said::Value(Some(value))
-    } else {
-        Said::Nothing
-    }
-}
-
-/// What the front of a body says of a key: the number of the row that the body is, where the key is that of its array; of the
-/// names that its fields declare the stated count, or that they have no value.
-fn value_inside(which: &Option<InRow<'_>>, fields: &[Field], key: Key<'_>) -> Said
-    ensures { (before : Option ℤ) → value_inside (which_of which.now) (plain_body fields.now) (key_of key.entry) before ≡ said_or result before }
-{
-    match which {
-        Some(row) if numbers_row(row.array, key) => Said::Value(Some(i128::from(row.number))),
-        _ => {
-            if declares(fields, key) {
-                Said::Value(stated_in(fields, key))
-            } else {
-                Said::Nothing
-            }
-        }
-    }
-}
-
-/// Whether a key is the number of the row of the array of this name.
-fn numbers_row(name: &Option<Word>, key: Key<'_>) -> bool
-    ensures { result ≡ numbers_row name.now (key_of key.entry) }
-{
-    match name {
-        Some(name) => is_same_key(Key::Row(name), key),
-        None => false,
-    }
-}
-
-/// The number of rows that is stated of an array of this name among these fields.
-fn stated_in(fields: &[Field], key: Key<'_>) -> Option<i128>
-    ensures { result ≡ stated_in (plain_body fields.now) (key_of key.entry) }
-{
-    for field in fields {
-        let rows = stated_by(field, key);
-        if rows.is_some() {
-            return rows;
-        }
-    }
-    None
-}
-
-/// The number of rows that is stated of the field, where it is an array of this name.
-fn stated_by(field: &Field, key: Key<'_>) -> Option<i128>
-    ensures { result ≡ stated_by (plain_field field.now) (key_of key.entry) }
-{
-    match field {
-        Field::Array(array) => stated_value(&array.name, array.count, key),
-        _ => None,
-    }
-}
-
-fn stated_value(name: &Option<Word>, count: Option<i32>, key: Key<'_>) -> Option<i128>
-    ensures { result ≡ stated_value name.now count (key_of key.entry) }
-{
-    match count {
-        Some(count) if gives_count(name, key) => Some(i128::from(count)),
-        _ => None,
+    match note {
+        Note::Told(_, rows) | Note::Counted(_, rows) => Some(i128::from(*rows)),
+        Note::PlaceTold(_, place) | Note::Placed(_, place) => Some(i128::from(*place)),
+        Note::Numbered(_, number) => Some(i128::from(*number)),
+        Note::Rows(row, count, places) => row_value(row, *count, places.as_slice(), key),
+        Note::Hidden(_) | Note::Coming(_) => None,
     }
 }
 
@@ -221,60 +102,136 @@ fn place_among(row: &[Field], count: u64, places: &[i32], label: &Word, number: 
     }
 }
 
-/// Whether a key is met: a label or the rows of an array stand before, or the name is `true` or `false`; what a number told isn't
-/// met by that. It looks from the newest note on, and for each body that was entered through its fields.
-pub fn is_met(notes: &[Note<'_>], key: Key<'_>) -> bool
-    ensures { result ≡ met notes.now (key_of key.entry) }
+/// Notes that a body was entered, which may be a row of an array: the name of the array has the number of the row, and the
+/// names of the body itself have no value but the numbers of rows that it states.
+pub fn note_front<'a>(
+    fields: &'a [Field],
+    which: Option<InRow<'a>>,
+    notes: &mut Notes<'a>,
+) -> Result<(), NoMemory>
+    ensures { OnOk result (IsFront (which_of which.entry) (plain_body fields.now) notes.old.items notes.new.items) }
 {
-    for newer in 0..notes.len() {
-        match meets(&notes[notes.len() - 1 - newer], key) {
-            Some(met) => return met,
-            None => {}
-        }
-    }
-    value_outside(key).is_some()
+    note_number(which, notes)?;
+    hide_names(fields, notes)?;
+    tell_counts(fields, notes)?;
+    Ok(())
 }
 
-/// Whether a key is met, where a note says it.
-fn meets(note: &Note<'_>, key: Key<'_>) -> Option<bool>
-    ensures { (before : Bool) → meeting note.now (key_of key.entry) before ≡ unwrap_or result before }
+/// Notes the number of a row, where its array has a name.
+fn note_number<'a>(which: Option<InRow<'a>>, notes: &mut Notes<'a>) -> Result<(), NoMemory>
+    ensures { OnOk result (Adds (λ key before. if is_row (which_of which.entry) key then row_number (which_of which.entry) else before) (λ key before. before) notes.old.items notes.new.items) }
 {
-    match note {
-        Note::Told(..) | Note::PlaceTold(..) => None,
-        Note::Counted(array, _) => if_so(counts_rows(array, key)),
-        Note::Placed(label, _) => if_so(stands_at(label, key)),
-        Note::Rows(row, ..) => if_so(gives_rows(row, key)),
-        Note::Entered(fields, _) => {
-            if declares(fields, key) {
-                Some(false)
-            } else {
-                None
-            }
-        }
+    let Some(row) = which else {
+        return Ok(());
+    };
+    let Some(name) = row.array else {
+        return Ok(());
+    };
+    notes.push(Note::Numbered(name, row.number))?;
+    Ok(())
+}
+
+/// Notes that the names of a body have no value.
+fn hide_names<'a>(fields: &'a [Field], notes: &mut Notes<'a>) -> Result<(), NoMemory>
+    ensures { OnOk result (Hides (declares (plain_body fields.now)) notes.old.items notes.new.items) }
+{
+    for field in fields {
+        hide_field(field, notes)?;
+    }
+    Ok(())
+}
+
+/// Notes that the names that a field gives have no value.
+fn hide_field<'a>(field: &'a Field, notes: &mut Notes<'a>) -> Result<(), NoMemory>
+    ensures { OnOk result (Hides (gives_key (plain_field field.now)) notes.old.items notes.new.items) }
+{
+    match field {
+        Field::Array(array) => hide_array(array, notes),
+        Field::Label(name) => hide(Key::Place(name), notes),
+        _ => Ok(()),
     }
 }
 
-/// That a key is met, where it is so.
-fn if_so(met: bool) -> Option<bool>
-    ensures { (before : Bool) → (met || before) ≡ unwrap_or result before }
+fn hide_array<'a>(array: &'a ArrayField, notes: &mut Notes<'a>) -> Result<(), NoMemory>
+    ensures { OnOk result (Hides (gives_key (plain_array array.now)) notes.old.items notes.new.items) }
 {
-    if met { Some(true) } else { None }
+    hide_count(&array.name, notes)?;
+    notes.push(Note::Coming(array.row.as_slice()))?;
+    Ok(())
+}
+
+fn hide_count<'a>(name: &'a Option<Word>, notes: &mut Notes<'a>) -> Result<(), NoMemory>
+    ensures { OnOk result (Hides (gives_count name.now) notes.old.items notes.new.items) }
+{
+    match name {
+        Some(name) => hide(Key::Count(name), notes),
+        None => Ok(()),
+    }
+}
+
+fn hide<'a>(key: Key<'a>, notes: &mut Notes<'a>) -> Result<(), NoMemory>
+    ensures { OnOk result (Hides (is_same_key (key_of key.entry)) notes.old.items notes.new.items) }
+{
+    notes.push(Note::Hidden(key))?;
+    Ok(())
+}
+
+/// Notes the numbers of rows that a body states, the first one last.
+fn tell_counts<'a>(fields: &'a [Field], notes: &mut Notes<'a>) -> Result<(), NoMemory>
+    ensures { OnOk result (Tells (stated_in (plain_body fields.now)) notes.old.items notes.new.items) }
+{
+    for later in 0..fields.len() {
+        tell_count(&fields[fields.len() - 1 - later], notes)?;
+    }
+    Ok(())
+}
+
+/// Notes the number of rows that a field states.
+fn tell_count<'a>(field: &'a Field, notes: &mut Notes<'a>) -> Result<(), NoMemory>
+    ensures { OnOk result (Tells (stated_by (plain_field field.now)) notes.old.items notes.new.items) }
+{
+    match field {
+        Field::Array(array) => tell_stated(&array.name, array.count, notes),
+        _ => Ok(()),
+    }
+}
+
+fn tell_stated<'a>(
+    name: &'a Option<Word>,
+    count: Option<i32>,
+    notes: &mut Notes<'a>,
+) -> Result<(), NoMemory>
+    ensures { OnOk result (Tells (stated_value name.now count) notes.old.items notes.new.items) }
+{
+    let (Some(name), Some(count)) = (name, count) else {
+        return Ok(());
+    };
+    notes.push(Note::Told(name, i64::from(count)))?;
+    Ok(())
 }
 
 /// Notes that an array has so many rows of these fields, and that the labels directly in them have these places, those of each
-/// row in order, row by row. It is one note where the rows have labels, and else none.
+/// row in order, row by row. It is one note where the rows have labels or there are none of them, and else none.
 pub fn note_rows<'a>(
     row: &'a [Field],
     count: u64,
     places: Vec<i32>,
-    notes: &mut Vec<Note<'a>>,
+    notes: &mut Notes<'a>,
 ) -> Result<(), NoMemory>
     ensures { OnOk result (AreRowsNoted (plain_body row.now) count places.items notes.old.items notes.new.items) }
 {
-    if labels_count(row) > 0 {
-        notes.push(Note::Rows(row, count, places))?;
+    if !are_noted(row, count) {
+        return Ok(());
     }
+    notes.push(Note::Rows(row, count, places))?;
     Ok(())
+}
+
+/// Whether so many rows are noted: they have labels, or there are none of them, whose fields aren't looked through.
+fn are_noted(row: &[Field], count: u64) -> bool
+    ensures { result ≡ false → labels_count (plain_body row.now) ≡ 0 }
+{
+    count == 0 || labels_count(row) > 0
 }
 
 /// How many labels stand directly in a body.

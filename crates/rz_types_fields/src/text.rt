@@ -7,6 +7,7 @@ ghost use Rattle.rz_types_format.specs.Format.{formatted};
 ghost use Rattle.rz_types_fields.specs.Appended.{Appends};
 ghost use Rattle.rz_types_fields.specs.Text.{argument_value, argument_values, arguments_of, bytes_of, bytes_seen, or_bad_format, part_bytes, parts_of, plain_argument, plain_arguments, plain_format, plain_part, plain_parts};
 
+use crate::Symbols;
 use crate::value::{FieldEnv, value_seen};
 use rz_core::{Bytes, Facts, Fault, Kept, Listing, Mark, OsType, Stop, write_date, write_time};
 use rz_expr::{Env, Expr};
@@ -97,16 +98,19 @@ pub fn text_of(
     ensures value { Gives (bytes_of place facts.now (plain_parts texts.now)) result }
     ensures nameable { (files : ℕ) → place.file < files → OnFault result (IsNameable files) }
 {
-    text_seen(
+    let none = Symbols::new(alloc);
+    let text = text_seen(
         alloc,
         texts,
         place,
         facts,
         &FieldEnv {
             facts,
-            symbols: &[],
+            symbols: &none,
         },
-    )
+    );
+    drop(none);
+    text
 }
 
 /// The same, where the expressions of formats see so much; the first fault may then be 213 or 223, too.

@@ -9,7 +9,7 @@ ghost use Rattle.rz_expr.specs.Term.{term_of};
 ghost use Rattle.rz_expr.specs.Value.{reduced, value_of};
 ghost use Rattle.rz_types_fields.specs.Value.{constant_value, fact_of, field_sight, is_date_fact, is_field_expression, is_fixed_expression, is_head_expression, is_item_expression, is_size_expression, number_of, symbol_number_of, symbol_value, value_fault, with_fault, IsArithmeticFault};
 
-use crate::Symbol;
+use crate::{Symbol, Symbols};
 use rz_core::{Facts, Fault, Kept, Mark, Stop, Word};
 use rz_expr::{
     ConstantEnv, Env, EvalFault, Expr, FactWord, Key, eval, predefined, signed, value_outside,
@@ -23,7 +23,7 @@ pub struct FieldEnv<'a> {
     /// What is known of the resource.
     pub facts: &'a Facts,
     /// The symbols of the field.
-    pub symbols: &'a [Symbol],
+    pub symbols: &'a Symbols,
 }
 
 impl Env for FieldEnv<'_> {
@@ -33,7 +33,7 @@ impl Env for FieldEnv<'_> {
 
     fn give(&self, key: Key<'_>) -> Option<i128> {
         match key {
-            Key::Place(name) => match symbol_value(self.symbols, name) {
+            Key::Place(name) => match self.symbols.value_of(name) {
                 Some(value) => Some(i128::from(value)),
                 None => value_outside(key),
             },
@@ -132,7 +132,7 @@ fn is_date_fact(which: FactWord) -> bool
 }
 
 /// The value of the first symbol of a name, in whatever case.
-fn symbol_value(symbols: &[Symbol], name: &Word) -> Option<i32>
+pub fn symbol_value(symbols: &[Symbol], name: &Word) -> Option<i32>
     ensures { result ≡ symbol_value symbols.now name.now.bytes }
 {
     for symbol in symbols {
@@ -170,7 +170,10 @@ pub fn number_of(alloc: Global, expr: &Expr, place: Mark, facts: &Facts) -> Resu
     ensures arithmetic { is_field_expression (term_of expr.now) ≡ true → OnFault result (IsArithmeticFault place) }
     ensures nameable { (files : ℕ) → place.file < files → OnFault result (IsNameable files) }
 {
-    symbol_number_of(alloc, expr, place, facts, &[])
+    let none = Symbols::new(alloc);
+    let value = symbol_number_of(alloc, expr, place, facts, &none);
+    drop(none);
+    value
 }
 
 /// The same, where a name may also be a symbol: the first of the name counts, in whatever case, before `true` and
@@ -180,7 +183,7 @@ pub fn symbol_number_of(
     expr: &Expr,
     place: Mark,
     facts: &Facts,
-    symbols: &[Symbol],
+    symbols: &Symbols,
 ) -> Result<i32, Stop<Fault>>
     ensures value { Gives (symbol_number_of place facts.now symbols.now (term_of expr.now)) result }
     ensures nameable { (files : ℕ) → place.file < files → OnFault result (IsNameable files) }

@@ -1,17 +1,13 @@
 -- In which slots of a table the declarations of each group stand, as it is held beside the slots. The declarations of a type
 -- for one id are a group, and so are all its others, for ranges and for any id.
-use Rattle.std.specs.Prelude.{◌≡◌, ℕ, ℤ, suc, Bool, false, ◌==◌, ◌&&◌, if◌then◌else◌, List, [], ◌∷◌, map, Option, Some, None, Vec}
+use Rattle.std.specs.Prelude.{◌≡◌, ℕ, ℤ, Bool, false, ◌==◌, ◌&&◌, List, [], Option, Some, None, Vec}
 use Rattle.std.specs.HashMap.{get, HashMap}
 use Rattle.std.specs.Option.{option_eq, option_map_or}
 use Rattle.std.specs.Ordering.{int_eq}
 use Rattle.rz_core.specs.declared.resource.OsType.{OsType}
+pub use Rattle.rz_types_fields.specs.Positions.{positions}
 use Rattle.rz_types_table.specs.declared.table.Scope.{Scope}
 use Rattle.rz_types_table.specs.declared.table.Scope.TheVariants.{Any, Id, Range}
-
--- the positions of those that pass, from 0, ascending
-abbrev pub positions : {A : Type 0} → (A → Bool) → List A → List ℕ
-positions test [] = []
-positions test (x ∷ xs) = if test x then 0 ∷ map suc (positions test xs) else map suc (positions test xs)
 
 -- what stands in a slot passes; an empty slot doesn't
 abbrev pub in_slot : {A : Type 0} → (A → Bool) → Option A → Bool

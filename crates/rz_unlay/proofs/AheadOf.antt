@@ -11,7 +11,7 @@ use Rattle.rz_types_fields.specs.Field.{field_and, no_fields, Align, Array, Fill
 use Rattle.rz_types_fields.specs.Passed.{at_field, behind, declares, gives_key, is_label, Passed}
 use Rattle.rz_types_fields.specs.Piece.{Filler, Place}
 use Rattle.rz_types_fields.specs.Shape.{are_shaped, is_shaped}
-use Rattle.rz_types_fields.specs.Spells.{values_for, BodySpells, FieldSpells}
+use Rattle.rz_types_fields.specs.Spells.{plainly, values_for, BodySpells, FieldSpells}
 use Rattle.rz_types_fields.specs.Width.{fixed_width}
 use Rattle.rz_types_fields.proofs.RowPlaces.{FieldStands}
 use Rattle.rz_types_fields.proofs.SameNames.{key_is}
@@ -56,7 +56,7 @@ either_told (Some place) more told one other is = one place refl (some_is (recor
 
 module _ (known : Facts) (all : List Bool) (env : Environment) (has : HasPlaces env) where
   label_stands : (name : Word) (passed : Passed) (value : Option Tree) (at : ℕ) (late : List Bool) (after : ℕ) (late_after : List Bool)
-      → FieldSpells true known all (Label name) env passed value at late after late_after → StandsAt env name at after
+      → FieldSpells plainly known all (Label name) env passed value at late after late_after → StandsAt env name at after
   label_stands name passed value at late after late_after it =
       let one = single known all env passed (Place name) (values_for (Label name) value) at late after late_after it.1 in
       let ends : after ≡ at + 0 = one.spelled.ends ∙ ap (λ (n : ℕ). at + n) (ap length one.spelled.stored.2) in
@@ -64,7 +64,7 @@ module _ (known : Facts) (all : List Bool) (env : Environment) (has : HasPlaces 
 
   -- a field that is a label of this name gives it its place
   label_is : (field : PlainField) (passed : Passed) (value : Option Tree) (at : ℕ) (late : List Bool) (after : ℕ) (late_after : List Bool)
-      → FieldSpells true known all field env passed value at late after late_after → (key : Key) → is_label field key ≡ true → env.give key ≡ Some (pos at)
+      → FieldSpells plainly known all field env passed value at late after late_after → (key : Key) → is_label field key ≡ true → env.give key ≡ Some (pos at)
   label_is (Number number) passed value at late after late_after it key is = absurd cc
   label_is (Text text) passed value at late after late_after it key is = absurd cc
   label_is (Points points) passed value at late after late_after it key is = absurd cc
@@ -76,7 +76,7 @@ module _ (known : Facts) (all : List Bool) (env : Environment) (has : HasPlaces 
   label_is (Switch cases) passed value at late after late_after it key is = absurd cc
 
   pub field_stands : (field : PlainField) (passed : Passed) (value : Option Tree) (at : ℕ) (late : List Bool) (after : ℕ) (late_after : List Bool)
-      → FieldSpells true known all field env passed value at late after late_after → FieldStands field env at
+      → FieldSpells plainly known all field env passed value at late after late_after → FieldStands field env at
   field_stands (Number number) passed value at late after late_after it = tt
   field_stands (Text text) passed value at late after late_after it = tt
   field_stands (Points points) passed value at late after late_after it = tt
@@ -100,14 +100,14 @@ module _ (known : Facts) (all : List Bool) (env : Environment) (has : HasPlaces 
 
   -- the place after a field is that at its distance
   fixed_ends : (in_case : Bool) (field : PlainField) (passed : Passed) (value : Option Tree) (at : ℕ) (late : List Bool) (after : ℕ) (late_after : List Bool)
-      → is_shaped in_case field ≡ true → FieldSpells true known all field env passed value at late after late_after
+      → is_shaped in_case field ≡ true → FieldSpells plainly known all field env passed value at late after late_after
       → (next : ℕ) → option_map (λ width. at + width) (fixed_width field) ≡ Some next → after ≡ next
   fixed_ends in_case field passed value at late after late_after shaped it next is =
       let width = mapped (λ width. at + width) (fixed_width field) next is in
       (field_wide known all in_case field env passed value at late after late_after shaped has it).is width.0 width.1 ∙ width.2
 
   measured_ends : (in_case : Bool) (field : PlainField) (passed : Passed) (value : Option Tree) (at : ℕ) (late : List Bool) (after : ℕ) (late_after : List Bool)
-      → is_shaped in_case field ≡ true → FieldSpells true known all field env passed value at late after late_after
+      → is_shaped in_case field ≡ true → FieldSpells plainly known all field env passed value at late after late_after
       → (next : ℕ) → behind_measured field at ≡ Some next → after ≡ next
   measured_ends in_case (Number number) passed value at late after late_after shaped it next is = fixed_ends in_case (Number number) passed value at late after late_after shaped it next is
   measured_ends in_case (Text text) passed value at late after late_after shaped it next is = fixed_ends in_case (Text text) passed value at late after late_after shaped it next is
@@ -122,7 +122,7 @@ module _ (known : Facts) (all : List Bool) (env : Environment) (has : HasPlaces 
 
   -- a label whose place is told stands there
   told_stands : (len : ℕ) (names : Environment) → IsPartOf names env → (field : PlainField) (passed : Passed) (value : Option Tree) (at : ℕ) (late : List Bool) (after : ℕ) (late_after : List Bool)
-      → FieldSpells true known all field env passed value at late after late_after → (place : ℕ) → label_place len field names ≡ Some place → place ≡ at
+      → FieldSpells plainly known all field env passed value at late after late_after → (place : ℕ) → label_place len field names ≡ Some place → place ≡ at
   told_stands len names part (Number number) passed value at late after late_after it place is = absurd cc
   told_stands len names part (Text text) passed value at late after late_after it place is = absurd cc
   told_stands len names part (Points points) passed value at late after late_after it place is = absurd cc
@@ -141,7 +141,7 @@ module _ (known : Facts) (all : List Bool) (env : Environment) (has : HasPlaces 
 
   -- a label at a known distance stands there
   near_is : (in_case : Bool) (body : PlainBody) (passed : Passed) (line : List Tree) (at : ℕ) (late : List Bool) (after : ℕ) (late_after : List Bool)
-      → are_shaped in_case body ≡ true → BodySpells true known all body env passed line at late after late_after
+      → are_shaped in_case body ≡ true → BodySpells plainly known all body env passed line at late after late_after
       → (key : Key) (place : ℕ) → near_place body at key ≡ Some place → (env.give key ≡ Some (pos place)) × (place ≤ after)
   near_is in_case no_fields passed line at late after late_after shaped it key place is = absurd (none_is place is)
   near_is in_case (field_and field fields) passed line at late after late_after shaped it key place is =
@@ -159,7 +159,7 @@ module _ (known : Facts) (all : List Bool) (env : Environment) (has : HasPlaces 
 
   -- each label stands before the end
   label_lies : (in_case : Bool) (body : PlainBody) (passed : Passed) (line : List Tree) (at : ℕ) (late : List Bool) (after : ℕ) (late_after : List Bool)
-      → are_shaped in_case body ≡ true → BodySpells true known all body env passed line at late after late_after
+      → are_shaped in_case body ≡ true → BodySpells plainly known all body env passed line at late after late_after
       → (name : List ℕ) → declares body (place_of name) ≡ true → LiesBefore (place_of name) after
   label_lies in_case no_fields passed line at late after late_after shaped it name is = absurd cc
   label_lies in_case (field_and field fields) passed line at late after late_after shaped it name is =
@@ -172,7 +172,7 @@ module _ (known : Facts) (all : List Bool) (env : Environment) (has : HasPlaces 
 
   -- a label whose place is told stands after fields of that width
   told_is : (in_case : Bool) (body : PlainBody) (passed : Passed) (line : List Tree) (at : ℕ) (late : List Bool) (after : ℕ) (late_after : List Bool)
-      → are_shaped in_case body ≡ true → BodySpells true known all body env passed line at late after late_after
+      → are_shaped in_case body ≡ true → BodySpells plainly known all body env passed line at late after late_after
       → (len : ℕ) (names : Environment) → IsPartOf names env → (told : Told) → told_label len body names ≡ Some told → told.place ≡ at + told.width
   told_is in_case no_fields passed line at late after late_after shaped it len names part told is = absurd (none_is told is)
   told_is in_case (field_and field fields) passed line at late after late_after shaped it len names part told is =
@@ -195,7 +195,7 @@ module _ (known : Facts) (all : List Bool) (env : Environment) (has : HasPlaces 
 
   -- so it is ahead of the first field of a body
   pub ahead_of : (in_case : Bool) (field : PlainField) (rest : PlainBody) (passed : Passed) (line : List Tree) (at : ℕ) (late : List Bool) (after : ℕ) (late_after : List Bool)
-      → are_shaped in_case (field_and field rest) ≡ true → (it : BodySpells true known all (field_and field rest) env passed line at late after late_after) → after ≤ length all
+      → are_shaped in_case (field_and field rest) ≡ true → (it : BodySpells plainly known all (field_and field rest) env passed line at late after late_after) → after ≤ length all
       → Ahead all field rest env at it.2
   ahead_of in_case field rest passed line at late after late_after shaped it within =
       let test = both_true (is_shaped in_case field) (are_shaped in_case rest) shaped in

@@ -8,7 +8,7 @@ use Rattle.rz_core.proofs.Tests.{by_test, true_false}
 use Rattle.rz_core.specs.Decided.{Decided}
 use Rattle.rz_core.specs.declared.facts.Facts.{Facts}
 use Rattle.rz_types_fields.specs.declared.tree.Tree.{Tree}
-use Rattle.rz_types_fields.specs.Spells.{Spells}
+use Rattle.rz_types_fields.specs.Spells.{SpellsPlainly}
 use Rattle.rz_types.specs.Field.{PlainBody}
 use Rattle.rz_types.specs.Readable.{is_readable}
 use Rattle.rz_unlay.proofs.ReadsBits.{each_small}
@@ -34,18 +34,18 @@ module _ (known : Facts) (body : PlainBody) (bytes : List ℕ) where
   abbrev Answer : Type 0
   Answer = (answer : Option (List Tree)) × Decided (IsTold known body bytes) answer
 
-  never : ((row : List Tree) → Spells true known body row bytes → ⊥) → Answer
+  never : ((row : List Tree) → SpellsPlainly known body row bytes → ⊥) → Answer
   never none = (None, λ row told. none row told.1)
 
-  module _ (few : (row : List Tree) → Spells true known body row bytes → length bytes ≤ 16777212) (are : is_readable body ≡ true → AreRead known body bytes)
-      (plain : is_readable body ≡ true → length bytes ≤ 16777212 → AreSmall bytes → (row : List Tree) → reading known body bytes ≡ Some row → Spells true known body row bytes) where
+  module _ (few : (row : List Tree) → SpellsPlainly known body row bytes → length bytes ≤ 16777212) (are : is_readable body ≡ true → AreRead known body bytes)
+      (plain : is_readable body ≡ true → length bytes ≤ 16777212 → AreSmall bytes → (row : List Tree) → reading known body bytes ≡ Some row → SpellsPlainly known body row bytes) where
     found : is_readable body ≡ true → length bytes ≤ 16777212 → AreSmall bytes → (read : Option (List Tree)) → reading known body bytes ≡ read → Answer
     found readable short small None is = (None, none_told known body bytes (are readable) (sym is))
     found readable short small (Some row) is = (Some row, (readable, plain readable short small row is))
 
     of_bytes : is_readable body ≡ true → length bytes ≤ 16777212 → Dec (AllByRecursion (λ byte. byte < 256) bytes) → Answer
     of_bytes readable short (yes all) = found readable short (each_small bytes all) (reading known body bytes) refl
-    of_bytes readable short (no some) = never (λ row spells. some (each_byte bytes spells.are_bytes))
+    of_bytes readable short (no some) = never (λ row spells. some (each_byte bytes spells.spelling.are_bytes))
 
     pub every_row : Answer
     every_row =

@@ -5,37 +5,32 @@ use Rattle.std.proofs.lemmas.List.{append-nil}
 use Rattle.rz_core.specs.declared.facts.Facts.{Facts}
 use Rattle.rz_core.specs.declared.resource.Word.{Word}
 use Rattle.rz_expr.specs.Environment.{Environment}
-use Rattle.rz_types_fields.specs.declared.field.Case.{Case}
-use Rattle.rz_types_fields.specs.declared.field.Field.TheViews.{out-Case}
 use Rattle.rz_types_fields.specs.declared.field.Field.{Field}
 use Rattle.rz_types_fields.specs.declared.field.Field.TheVariants as fields
 use Rattle.rz_types_fields.specs.declared.field.NumField.{NumField}
 use Rattle.rz_types_fields.specs.declared.field.PointField.{PointField}
 use Rattle.rz_types_fields.specs.declared.field.TextField.{TextField}
-use Rattle.rz_types_fields.proofs.Bodies.{body_end, body_next, cases_end, cases_next}
+use Rattle.rz_types_fields.proofs.Bodies.{body_end, body_next}
 use Rattle.rz_types_fields.specs.declared.tree.Tree.{Tree}
 use Rattle.rz_types_fields.specs.declared.tree.Tree.TheVariants as trees
 use Rattle.rz_types_fields.specs.RowLabels.{also_rows, label_places}
 use Rattle.rz_types_fields.specs.Spells.{put, values_in}
-use Rattle.rz_types_fields.specs.Field.{field_and, plain_body, plain_cases, plain_field, Align, Array, Fill, Label, Number, PlainBody, PlainCases, PlainField, Points, Switch, Text}
-use Rattle.rz_types.specs.Width.{case_keys}
-use Rattle.rz_unlay.specs.Came.{chosen, found_of, line_at, line_in, lines_in}
-use Rattle.rz_unlay.specs.Cursor.{and_lines, body_found, case_found, field_found, goes_on, has_keys, is_over, line_of, no_lines, rows_over, rows_until, with_label, Line, Lines, ReadsRow}
+use Rattle.rz_types_fields.specs.Field.{field_and, plain_body, plain_field, Align, Array, Fill, Label, Number, PlainBody, PlainField, Points, Switch, Text}
+use Rattle.rz_unlay.specs.Came.{chosen, found_of, line_in, lines_in}
+use Rattle.rz_unlay.specs.Cursor.{and_lines, body_found, field_found, goes_on, is_over, line_of, no_lines, rows_over, rows_until, with_label, Line, Lines, ReadsRow}
 use Rattle.rz_unlay.specs.Pieces.{field_of_pieces, with_value, met_past, Found}
 use Rattle.rz_unlay_pieces.specs.Pieces.{claim_count, here_at, Step}
 use Rattle.rz_unlay_pieces.specs.Came.{met_in, met_of}
 use Rattle.rz_unlay_pieces.specs.declared.came.Met.{Met}
 use Rattle.rz_unlay.proofs.LeafSteps.{align_is, fill_is, label_is, num_is, points_is, text_is}
-use Rattle.rz_types_fields.specs.Front.{names_inside}
 use Rattle.rz_types_fields.specs.Known.{known}
 use Rattle.rz_unlay_pieces.specs.Few.{few, step_count, value_count}
 use Rattle.rz_unlay.specs.Few.{found_count, line_count, lines_count}
-use Rattle.rz_unlay.specs.Fits.{AreFit, CasesFit, Fits}
+use Rattle.rz_unlay.specs.Fits.{AreFit, Fits}
 use Rattle.rz_unlay.specs.declared.came.RowCame.{RowCame}
 use Rattle.rz_unlay.specs.declared.came.RowsCame.{RowsCame}
 use Rattle.rz_unlay.specs.declared.rows.Until.{Until}
-use Rattle.rz_unlay.specs.declared.rows.Until.TheVariants as ends
-use Rattle.rz_types_fields.specs.Passed.{gives_count, gives_rows, met_behind, met_inside, Names}
+use Rattle.rz_types_fields.specs.Passed.{gives_count, gives_rows, met_behind, Names}
 use Rattle.rz_types_fields.specs.Sees.{marked, Late}
 use Rattle.rz_unlay_pieces.specs.Seen.{met_counted, met_in_rows}
 use Rattle.rz_unlay_pieces.specs.declared.learnt.Learnt.{Learnt}
@@ -303,42 +298,3 @@ choice_few name names (Some l) most =
         ≡ chosen name names (if test then Some l else None)
     open_test true = refl
     open_test false = refl
-
--- one more case, or the row of this one
-pub case_here : (known : Facts) (all : List Bool) (cases : List Case) (i : ℕ) (one : Case) → i < length cases → one ≡ get_or cases i one → (met : Names) (names : Environment) (at : ℕ) (late : Late) (total : Option Step)
-    → has_keys all at (case_keys (plain_body (out-Case one).row)) ≡ true → case_found known all met (plain_cases (drop i cases)) names at late ≡ total
-    → chosen (out-Case one).name names (line_at known all None (plain_body (out-Case one).row) met names at late) ≡ total
-case_here known all cases i one less item met names at late total has so =
-    plain (body_found known all (met_inside row met) row (names_inside None row names) at late)
-    ∙ ap (λ (test : Bool). if test then option_map (λ f. record { value = Some (trees.Choice (out-Case one).name f.row); after = f.after; names = names; late = f.late }) (body_found known all (met_inside row met) row (names_inside None row names) at late)
-    else case_found known all met (plain_cases (drop (i + 1) cases)) names at late) (sym has)
-    ∙ ap (λ (cs : PlainCases). case_found known all met cs names at late) (sym (cases_next cases i one less item))
-    ∙ so
-  where
-    row : PlainBody
-    row = plain_body (out-Case one).row
-
-    plain : (found : Option Found) → chosen (out-Case one).name names (line_of found)
-        ≡ option_map (λ f. record { value = Some (trees.Choice (out-Case one).name f.row); after = f.after; names = names; late = f.late }) found
-    plain None = refl
-    plain (Some f) = refl
-
-pub case_later : (known : Facts) (all : List Bool) (cases : List Case) (i : ℕ) (one : Case) → i < length cases → one ≡ get_or cases i one → (met : Names) (names : Environment) (at : ℕ) (late : Late) (total : Option Step)
-    → has_keys all at (case_keys (plain_body (out-Case one).row)) ≡ false → case_found known all met (plain_cases (drop i cases)) names at late ≡ total
-    → case_found known all met (plain_cases (drop (i + 1) cases)) names at late ≡ total
-case_later known all cases i one less item met names at late total has so =
-    ap (λ (test : Bool). if test then option_map (λ f. record { value = Some (trees.Choice (out-Case one).name f.row); after = f.after; names = names; late = f.late }) (body_found known all (met_inside row met) row (names_inside None row names) at late)
-    else case_found known all met (plain_cases (drop (i + 1) cases)) names at late) (sym has)
-    ∙ ap (λ (cs : PlainCases). case_found known all met cs names at late) (sym (cases_next cases i one less item))
-    ∙ so
-  where
-    row : PlainBody
-    row = plain_body (out-Case one).row
-
-pub no_case : (known : Facts) (all : List Bool) (cases : List Case) (i : ℕ) → length cases ≤ i → (met : Names) (names : Environment) (at : ℕ) (late : Late) (total : Option Step)
-    → case_found known all met (plain_cases (drop i cases)) names at late ≡ total → None ≡ total
-no_case known all cases i past met names at late total so = sym (ap (λ (cs : PlainCases). case_found known all met cs names at late) (cases_end cases i past)) ∙ so
-
-pub cases_fit : (cases : List Case) (i : ℕ) (one : Case) → i < length cases → one ≡ get_or cases i one → CasesFit (plain_cases (drop i cases))
-    → AreFit (plain_body (out-Case one).row) × CasesFit (plain_cases (drop (i + 1) cases))
-cases_fit cases i one less item fits = subst CasesFit (cases_next cases i one less item) fits

@@ -1,5 +1,6 @@
 -- What each kind of field is read as.
 use Rattle.std.proofs.Common.{◌≡◌, ℕ, ◌*◌, ◌||◌, Bool, false, ℤ, List, Option, Some, None, IfOk, IfSome, Result, Ok, Err, sym, ap, ◌∙◌}
+use Rattle.std.specs.Global.{Box}
 use Rattle.std.specs.Prelude.{nat_abs}
 use Rattle.rz_core.specs.declared.resource.Word.{Word}
 use Rattle.rz_core.specs.declared.stop.NoMemory.{NoMemory}
@@ -15,6 +16,7 @@ use Rattle.rz_types_fields.specs.declared.field.Field.TheVariants.{rolls-Align, 
 use Rattle.rz_types_fields.specs.declared.field.NumField.{NumField}
 use Rattle.rz_types_fields.specs.declared.field.PointField.{PointField}
 use Rattle.rz_types_fields.specs.declared.field.TextField.{TextField}
+use Rattle.rz_types_fields.specs.declared.hints.CaseHints.{CaseHints}
 use Rattle.rz_types_fields.specs.Field.{array_step, case_step, field_step, plain_array, plain_cases, plain_field, plain_number, plain_points, plain_text, Align, Fill, Label, Number, PlainCase, PlainField, Points, Switch, Text}
 use Rattle.rz_types_fields.specs.Passed.{is_label, Names}
 use Rattle.rz_types_fields.specs.Sees.{Late}
@@ -44,8 +46,8 @@ label_is field name is = ap plain_field is ∙ ap plain_field (sym (rolls-Label 
 pub array_field : (field : Field) (array : ArrayField) → field ≡ fields.Array array → plain_field field ≡ plain_array array
 array_field field array is = ap plain_field is ∙ ap plain_field (sym (rolls-Array array)) ∙ fold-roll-Field PlainField PlainField PlainCase field_step array_step case_step (Field-F.Array array)
 
-pub switch_is : (field : Field) (cases : List Case) → field ≡ fields.Switch cases → plain_field field ≡ Switch (plain_cases cases)
-switch_is field cases is = ap plain_field is ∙ ap plain_field (sym (rolls-Switch cases)) ∙ fold-roll-Field PlainField PlainField PlainCase field_step array_step case_step (Field-F.Switch cases)
+pub switch_is : (field : Field) (cases : List Case) (hints : Box CaseHints) → field ≡ fields.Switch cases hints → plain_field field ≡ Switch (plain_cases cases)
+switch_is field cases hints is = ap plain_field is ∙ ap plain_field (sym (rolls-Switch cases hints)) ∙ fold-roll-Field PlainField PlainField PlainCase field_step array_step case_step (Field-F.Switch cases hints)
 
 module _ (here : Here) (names : Environment) (at : ℕ) (late : Late) (field : Field) where
   abbrev whole : PlainField → Option Step

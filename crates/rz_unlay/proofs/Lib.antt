@@ -42,6 +42,7 @@ pub mod FewValues
 pub mod FieldSteps
 pub mod Fitting
 pub mod KeySteps
+pub mod KeyedCases
 pub mod EndSteps
 pub mod Tells
 pub mod EveryRow

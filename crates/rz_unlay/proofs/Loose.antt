@@ -1,57 +1,26 @@
 -- What spells bytes plainly spells them.
-use Rattle.std.proofs.Common.{◌≡◌, ℕ, ◌+◌, ℤ, Bool, true, false, List, [], ◌∷◌, Option, Some, None}
+use Rattle.std.proofs.Common.{◌≡◌, ℕ, ◌+◌, Bool, true, false, List, [], ◌∷◌, Option, Some, None}
 use Rattle.rz_core.specs.declared.facts.Facts.{Facts}
 use Rattle.rz_core.specs.declared.resource.Word.{Word}
-use Rattle.rz_expr.specs.Environment.{Environment, Sight}
-use Rattle.rz_expr.specs.Term.{Term}
+use Rattle.rz_expr.specs.Environment.{Environment}
 use Rattle.rz_bits.specs.Bits.{bits_of}
-use Rattle.rz_types_fields.specs.declared.field.NumForm.{NumForm}
-use Rattle.rz_types_fields.specs.declared.field.TextForm.{TextForm}
 use Rattle.rz_types_fields.specs.declared.tree.Tree.{Tree}
 use Rattle.rz_types_fields.specs.declared.tree.Tree.TheVariants as trees
 use Rattle.rz_types_fields.specs.Row.{By}
-use Rattle.rz_types_fields.specs.Sees.{sees, Late}
+use Rattle.rz_types_fields.specs.Sees.{Late}
 use Rattle.rz_types_fields.specs.RowLabels.{row_of}
-use Rattle.rz_types_fields.specs.Spells.{is_case, values_for, AreBytes, BodySpells, CaseSpells, FieldSpells, Inside, InOrder, IsNumber, IsStored, IsText, PieceSpells, PiecesSpell, RowsSpell, Spells}
-use Rattle.rz_types_fields.specs.Field.{case_and, field_and, no_cases, no_fields, Align, Array, Fill, Label, Number, PlainBody, PlainCases, PlainField, PlainText, Points, Switch, Text}
+use Rattle.rz_types_fields.specs.Spells.{anyhow, is_case, plainly, values_for, BodySpells, CaseSpells, FieldSpells, InOrder, Inside, PieceSpells, PiecesSpell, RowsSpell, Spells, SpellsPlainly}
+use Rattle.rz_types_fields.specs.Field.{case_and, field_and, no_cases, no_fields, Align, Array, Fill, Label, Number, PlainBody, PlainCases, PlainField, Points, Switch, Text}
 use Rattle.rz_types_fields.specs.Passed.{at_field, at_front, behind, behind_piece, nothing_passed, Passed}
-use Rattle.rz_types_fields.specs.Piece.{pieces_of, Filler, OneNumber, OneText, Piece, Place, Zeros}
-use Rattle.rz_types_fields.specs.Text.{PlainPart}
-
-number_loose : (passed : Passed) (form : NumForm) (width : ℤ) (fixed : Option Term) (sight : Sight) (value : Option Tree) (bits : List Bool)
-    → IsNumber true passed form width fixed sight value bits → IsNumber false passed form width fixed sight value bits
-number_loose passed form width None sight value bits it = it
-number_loose passed form width (Some term) sight value bits it = (it.0, it.1, it.2, it.3, it.4, tt)
-
-bytes_loose : (form : TextForm) (known : Facts) (sight : Sight) (fixed : Option (List PlainPart)) (size : Option ℕ) (value : Option Tree) (bytes : List ℕ)
-    → AreBytes true form known sight fixed size value bytes → AreBytes false form known sight fixed size value bytes
-bytes_loose form known sight None size value bytes it = (it.0, tt)
-bytes_loose form known sight (Some parts) size value bytes it = it
-
-text_loose : (text : PlainText) (known : Facts) (sight : Sight) (value : Option Tree) (bits : List Bool) → IsText true text known sight value bits → IsText false text known sight value bits
-text_loose text known sight value bits it = record {
-  size = it.size;
-  has_size = it.has_size;
-  bytes = it.bytes;
-  are_bytes = bytes_loose text.form known sight text.fixed it.size value it.bytes it.are_bytes;
-  short = it.short;
-  are_bits = it.are_bits;
-}
-
-stored_loose : (passed : Passed) (piece : Piece) (known : Facts) (at : ℕ) (sight : Sight) (value : Option Tree) (bits : List Bool)
-    → IsStored true passed piece known at sight value bits → IsStored false passed piece known at sight value bits
-stored_loose passed (OneNumber number) known at sight value bits it = number_loose passed number.form number.width number.fixed sight value bits it
-stored_loose passed (OneText text) known at sight value bits it = text_loose text known sight value bits it
-stored_loose passed (Zeros count) known at sight value bits it = it
-stored_loose passed (Filler unit) known at sight value bits it = it
-stored_loose passed (Place name) known at sight value bits it = it
+use Rattle.rz_types_fields.specs.Piece.{pieces_of, Piece}
 
 module _ (facts : Facts) (all : List Bool) where
   piece_loose : (env : Environment) (passed : Passed) (piece : Piece) (value : Option Tree) (at : ℕ) (late : Late) (after : ℕ) (late_after : Late)
-      → PieceSpells true facts all env passed piece value at late after late_after → PieceSpells false facts all env passed piece value at late after late_after
+      → PieceSpells plainly facts all env passed piece value at late after late_after → PieceSpells anyhow facts all env passed piece value at late after late_after
   piece_loose env passed piece value at late after late_after it = record {
     bits = it.bits;
-    stored = stored_loose passed piece facts at (sees facts all env at) value it.bits it.stored;
+    stored = it.stored;
+    manner = tt;
     early = it.early;
     there = it.there;
     ends = it.ends;
@@ -60,26 +29,26 @@ module _ (facts : Facts) (all : List Bool) where
   }
 
   order_loose : (env : Environment) (passed : Passed) (pieces : List Piece) (values : List Tree) (at : ℕ) (late : Late) (after : ℕ) (late_after : Late)
-      → InOrder (PieceSpells true facts all env) passed pieces values at late after late_after → InOrder (PieceSpells false facts all env) passed pieces values at late after late_after
+      → InOrder (PieceSpells plainly facts all env) passed pieces values at late after late_after → InOrder (PieceSpells anyhow facts all env) passed pieces values at late after late_after
   order_loose env passed [] values at late after late_after it = it
   order_loose env passed (piece ∷ pieces) values at late after late_after it =
       (it.0, it.1, it.2, it.3, it.4, piece_loose env passed piece it.0 at late it.2 it.3 it.5, order_loose env (behind_piece piece passed) pieces it.1 it.2 it.3 after late_after it.6)
 
   pieces_loose : (field : PlainField) (env : Environment) (passed : Passed) (value : Option Tree) (at : ℕ) (late : Late) (after : ℕ) (late_after : Late)
-      → PiecesSpell true facts all field env passed value at late after late_after → PiecesSpell false facts all field env passed value at late after late_after
+      → PiecesSpell plainly facts all field env passed value at late after late_after → PiecesSpell anyhow facts all field env passed value at late after late_after
   pieces_loose field env passed value at late after late_after it = (it.0, order_loose env passed (pieces_of field) (values_for field value) at late after late_after it.1)
 
   abbrev BodyLoose : PlainBody → Type 0
   BodyLoose body = (env : Environment) (passed : Passed) (values : List Tree) (at : ℕ) (late : Late) (after : ℕ) (late_after : Late)
-      → BodySpells true facts all body env passed values at late after late_after → BodySpells false facts all body env passed values at late after late_after
+      → BodySpells plainly facts all body env passed values at late after late_after → BodySpells anyhow facts all body env passed values at late after late_after
 
   abbrev CasesLoose : PlainCases → Type 0
   CasesLoose cases = (env : Environment) (passed : Passed) (value : Option Tree) (at : ℕ) (late : Late) (after : ℕ) (late_after : Late)
-      → CaseSpells true facts all cases env passed value at late after late_after → CaseSpells false facts all cases env passed value at late after late_after
+      → CaseSpells plainly facts all cases env passed value at late after late_after → CaseSpells anyhow facts all cases env passed value at late after late_after
 
   rows_loose : (name : Option Word) (row : PlainBody) → BodyLoose row → (env : Environment) (passed : Passed) (rows : List (List Tree)) (number at : ℕ) (late : Late) (after : ℕ) (late_after : Late)
-      → RowsSpell (λ number line. Inside row (row_of name number) env (λ own. BodySpells true facts all row own passed line)) number rows at late after late_after
-      → RowsSpell (λ number line. Inside row (row_of name number) env (λ own. BodySpells false facts all row own passed line)) number rows at late after late_after
+      → RowsSpell (λ number line. Inside row (row_of name number) env (λ own. BodySpells plainly facts all row own passed line)) number rows at late after late_after
+      → RowsSpell (λ number line. Inside row (row_of name number) env (λ own. BodySpells anyhow facts all row own passed line)) number rows at late after late_after
   rows_loose name row one env passed [] number at late after late_after it = it
   rows_loose name row one env passed (line ∷ rows) number at late after late_after it =
       (it.0, it.1, (it.2.0, it.2.1, one it.2.0 passed line at late it.0 it.1 it.2.2), rows_loose name row one env passed rows (number + 1) it.0 it.1 after late_after it.3)
@@ -88,16 +57,16 @@ module _ (facts : Facts) (all : List Bool) where
   case_loose name row others one more env passed value at late after late_after = by (is_case name value)
     where
       by : (test : Bool)
-          → By test ((line : List Tree) × (value ≡ Some (trees.Choice name line)) × Inside row None env (λ own. BodySpells true facts all row own (at_front row passed) line) at late after late_after)
-          (CaseSpells true facts all others env passed value at late after late_after)
-          → By test ((line : List Tree) × (value ≡ Some (trees.Choice name line)) × Inside row None env (λ own. BodySpells false facts all row own (at_front row passed) line) at late after late_after)
-          (CaseSpells false facts all others env passed value at late after late_after)
+          → By test ((line : List Tree) × (value ≡ Some (trees.Choice name line)) × Inside row None env (λ own. BodySpells plainly facts all row own (at_front row passed) line) at late after late_after)
+          (CaseSpells plainly facts all others env passed value at late after late_after)
+          → By test ((line : List Tree) × (value ≡ Some (trees.Choice name line)) × Inside row None env (λ own. BodySpells anyhow facts all row own (at_front row passed) line) at late after late_after)
+          (CaseSpells anyhow facts all others env passed value at late after late_after)
       by true it = (it.0, it.1, (it.2.0, it.2.1, one it.2.0 (at_front row passed) it.0 at late after late_after it.2.2))
       by false it = more env passed value at late after late_after it
 
   mutual
     field_loose : (field : PlainField) (env : Environment) (passed : Passed) (value : Option Tree) (at : ℕ) (late : Late) (after : ℕ) (late_after : Late)
-        → FieldSpells true facts all field env passed value at late after late_after → FieldSpells false facts all field env passed value at late after late_after
+        → FieldSpells plainly facts all field env passed value at late after late_after → FieldSpells anyhow facts all field env passed value at late after late_after
     field_loose (Number number) env passed value at late after late_after it = pieces_loose (Number number) env passed value at late after late_after it
     field_loose (Text text) env passed value at late after late_after it = pieces_loose (Text text) env passed value at late after late_after it
     field_loose (Points points) env passed value at late after late_after it = pieces_loose (Points points) env passed value at late after late_after it
@@ -119,15 +88,16 @@ module _ (facts : Facts) (all : List Bool) where
         let here = at_field (field_and field fields) passed in
         (it.0, it.1, it.2, it.3, it.4, field_loose field env here it.0 at late it.2 it.3 it.5, body_loose fields env (behind field here) it.1 it.2 it.3 after late_after it.6)
 
-pub plain_is_spelled : (facts : Facts) (body : PlainBody) (row : List Tree) (bytes : List ℕ) → Spells true facts body row bytes → Spells false facts body row bytes
-plain_is_spelled facts body row bytes it = record {
-  names = it.names;
-  own = it.own;
-  end = it.end;
-  late = it.late;
-  fields = body_loose facts (bits_of bytes) body it.names (at_front body nothing_passed) row 0 [] it.end it.late it.fields;
-  filled = it.filled;
-  within = it.within;
-  are_bytes = it.are_bytes;
-  few = tt;
-}
+pub plain_is_spelled : (facts : Facts) (body : PlainBody) (row : List Tree) (bytes : List ℕ) → SpellsPlainly facts body row bytes → Spells facts body row bytes
+plain_is_spelled facts body row bytes plain =
+    let it = plain.spelling in
+    record {
+      names = it.names;
+      own = it.own;
+      end = it.end;
+      late = it.late;
+      fields = body_loose facts (bits_of bytes) body it.names (at_front body nothing_passed) row 0 [] it.end it.late it.fields;
+      filled = it.filled;
+      within = it.within;
+      are_bytes = it.are_bytes;
+    }

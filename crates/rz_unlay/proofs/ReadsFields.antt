@@ -16,7 +16,7 @@ use Rattle.rz_types_fields.specs.Passed.{at_field, at_front, behind, met_behind,
 use Rattle.rz_types_fields.specs.Sees.{Late}
 use Rattle.rz_types_fields.specs.Shape.{are_cases_shaped, are_shaped, body_depth, deepest_body, is_none_or, is_own_name, is_shaped, is_well_shaped}
 use Rattle.rz_types_fields.specs.RowLabels.{also_rows, label_places, row_of}
-use Rattle.rz_types_fields.specs.Spells.{is_case, put, values_in, BodySpells, CaseSpells, FieldSpells, Inside, Spells}
+use Rattle.rz_types_fields.specs.Spells.{is_case, plainly, put, values_in, BodySpells, CaseSpells, FieldSpells, Inside, SpellsPlainly}
 use Rattle.rz_types_fields.specs.Width.{case_keys}
 use Rattle.rz_types.specs.Kept.{AreCasesApart, AreKeysApart, AreKeysApartIn}
 use Rattle.rz_types.specs.Readable.{are_cases_read, are_read, is_read, is_readable, least_widths, rows_end}
@@ -98,7 +98,7 @@ module _ (read : (width number : ℕ) → number_of (number_bits width number) �
   mutual
     step_goes : (outermost in_case : Bool) (field : PlainField) (rest : PlainBody) (env : Environment) (passed : Passed) (names : Environment) (value : Option Tree)
         (at : ℕ) (late : Late) (after : ℕ) (late_after : Late) → is_shaped in_case field ≡ true → AreKeysApartIn field → is_read outermost rest (at_field (field_and field rest) passed) field ≡ true
-        → HasPlaces env → Ahead all field rest env at after → Knows passed names → IsKnownOf names env → FieldSpells true facts all field env (at_field (field_and field rest) passed) value at late after late_after
+        → HasPlaces env → Ahead all field rest env at after → Knows passed names → IsKnownOf names env → FieldSpells plainly facts all field env (at_field (field_and field rest) passed) value at late after late_after
         → after ≤ length all → EndsAt outermost all rest after
         → Steps (behind field (at_field (field_and field rest) passed)) env value after late_after (field_found facts all rest passed.met field names at late)
     step_goes outermost in_case (Number number) rest env passed names value at late after late_after shaped apart reads places ahead knows part it within end =
@@ -118,7 +118,7 @@ module _ (read : (width number : ℕ) → number_of (number_bits width number) �
         let test = both_true (is_none_or is_own_name name) (are_shaped false row) shaped in
         let can = both_true (rows_end outermost rest here name count row) (are_read false (at_front row here) row) reads in
         let lines = rows_go row env (row_at facts all name row passed.met names)
-        (λ number line. Inside row (row_of name number) env (λ own. BodySpells true facts all row own (at_front row here) line)) (least_widths row) (length all)
+        (λ number line. Inside row (row_of name number) env (λ own. BodySpells plainly facts all row own (at_front row here) line)) (least_widths row) (length all)
         (λ number line at late after late_after below inside.
         let goes = reaches false false row inside.0 (at_front row here) (names_inside (row_of name number) row names) line at late after late_after test.1 apart can.1
         (places_inside false row (row_of name number) env inside.0 test.1 inside.1 places) (knows_inside row (row_of name number) here names knows)
@@ -144,7 +144,7 @@ module _ (read : (width number : ℕ) → number_of (number_bits width number) �
 
     cases_go : (cases : PlainCases) (env : Environment) (passed : Passed) (names : Environment) (value : Option Tree) (at : ℕ) (late : Late) (after : ℕ) (late_after : Late)
         → are_cases_shaped cases ≡ true → AreCasesApart cases → are_cases_read passed cases ≡ true → HasPlaces env → Knows passed names → IsKnownOf names env
-        → CaseSpells true facts all cases env passed value at late after late_after → after ≤ length all
+        → CaseSpells plainly facts all cases env passed value at late after late_after → after ≤ length all
         → case_found facts all passed.met cases names at late ≡ Some (record { value = value; after = after; names = names; late = late_after })
     cases_go no_cases env passed names value at late after late_after shaped apart reads places knows part it within = absurd it
     cases_go (case_and name row others) env passed names value at late after late_after shaped apart reads places knows part it within =
@@ -169,7 +169,7 @@ module _ (read : (width number : ℕ) → number_of (number_bits width number) �
 
     reaches : (outermost in_case : Bool) (body : PlainBody) (env : Environment) (passed : Passed) (names : Environment) (line : List Tree) (at : ℕ) (late : Late) (after : ℕ) (late_after : Late)
         → are_shaped in_case body ≡ true → AreKeysApart body → are_read outermost passed body ≡ true → HasPlaces env → Knows passed names → IsKnownOf names env
-        → BodySpells true facts all body env passed line at late after late_after → after ≤ length all → (outermost ≡ true → length all < after + 8)
+        → BodySpells plainly facts all body env passed line at late after late_after → after ≤ length all → (outermost ≡ true → length all < after + 8)
         → Reaches facts all passed.met body names env line at late after late_after
     reaches outermost in_case no_fields env passed names line at late after late_after shaped apart reads places knows part it within over =
         record { places = []; more = names; is = λ i. Some (record { row = sym it.0 i; places = []; after = sym it.1 i; names = names; late = sym it.2 i }); are = refl }
@@ -220,12 +220,13 @@ module _ (fewer : (unit place : ℕ) → 0 < unit → missing unit place < unit)
 
 pub plain_row_read : ((width number : ℕ) → number_of (number_bits width number) ≡ number % 2 ^ width) → ((bits : List Bool) → number_bits (length bits) (number_of bits) ≡ bits)
     → ((bytes : List ℕ) → ((k : ℕ) → slice_index bytes k < 256) → bytes_of (bits_of bytes) ≡ bytes) → ((unit place : ℕ) → 0 < unit → missing unit place < unit)
-    → (known : Facts) (body : PlainBody) (row : List Tree) (bytes : List ℕ) → is_well_shaped body ≡ true → AreKeysApart body → is_readable body ≡ true → Spells true known body row bytes
+    → (known : Facts) (body : PlainBody) (row : List Tree) (bytes : List ℕ) → is_well_shaped body ≡ true → AreKeysApart body → is_readable body ≡ true → SpellsPlainly known body row bytes
     → reading known body bytes ≡ Some row
-plain_row_read read written again fewer known body row bytes shaped apart reads it =
+plain_row_read read written again fewer known body row bytes shaped apart reads plain =
+    let it = plain.spelling in
     let shape = (both_true (are_shaped false body) (nat_le (body_depth body) deepest_body) shaped).0 in
     let goes = reaches read written again known (bits_of bytes) true false body it.names (at_front body nothing_passed) (names_inside None body outside) row 0 [] it.end it.late shape apart reads
     (places_inside false body None outside it.names shape it.own places_outside) (knows_inside body None nothing_passed outside knows_outside)
     (known_inside known (bits_of bytes) body None outside outside it.names (at_front body nothing_passed) row 0 [] it.end it.late known_outside it.own it.fields) it.fields it.within
     (λ outer. left_few fewer (bits_of bytes) it.end it.within it.filled) in
-    ap (ended (bits_of bytes)) goes.is ∙ ended_is fewer (bits_of bytes) it.end it.within it.filled row goes.places goes.more it.late it.few
+    ap (ended (bits_of bytes)) goes.is ∙ ended_is fewer (bits_of bytes) it.end it.within it.filled row goes.places goes.more it.late plain.few

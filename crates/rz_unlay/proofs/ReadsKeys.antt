@@ -15,7 +15,7 @@ use Rattle.rz_bits.specs.Bits.{number_bits, number_of}
 use Rattle.rz_types_fields.specs.declared.field.NumForm.{NumForm}
 use Rattle.rz_types_fields.specs.declared.keys.CaseKey.{CaseKey}
 use Rattle.rz_types_fields.specs.declared.tree.Tree.{Tree}
-use Rattle.rz_types_fields.specs.Spells.{is_case, values_for, BodySpells, CaseSpells, FieldSpells, IsNumber, PieceSpells}
+use Rattle.rz_types_fields.specs.Spells.{is_case, plainly, values_for, BodySpells, CaseSpells, FieldSpells, IsNumber, PieceSpells}
 use Rattle.rz_types.specs.Field.{case_and, field_and, no_cases, no_fields, Align, Array, Fill, Label, Number, PlainBody, PlainCases, PlainField, PlainNumber, Points, Switch, Text}
 use Rattle.rz_types.specs.Kept.{AreCasesApart, HasKey, IsApartFrom, StandApart}
 use Rattle.rz_types.specs.Shape.{are_cases_shaped, are_shaped, has_value, is_key_shaped, is_number_shaped, is_own_name, is_shaped}
@@ -46,9 +46,9 @@ record KeyBits (width : ℤ) (fixed : Option Term) (bits : List Bool) : Type 0 w
   small : key_bits width fixed < 2 ^ nat_abs width
 
 key_number : (facts : Facts) (seen : ℤ → ℤ → Option ℤ) (env : Environment) → HasPlaces env → (passed : Passed) (form : NumForm) (width : ℤ) (fixed : Option Term) (value : Option Tree) (bits : List Bool)
-    → has_value fixed ≡ true → IsNumber true passed form width fixed (see facts seen env) value bits → KeyBits width fixed bits
+    → has_value fixed ≡ true → IsNumber form width fixed (see facts seen env) value bits → KeyBits width fixed bits
 key_number facts seen env has passed form width None value bits there it = absurd cc
-key_number facts seen env has passed form width (Some term) value bits there (v, is, valued, fits, are, solves) = by (constant_of term) refl there
+key_number facts seen env has passed form width (Some term) value bits there (v, is, valued, fits, are) = by (constant_of term) refl there
   where
     same : (c : ℤ) → ◌≡◌ {A = Result ℤ EvalFault} (Ok c) (Ok v) → c ≡ v
     same c is = cc
@@ -68,7 +68,7 @@ distance_is (Some b) distance is = (b, refl, some_is (min b 134217697) distance 
 
 module _ (back : (width number : ℕ) → number < 2 ^ width → number_of (number_bits width number) ≡ number) (known : Facts) (all : List Bool) where
   number_key_there : (in_case : Bool) (number : PlainNumber) (before : Option ℕ) (start : ℕ) (env : Environment) (passed : Passed) (value : Option Tree) (at : ℕ) (late : List Bool) (after : ℕ) (late_after : List Bool)
-      → is_number_shaped in_case number ≡ true → HasPlaces env → PieceSpells true known all env passed (OneNumber number) value at late after late_after → after ≤ length all
+      → is_number_shaped in_case number ≡ true → HasPlaces env → PieceSpells plainly known all env passed (OneNumber number) value at late after late_after → after ≤ length all
       → ((b : ℕ) → before ≡ Some b → at ≡ start + b) → AllByRecursion (KeyThere all start) (number_key before number)
   number_key_there in_case number before start env passed value at late after late_after shaped has it within place =
       by number.key refl (both_true _ (if number.key then is_key_shaped in_case number else true) shaped).1
@@ -93,7 +93,7 @@ module _ (back : (width number : ℕ) → number < 2 ^ width → number_of (numb
               ∙ ap (λ (n : ℕ). Some n) (ap number_of key.are ∙ back (nat_abs number.width) (key_bits number.width number.fixed) key.small)
 
   field_keys_there : (in_case : Bool) (field : PlainField) (before : Option ℕ) (start : ℕ) (env : Environment) (passed : Passed) (value : Option Tree) (at : ℕ) (late : List Bool) (after : ℕ) (late_after : List Bool)
-      → is_shaped in_case field ≡ true → HasPlaces env → FieldSpells true known all field env passed value at late after late_after → after ≤ length all
+      → is_shaped in_case field ≡ true → HasPlaces env → FieldSpells plainly known all field env passed value at late after late_after → after ≤ length all
       → ((b : ℕ) → before ≡ Some b → at ≡ start + b) → AllByRecursion (KeyThere all start) (field_key before field)
   field_keys_there in_case (Number number) before start env passed value at late after late_after shaped has it within place =
       let one = single known all env passed (OneNumber number) (values_for (Number number) value) at late after late_after it.1 in
@@ -114,7 +114,7 @@ module _ (back : (width number : ℕ) → number < 2 ^ width → number_of (numb
       let one = place x refl in let other = wide y refl in let sum = some_is (x + y) b is in omega (arith, one, other, sum)
 
   keys_there : (in_case : Bool) (body : PlainBody) (before : Option ℕ) (start : ℕ) (env : Environment) (passed : Passed) (line : List Tree) (at : ℕ) (late : List Bool) (after : ℕ) (late_after : List Bool)
-      → are_shaped in_case body ≡ true → HasPlaces env → BodySpells true known all body env passed line at late after late_after → after ≤ length all
+      → are_shaped in_case body ≡ true → HasPlaces env → BodySpells plainly known all body env passed line at late after late_after → after ≤ length all
       → ((b : ℕ) → before ≡ Some b → at ≡ start + b) → AllByRecursion (KeyThere all start) (keys_from before body)
   keys_there in_case no_fields before start env passed line at late after late_after shaped has it within place = tt
   keys_there in_case (field_and field fields) before start env passed line at late after late_after shaped has it within place =
@@ -130,7 +130,7 @@ module _ (back : (width number : ℕ) → number < 2 ^ width → number_of (numb
 
   -- those of a case
   pub case_keys_there : (row : PlainBody) (env : Environment) (passed : Passed) (line : List Tree) (at : ℕ) (late : List Bool) (after : ℕ) (late_after : List Bool)
-      → are_shaped true row ≡ true → HasPlaces env → BodySpells true known all row env passed line at late after late_after → after ≤ length all → AllByRecursion (KeyThere all at) (case_keys row)
+      → are_shaped true row ≡ true → HasPlaces env → BodySpells plainly known all row env passed line at late after late_after → after ≤ length all → AllByRecursion (KeyThere all at) (case_keys row)
   case_keys_there row env passed line at late after late_after shaped has it within =
       keys_there true row (Some 0) at env passed line at late after late_after shaped has it within (λ b is. (let e = some_is 0 b is in omega (arith, e)))
 
@@ -169,7 +169,7 @@ other_key all at one other apart found =
 module _ (back : (width number : ℕ) → number < 2 ^ width → number_of (number_bits width number) ≡ number) (known : Facts) (all : List Bool) where
   -- a key that stands apart from those of all these cases isn't there, where one of these is spelled
   key_apart : (cases : PlainCases) (key : CaseKey) (env : Environment) (passed : Passed) (value : Option Tree) (at : ℕ) (late : List Bool) (after : ℕ) (late_after : List Bool)
-      → are_cases_shaped cases ≡ true → HasPlaces env → AreCasesApart cases → IsApartFrom key cases → CaseSpells true known all cases env passed value at late after late_after → after ≤ length all
+      → are_cases_shaped cases ≡ true → HasPlaces env → AreCasesApart cases → IsApartFrom key cases → CaseSpells plainly known all cases env passed value at late after late_after → after ≤ length all
       → has_key_at all at key ≡ false
   key_apart no_cases key env passed value at late after late_after shaped has apart from it within = absurd it
   key_apart (case_and name row others) key env passed value at late after late_after shaped has apart from it within =
@@ -185,7 +185,7 @@ module _ (back : (width number : ℕ) → number < 2 ^ width → number_of (numb
 
   -- so the keys of a case aren't there where another after it is spelled
   pub keys_absent : (row : PlainBody) (others : PlainCases) (own : HasKey row others) (env : Environment) (passed : Passed) (value : Option Tree) (at : ℕ) (late : List Bool) (after : ℕ) (late_after : List Bool)
-      → are_cases_shaped others ≡ true → HasPlaces env → AreCasesApart others → CaseSpells true known all others env passed value at late after late_after → after ≤ length all
+      → are_cases_shaped others ≡ true → HasPlaces env → AreCasesApart others → CaseSpells plainly known all others env passed value at late after late_after → after ≤ length all
       → has_keys all at (case_keys row) ≡ false
   keys_absent row others own env passed value at late after late_after shaped has apart it within =
       ap (has_keys all at) own.alone

@@ -23,7 +23,7 @@ use Rattle.rz_types_fields.specs.Passed.{at_field, at_front, behind, declares, g
 use Rattle.rz_types_fields.specs.Shape.{are_shaped, is_shaped}
 use Rattle.rz_types_fields.specs.Solve.{is_same_key}
 use Rattle.rz_types_fields.specs.RowLabels.{is_row, row_number, RowOf}
-use Rattle.rz_types_fields.specs.Spells.{BodySpells, IsCounted, Within}
+use Rattle.rz_types_fields.specs.Spells.{plainly, BodySpells, IsCounted, Within}
 use Rattle.rz_types_fields.proofs.RowKeys.{entered_place_in, entered_row, entered_rows, placed_none, undeclared}
 use Rattle.rz_types_fields.proofs.SameNames.{key_is}
 use Rattle.rz_unlay.proofs.Ahead.{HasPlaces}
@@ -87,7 +87,7 @@ rows_inside body which names fills = record {
 module _ (known : Facts) (all : List Bool) where
   -- what a body states is so where it is spelled
   stated_holds : (body : PlainBody) (own : Environment) (passed : Passed) (line : List Tree) (at : ℕ) (late : List Bool) (after : ℕ) (late_after : List Bool)
-      → BodySpells true known all body own passed line at late after late_after → (key : Key) (v : ℤ) → stated_in body key ≡ Some v → own.give key ≡ Some v
+      → BodySpells plainly known all body own passed line at late after late_after → (key : Key) (v : ℤ) → stated_in body key ≡ Some v → own.give key ≡ Some v
   stated_holds no_fields own passed line at late after late_after it key v is = absurd cc
   stated_holds (field_and (Number number) fields) own passed line at late after late_after it key v is =
       stated_holds fields own (behind (Number number) (at_field (field_and (Number number) fields) passed)) it.1 it.2 it.3 after late_after it.6 key v is
@@ -112,7 +112,7 @@ module _ (known : Facts) (all : List Bool) where
       stated_holds fields own (behind (Switch cases) (at_field (field_and (Switch cases) fields) passed)) it.1 it.2 it.3 after late_after it.6 key v is
 
   part_inside : (body : PlainBody) (which : Option RowOf) (names env own : Environment) (passed : Passed) (line : List Tree) (at : ℕ) (late : List Bool) (after : ℕ) (late_after : List Bool)
-      → IsPartOf names env → Within body which env own → BodySpells true known all body own passed line at late after late_after → IsPartOf (names_inside which body names) own
+      → IsPartOf names env → Within body which env own → BodySpells plainly known all body own passed line at late after late_after → IsPartOf (names_inside which body names) own
   part_inside body which names env own passed line at late after late_after part within it = record {
     give = λ key v is. around key v (is_row which key) refl is;
   }
@@ -127,7 +127,7 @@ module _ (known : Facts) (all : List Bool) where
 
   -- what is known at the front of a body is known so inside
   pub known_inside : (body : PlainBody) (which : Option RowOf) (names env own : Environment) (passed : Passed) (line : List Tree) (at : ℕ) (late : List Bool) (after : ℕ) (late_after : List Bool)
-      → IsKnownOf names env → Within body which env own → BodySpells true known all body own passed line at late after late_after → IsKnownOf (names_inside which body names) own
+      → IsKnownOf names env → Within body which env own → BodySpells plainly known all body own passed line at late after late_after → IsKnownOf (names_inside which body names) own
   known_inside body which names env own passed line at late after late_after stands within it = record {
     part = part_inside body which names env own passed line at late after late_after stands.part within it;
     rows = rows_inside body which names stands.rows;

@@ -19,7 +19,7 @@ use Rattle.rz_types_fields.specs.Field.{field_and, PlainBody, PlainField}
 use Rattle.rz_types_fields.specs.Passed.{declares, is_held, is_known, is_near, told_by, Names, Passed}
 use Rattle.rz_types_fields.specs.Sees.{bits_before, is_late, sees, Late}
 use Rattle.rz_types_fields.specs.Solve.{can_solve, has_key, is_same_key, keys_in, solved_value, undoes_left, undoes_one, undoes_right, AreSolved, IsSolvedTo, SolvesBack}
-use Rattle.rz_types_fields.specs.Spells.{is_late_value, IsNumber}
+use Rattle.rz_types_fields.specs.Spells.{is_late_value, IsNumber, IsPlainNumber}
 use Rattle.rz_types_fields.specs.Stored.{stored_number}
 use Rattle.rz_types_fields.specs.Value.{see}
 use Rattle.rz_types_fields.proofs.KeysIn.{has_bits, has_one, has_two, key_there}
@@ -241,7 +241,7 @@ module _ (back : (width number : ℕ) → number < 2 ^ width → number_of (numb
   lateness passed late fixed at = is_late_value passed.met late fixed (sees facts all env at)
 
   free_steps : (passed : Passed) (names : Environment) → Knows passed names → IsKnownOf names env → (form : NumForm) (width : ℤ) (value : Option Tree) (bits : List Bool) (at : ℕ) (late : Late)
-      → IsNumber true passed form width None (sees facts all env at) value bits → take (length bits) (drop at all) ≡ bits → at + length bits ≤ length all
+      → IsNumber form width None (sees facts all env at) value bits → take (length bits) (drop at all) ≡ bits → at + length bits ≤ length all
       → Steps passed env value (at + length bits) (late ++ replicate (length bits) false) (number_step (here_at facts all field rest first met) form width None names at late)
   free_steps passed names knows part form width value bits at late (n, is, small, are) there within =
       let w = nat_abs width in
@@ -274,10 +274,10 @@ module _ (back : (width number : ℕ) → number < 2 ^ width → number_of (numb
 
   fixed_steps : (passed : Passed) (names : Environment) → passed.met ≡ met → passed.near ≡ is_near (field_and field rest) → Knows passed names → IsKnownOf names env
       → (form : NumForm) (width : ℤ) (term : Term) (value : Option Tree) (bits : List Bool) (at : ℕ) (late : Late) → is_number_read rest passed (Some term) ≡ true
-      → IsNumber true passed form width (Some term) (sees facts all env at) value bits → take (length bits) (drop at all) ≡ bits → at + length bits ≤ length all
+      → IsNumber form width (Some term) (sees facts all env at) value bits → IsPlainNumber passed width (Some term) (sees facts all env at) → take (length bits) (drop at all) ≡ bits → at + length bits ≤ length all
       → Steps (told_by (Some term) passed) env value (at + length bits) (late ++ replicate (length bits) (lateness passed late (Some term) at))
       (number_step (here_at facts all field rest first met) form width (Some term) names at late)
-  fixed_steps passed names met_is near_is knows part form width term value bits at late reads (v, is, valued, fits, are, solves) there within =
+  fixed_steps passed names met_is near_is knows part form width term value bits at late reads (v, is, valued, fits, are) plain there within =
       let w = nat_abs width in
       let here = here_at facts all field rest first met in
       let n = stored_number w v in
@@ -286,7 +286,7 @@ module _ (back : (width number : ℕ) → number < 2 ^ width → number_of (numb
       let found = number_found all at w bits long within there ∙ ap (λ (bs : List Bool). Some (number_of bs)) are ∙ ap (λ (n : ℕ). Some n) (back w n small) in
       let seen = bits_before all at in
       let widens = near_widens facts all field rest env first after met ahead in
-      let told = names_told facts seen rest (length all) passed.met (is_known passed) (met_known passed) env near widens ahead.lies w term n v valued solves reads in
+      let told = names_told facts seen rest (length all) passed.met (is_known passed) (met_known passed) env near widens ahead.lies w term n v valued (plain v valued) reads in
       let goes = all_told passed.met (is_known passed) (met_known passed) env near widens (λ key now. solved_at (length all) w key (seen_at here now at) term n) term names
       (near_covers facts all field rest env first after met ahead passed names knows near_is) part told in
       let its = names_with term passed in
@@ -315,10 +315,10 @@ module _ (back : (width number : ℕ) → number < 2 ^ width → number_of (numb
 
   pub number_steps : (passed : Passed) (names : Environment) → passed.met ≡ met → passed.near ≡ is_near (field_and field rest) → Knows passed names → IsKnownOf names env
       → (form : NumForm) (width : ℤ) (fixed : Option Term) (value : Option Tree) (bits : List Bool) (at : ℕ) (late : Late) → is_number_read rest passed fixed ≡ true
-      → IsNumber true passed form width fixed (sees facts all env at) value bits → take (length bits) (drop at all) ≡ bits → at + length bits ≤ length all
+      → IsNumber form width fixed (sees facts all env at) value bits → IsPlainNumber passed width fixed (sees facts all env at) → take (length bits) (drop at all) ≡ bits → at + length bits ≤ length all
       → Steps (told_by fixed passed) env value (at + length bits) (late ++ replicate (length bits) (lateness passed late fixed at))
       (number_step (here_at facts all field rest first met) form width fixed names at late)
-  number_steps passed names met_is near_is knows part form width None value bits at late reads it there within =
+  number_steps passed names met_is near_is knows part form width None value bits at late reads it plain there within =
       free_steps passed names knows part form width value bits at late it there within
-  number_steps passed names met_is near_is knows part form width (Some term) value bits at late reads it there within =
-      fixed_steps passed names met_is near_is knows part form width term value bits at late reads it there within
+  number_steps passed names met_is near_is knows part form width (Some term) value bits at late reads it plain there within =
+      fixed_steps passed names met_is near_is knows part form width term value bits at late reads it plain there within

@@ -17,7 +17,7 @@ use Rattle.rz_types_fields.specs.Passed.{at_field, behind, behind_piece, behind_
 use Rattle.rz_types_fields.specs.Piece.{fixed_integer, free_integer, integers, Filler, OneNumber, OneText, Piece, Place, Zeros}
 use Rattle.rz_types_fields.specs.Sees.{Late}
 use Rattle.rz_types_fields.specs.Shape.{numbers_of}
-use Rattle.rz_types_fields.specs.Spells.{group_in, numbers_of_group, put, values_for, FieldSpells, InOrder, IsGrouped, PieceSpells}
+use Rattle.rz_types_fields.specs.Spells.{group_in, numbers_of_group, plainly, put, values_for, FieldSpells, InOrder, IsGrouped, PieceSpells}
 use Rattle.rz_types.specs.Readable.{are_pieces_read, is_number_read, is_read, is_text_read}
 use Rattle.rz_unlay.specs.Pieces.{field_of_pieces, first_of_row, grouped, number_of_value, numbers_of_values, piece_step, pieces_found, with_value, Found}
 use Rattle.rz_unlay_pieces.specs.Pieces.{agrees, also, here_at, label_step, zeros_step, Here, Step}
@@ -103,7 +103,7 @@ integers_are rect None = frees_are (numbers_of rect)
 integers_are rect (Some terms) = fixed_are terms
 
 order_grows : (facts : Facts) (all : List Bool) (env : Environment) (passed : Passed) (pieces : List Piece) (values : List Tree) (at : ℕ) (late : Late) (after : ℕ) (late_after : Late)
-    → InOrder (PieceSpells true facts all env) passed pieces values at late after late_after → at ≤ after
+    → InOrder (PieceSpells plainly facts all env) passed pieces values at late after late_after → at ≤ after
 order_grows facts all env passed [] values at late after late_after it = let e = it.1 in omega (arith, e)
 order_grows facts all env passed (piece ∷ pieces) values at late after late_after it =
     let rest = order_grows facts all env (behind_piece piece passed) pieces it.1 it.2 it.3 after late_after it.6 in
@@ -133,10 +133,10 @@ module _ (back : (width number : ℕ) → number < 2 ^ width → number_of (numb
 
   one_number : (number : PlainNumber) (passed : Passed) (names : Environment) (value : Option Tree) (at : ℕ) (late : Late) (after : ℕ) (late_after : Late)
       → passed.met ≡ met → passed.near ≡ is_near (field_and field rest) → Knows passed names → IsKnownOf names env → is_number_read rest passed number.fixed ≡ true
-      → PieceSpells true facts all env passed (OneNumber number) value at late after late_after → after ≤ length all
+      → PieceSpells plainly facts all env passed (OneNumber number) value at late after late_after → after ≤ length all
       → Steps (behind_piece (OneNumber number) passed) env value after late_after (piece_step here (OneNumber number) names at late)
   one_number number passed names value at late after late_after met_is near_is knows part reads it within =
-      let goes = number_steps back facts all field rest env first end met ahead passed names met_is near_is knows part number.form number.width number.fixed value it.bits at late reads it.stored it.there
+      let goes = number_steps back facts all field rest env first end met ahead passed names met_is near_is knows part number.form number.width number.fixed value it.bits at late reads it.stored it.manner it.there
       (subst (λ (n : ℕ). n ≤ length all) it.ends within) in
       record {
         names = goes.names;
@@ -147,7 +147,7 @@ module _ (back : (width number : ℕ) → number < 2 ^ width → number_of (numb
 
   numbers_go : (pieces : List Piece) (passed : Passed) (names : Environment) (values : List Tree) (at : ℕ) (late : Late) (after : ℕ) (late_after : Late)
       → AreNumbers pieces → passed.met ≡ met → passed.near ≡ is_near (field_and field rest) → Knows passed names → IsKnownOf names env → are_pieces_read outermost rest passed pieces ≡ true
-      → InOrder (PieceSpells true facts all env) passed pieces values at late after late_after → after ≤ length all
+      → InOrder (PieceSpells plainly facts all env) passed pieces values at late after late_after → after ≤ length all
       → Finds (behind_pieces pieces passed) env values after late_after (pieces_found here pieces names at late)
   numbers_go [] passed names values at late after late_after are met_is near_is knows part reads it within = record {
     names = names;
@@ -200,7 +200,7 @@ module _ (read : (width number : ℕ) → number_of (number_bits width number) �
   found field = field_of_pieces (here_at facts all field rest at passed.met) field names at late
 
   pub number_field : (number : PlainNumber) → Ahead all (Number number) rest env at after → is_read outermost rest (there (Number number)) (Number number) ≡ true
-      → FieldSpells true facts all (Number number) env (there (Number number)) value at late after late_after → Steps (behind (Number number) (there (Number number))) env value after late_after (found (Number number))
+      → FieldSpells plainly facts all (Number number) env (there (Number number)) value at late after late_after → Steps (behind (Number number) (there (Number number))) env value after late_after (found (Number number))
   number_field number ahead reads it =
       let field = Number number in
       let one = single facts all env (there field) (OneNumber number) (values_for field value) at late after late_after it.1 in
@@ -214,13 +214,13 @@ module _ (read : (width number : ℕ) → number_of (number_bits width number) �
       }
 
   pub text_field : (text : PlainText) → Ahead all (Text text) rest env at after → is_read outermost rest (there (Text text)) (Text text) ≡ true → EndsAt outermost all rest after
-      → FieldSpells true facts all (Text text) env (there (Text text)) value at late after late_after → Steps (behind (Text text) (there (Text text))) env value after late_after (found (Text text))
+      → FieldSpells plainly facts all (Text text) env (there (Text text)) value at late after late_after → Steps (behind (Text text) (there (Text text))) env value after late_after (found (Text text))
   text_field text ahead reads end it =
       let field = Text text in
       let one = single facts all env (there field) (OneText text) (values_for field value) at late after late_after it.1 in
       let stands = one.spelled in
       let is = text_steps read written again back facts all env outermost field rest (there field) names knows part at after ahead end text refl one.value stands.bits late
-      (both_true (is_text_read outermost rest (there field) text) true reads).0 stands.stored stands.early stands.ends (subst (λ (n : ℕ). n ≤ length all) stands.ends within) stands.there in
+      (both_true (is_text_read outermost rest (there field) text) true reads).0 stands.stored stands.manner stands.early stands.ends (subst (λ (n : ℕ). n ≤ length all) stands.ends within) stands.there in
       record {
         names = names;
         is = field_one (here_at facts all field rest at passed.met) (OneText text) names names value one.value at after late late_after
@@ -230,7 +230,7 @@ module _ (read : (width number : ℕ) → number_of (number_bits width number) �
       }
 
   pub points_field : (points : PlainPoints) → Ahead all (Points points) rest env at after → is_read outermost rest (there (Points points)) (Points points) ≡ true
-      → FieldSpells true facts all (Points points) env (there (Points points)) value at late after late_after → Steps (behind (Points points) (there (Points points))) env value after late_after (found (Points points))
+      → FieldSpells plainly facts all (Points points) env (there (Points points)) value at late after late_after → Steps (behind (Points points) (there (Points points))) env value after late_after (found (Points points))
   points_field points ahead reads it =
       let field = Points points in
       let pieces = integers points.rect points.fixed in
@@ -244,7 +244,7 @@ module _ (read : (width number : ℕ) → number_of (number_bits width number) �
         part = goes.part;
       }
 
-  pub fill_field : (unit : ℕ) (count : ℤ) → FieldSpells true facts all (Fill unit count) env (there (Fill unit count)) value at late after late_after
+  pub fill_field : (unit : ℕ) (count : ℤ) → FieldSpells plainly facts all (Fill unit count) env (there (Fill unit count)) value at late after late_after
       → Steps (behind (Fill unit count) (there (Fill unit count))) env value after late_after (found (Fill unit count))
   fill_field unit count it =
       let field = Fill unit count in
@@ -259,7 +259,7 @@ module _ (read : (width number : ℕ) → number_of (number_bits width number) �
         part = part;
       }
 
-  pub align_field : (unit : ℕ) → FieldSpells true facts all (Align unit) env (there (Align unit)) value at late after late_after
+  pub align_field : (unit : ℕ) → FieldSpells plainly facts all (Align unit) env (there (Align unit)) value at late after late_after
       → Steps (behind (Align unit) (there (Align unit))) env value after late_after (found (Align unit))
   align_field unit it =
       let field = Align unit in
@@ -282,7 +282,7 @@ module _ (read : (width number : ℕ) → number_of (number_bits width number) �
       by true is = (pos at, refl)
       by false is = knows key asked is
 
-  pub label_field : (name : Word) → FieldSpells true facts all (Label name) env (there (Label name)) value at late after late_after
+  pub label_field : (name : Word) → FieldSpells plainly facts all (Label name) env (there (Label name)) value at late after late_after
       → Steps (behind (Label name) (there (Label name))) env value after late_after (found (Label name))
   label_field name it =
       let field = Label name in

@@ -22,7 +22,7 @@ use Rattle.rz_types_fields.specs.Passed.{declares, is_known, is_near, Names, Pas
 use Rattle.rz_types_fields.specs.Piece.{fixed_terms, terms_of_text}
 use Rattle.rz_types_fields.specs.Range.{may_be_size}
 use Rattle.rz_types_fields.specs.Sees.{bits_before, sees, Late}
-use Rattle.rz_types_fields.specs.Spells.{is_one_late, nowhere, IsPlainText, IsSize, IsText}
+use Rattle.rz_types_fields.specs.Spells.{is_one_late, nowhere, IsPlainText, IsPlainValue, IsSize, IsText}
 use Rattle.rz_types_fields.specs.Spells as spells
 use Rattle.rz_types_fields.specs.Stored.{before_zero, in_size, is_too_long, sized, stored_text, to_size}
 use Rattle.rz_types_fields.specs.Text.{text_terms, PlainPart}
@@ -265,10 +265,10 @@ module _ (facts : Facts) (seen : ℤ → ℤ → Option ℤ) (met known : Names)
       ((λ v found. value_same facts seen met known leads some whole covers part term each.0 ∙ found), known_terms terms each.1)
 
   -- so a text has the bytes that it has there
-  bytes_there : (form : TextForm) (fixed : Option (List PlainPart)) (size : Option ℕ) (value : Option Tree) (bytes : List ℕ) → list_all (all_known met known) (fixed_terms fixed) ≡ true
-      → spells.AreBytes true form facts (see facts seen whole) fixed size value bytes → spells.AreBytes true form facts (see facts seen some) fixed size value bytes
-  bytes_there form None size value bytes are_known are = are
-  bytes_there form (Some parts) size value bytes are_known (is, fixed) =
+  bytes_there : (fixed : Option (List PlainPart)) (value : Option Tree) (bytes : List ℕ) → list_all (all_known met known) (fixed_terms fixed) ≡ true
+      → spells.AreBytes facts (see facts seen whole) fixed value bytes → spells.AreBytes facts (see facts seen some) fixed value bytes
+  bytes_there None value bytes are_known are = are
+  bytes_there (Some parts) value bytes are_known (is, fixed) =
       (is, bytes_kept nowhere facts (see facts seen whole) (see facts seen some) parts (known_terms (text_terms parts) are_known) bytes fixed)
 
   early_same : (later : Names) (late : Late) (terms : List Term) → list_all (all_known met known) terms ≡ true → is_one_late later late terms (see facts seen some) ≡ is_one_late later late terms (see facts seen whole)
@@ -312,26 +312,26 @@ module _ (read : (width number : ℕ) → number_of (number_bits width number) �
 
   -- by whether the text is fixed, and whether it has a size
   text_told : (form : TextForm) (term : Option Term) (size : Option ℕ) (fixed : Option (List PlainPart)) (value : Option Tree) (bytes : List ℕ) (bits : List Bool)
-      → text_ends outermost rest passed.told form term ≡ true → IsSize form (sees facts all env at) term size → spells.AreBytes true form facts (seen_at here names at) fixed size value bytes
-      → is_too_long form size (length bytes) ≡ false → bits ≡ bits_of (stored_text form size bytes)
+      → text_ends outermost rest passed.told form term ≡ true → IsSize form (sees facts all env at) term size → spells.AreBytes facts (seen_at here names at) fixed value bytes
+      → (value ≡ Some (trees.Text bytes) → IsPlainText form size bytes) → is_too_long form size (length bytes) ≡ false → bits ≡ bits_of (stored_text form size bytes)
       → after ≡ at + length bits → at + length bits ≤ length all → take (length bits) (drop at all) ≡ bits
       → TextTold here names form size fixed value at bits
-  text_told form term (Some size) None value bytes bits reads sized (is, plain) short are ends within there = record {
+  text_told form term (Some size) None value bytes bits reads sized is plain short are ends within there = record {
     found = bytes;
     has_size = ap (λ (n : ℕ). Some n) (sym (length_with_size form size bytes));
-    has_value = (λ i. Some (Some (trees.Text (plain_text_is form (Some size) bytes plain i)), plain_text_is form (Some size) bytes plain i)) ∙ (λ i. Some (sym is i, bytes));
-    are_bytes = stored_are form (Some size) bytes plain.0 (size_may form (sees facts all env at) term (Some size) sized) short;
+    has_value = (λ i. Some (Some (trees.Text (plain_text_is form (Some size) bytes (plain is) i)), plain_text_is form (Some size) bytes (plain is) i)) ∙ (λ i. Some (sym is i, bytes));
+    are_bytes = stored_are form (Some size) bytes (plain is).0 (size_may form (sees facts all env at) term (Some size) sized) short;
     are_bits = are;
   }
-  text_told form None None None value bytes bits reads sized (is, plain) short are ends within there = record {
+  text_told form None None None value bytes bits reads sized is plain short are ends within there = record {
     found = bytes;
-    has_size = size_stored back all (room here names at) at bytes form bits (opens_so form bytes bits reads are ends) plain short are within there;
-    has_value = (λ i. Some (Some (trees.Text (plain_text_is form None bytes plain i)), plain_text_is form None bytes plain i)) ∙ (λ i. Some (sym is i, bytes));
-    are_bytes = stored_are form None bytes plain.0 tt short;
+    has_size = size_stored back all (room here names at) at bytes form bits (opens_so form bytes bits reads are ends) (plain is) short are within there;
+    has_value = (λ i. Some (Some (trees.Text (plain_text_is form None bytes (plain is) i)), plain_text_is form None bytes (plain is) i)) ∙ (λ i. Some (sym is i, bytes));
+    are_bytes = stored_are form None bytes (plain is).0 tt short;
     are_bits = are;
   }
-  text_told form (Some term) None None value bytes bits reads (n, valued, may, is) plain short are ends within there = absurd (let wrong = is in cc)
-  text_told form term size (Some parts) value bytes bits reads sized (is, fixed) short are ends within there =
+  text_told form (Some term) None None value bytes bits reads (n, valued, may, is) text_is plain short are ends within there = absurd (let wrong = is in cc)
+  text_told form term size (Some parts) value bytes bits reads sized (is, fixed) plain short are ends within there =
       let reduced = map (λ byte. byte % 256) bytes in
       let short_too : is_too_long form size (length reduced) ≡ false = ap (is_too_long form size) (length-map bytes (λ byte. byte % 256)) ∙ short in
       let same = stored_bits read written bytes form size in
@@ -346,18 +346,18 @@ module _ (read : (width number : ℕ) → number_of (number_bits width number) �
       }
 
   pub text_steps : (text : PlainText) → passed.near ≡ is_near (field_and field rest) → (value : Option Tree) (bits : List Bool) (late : Late)
-      → is_text_read outermost rest passed text ≡ true → IsText true text facts (sees facts all env at) value bits → is_one_late passed.met late (terms_of_text text) (sees facts all env at) ≡ false
+      → is_text_read outermost rest passed text ≡ true → IsText text facts (sees facts all env at) value bits → IsPlainValue text (sees facts all env at) value → is_one_late passed.met late (terms_of_text text) (sees facts all env at) ≡ false
       → after ≡ at + length bits → at + length bits ≤ length all → take (length bits) (drop at all) ≡ bits
       → text_step here text names at late ≡ Some (record { value = value; after = at + length bits; names = names; late = late ++ replicate (length bits) false })
-  text_steps text near_is value bits late reads it early ends within there =
+  text_steps text near_is value bits late reads it plain early ends within there =
       let each = both_true (text_ends outermost rest passed.told text.form text.size) (list_all (all_known passed.met (is_known passed)) (terms_of_text text)) reads in
       let seen = bits_before all at in
       let near = with_near here names in
       let covers = near_covers facts all field rest env at after passed.met ahead passed names knows near_is in
       let whole = near_part facts all field rest env at after passed.met ahead names part in
-      let bytes_are = bytes_there facts seen passed.met (is_known passed) (met_known passed) near env covers whole text.form text.fixed it.size value it.bytes
+      let bytes_are = bytes_there facts seen passed.met (is_known passed) (met_known passed) near env covers whole text.fixed value it.bytes
       (formats_known passed.met (is_known passed) text.size (fixed_terms text.fixed) each.1) it.are_bytes in
-      let told = text_told text.form text.size it.size text.fixed value it.bytes bits each.0 it.has_size bytes_are it.short it.are_bits ends within there in
+      let told = text_told text.form text.size it.size text.fixed value it.bytes bits each.0 it.has_size bytes_are (plain it.size it.bytes it.has_size) it.short it.are_bits ends within there in
       let raw = stored_text text.form it.size told.found in
       let long : length bits ≡ 8 * length raw = ap length told.are_bits ∙ length_bits raw in
       ap (λ (b : Bool). if b then None else early_text here text names at late)

@@ -24,7 +24,7 @@ use Rattle.rz_types_fields.specs.declared.field.TextForm.TheVariants as texts
 use Rattle.rz_types_fields.specs.declared.tree.Tree.{Tree}
 use Rattle.rz_types_fields.specs.Row.{By, IsStated}
 use Rattle.rz_types_fields.specs.RowLabels.{row_of}
-use Rattle.rz_types_fields.specs.Spells.{is_case, values_for, BodySpells, CaseSpells, FieldSpells, InOrder, IsNumber, IsSize, PieceSpells, RowSpells, RowsSpell}
+use Rattle.rz_types_fields.specs.Spells.{is_case, plainly, values_for, BodySpells, CaseSpells, FieldSpells, InOrder, IsNumber, IsSize, PieceSpells, RowSpells, RowsSpell}
 use Rattle.rz_types.specs.Field.{case_and, field_and, no_cases, no_fields, Align, Array, Fill, Label, Number, PlainBody, PlainCases, PlainField, Points, Switch, Text}
 use Rattle.rz_types.specs.Readable.{least_case, least_of, least_rows, least_text, least_width, least_widths}
 use Rattle.rz_types.specs.Shape.{are_cases_shaped, are_fixed_points, are_shaped, is_none_or, is_own_name, is_shaped, numbers_of}
@@ -95,7 +95,7 @@ not_fixed least at after grows = record { grows = grows; is = λ width is. absur
 -- Pieces.
 
 number_long : (sight : Sight) (passed : Passed) (form : NumForm) (width : ℤ) (fixed : Option Term) (value : Option Tree) (bits : List Bool)
-    → IsNumber true passed form width fixed sight value bits → length bits ≡ nat_abs width
+    → IsNumber form width fixed sight value bits → length bits ≡ nat_abs width
 number_long sight passed form width None value bits it = ap length it.3 ∙ length_number (nat_abs width) it.0
 number_long sight passed form width (Some term) value bits it = ap length it.4 ∙ length_number (nat_abs width) _
 
@@ -127,7 +127,7 @@ text_wide facts seen env has form (Some term) size bytes at after (n, valued, ma
 
 module _ (known : Facts) (all : List Bool) (env : Environment) where
   free_long : (count : ℕ) (passed : Passed) (values : List Tree) (at : ℕ) (late : List Bool) (after : ℕ) (late_after : List Bool)
-      → InOrder (PieceSpells true known all env) passed (replicate count free_integer) values at late after late_after → after ≡ at + 16 * count
+      → InOrder (PieceSpells plainly known all env) passed (replicate count free_integer) values at late after late_after → after ≡ at + 16 * count
   free_long zero passed values at late after late_after it = let e = it.1 in omega (arith, e)
   free_long (suc count) passed values at late after late_after it =
       let one = it.5 in
@@ -137,7 +137,7 @@ module _ (known : Facts) (all : List Bool) (env : Environment) where
       omega (arith, long, rest, ends)
 
   fixed_long : (terms : List Term) (passed : Passed) (values : List Tree) (at : ℕ) (late : List Bool) (after : ℕ) (late_after : List Bool)
-      → InOrder (PieceSpells true known all env) passed (map fixed_integer terms) values at late after late_after → after ≡ at + 16 * length terms
+      → InOrder (PieceSpells plainly known all env) passed (map fixed_integer terms) values at late after late_after → after ≡ at + 16 * length terms
   fixed_long [] passed values at late after late_after it = let e = it.1 in omega (arith, e)
   fixed_long (term ∷ terms) passed values at late after late_after it =
       let one = it.5 in
@@ -147,7 +147,7 @@ module _ (known : Facts) (all : List Bool) (env : Environment) where
       omega (arith, long, rest, ends)
 
   points_long : (rect : Bool) (fixed : Option (List Term)) (passed : Passed) (values : List Tree) (at : ℕ) (late : List Bool) (after : ℕ) (late_after : List Bool)
-      → is_none_or (are_fixed_points rect) fixed ≡ true → InOrder (PieceSpells true known all env) passed (integers rect fixed) values at late after late_after
+      → is_none_or (are_fixed_points rect) fixed ≡ true → InOrder (PieceSpells plainly known all env) passed (integers rect fixed) values at late after late_after
       → after ≡ at + 16 * numbers_of rect
   points_long rect None passed values at late after late_after shaped it = free_long (numbers_of rect) passed values at late after late_after it
   points_long rect (Some terms) passed values at late after late_after shaped it =
@@ -221,7 +221,7 @@ least_other least o other at after is grows = (min least other, ap (λ (o : Opti
 module _ (known : Facts) (all : List Bool) where
   mutual
     pub field_wide : (in_case : Bool) (field : PlainField) (env : Environment) (passed : Passed) (value : Option Tree) (at : ℕ) (late : List Bool) (after : ℕ) (late_after : List Bool)
-        → is_shaped in_case field ≡ true → HasPlaces env → FieldSpells true known all field env passed value at late after late_after → Wide (least_width field) (fixed_width field) at after
+        → is_shaped in_case field ≡ true → HasPlaces env → FieldSpells plainly known all field env passed value at late after late_after → Wide (least_width field) (fixed_width field) at after
     field_wide in_case (Number number) env passed value at late after late_after shaped has it =
         let one = single known all env passed (OneNumber number) (values_for (Number number) value) at late after late_after it.1 in
         just_so (nat_abs number.width) at after
@@ -258,7 +258,7 @@ module _ (known : Facts) (all : List Bool) where
         not_fixed (unwrap_or (least_case cases) 0) at after (case_least (least_case cases) least.0 at after least.1 least.2)
 
     cases_wide : (cases : PlainCases) (env : Environment) (passed : Passed) (value : Option Tree) (at : ℕ) (late : List Bool) (after : ℕ) (late_after : List Bool)
-        → are_cases_shaped cases ≡ true → HasPlaces env → CaseSpells true known all cases env passed value at late after late_after → LeastAt cases at after
+        → are_cases_shaped cases ≡ true → HasPlaces env → CaseSpells plainly known all cases env passed value at late after late_after → LeastAt cases at after
     cases_wide no_cases env passed value at late after late_after shaped has it = absurd it
     cases_wide (case_and name row others) env passed value at late after late_after shaped has it =
         let test = both_true (is_own_name name) (are_shaped true row && are_cases_shaped others) shaped in
@@ -274,7 +274,7 @@ module _ (known : Facts) (all : List Bool) where
         (is_case name value) it
 
     pub body_wide : (in_case : Bool) (body : PlainBody) (env : Environment) (passed : Passed) (line : List Tree) (at : ℕ) (late : List Bool) (after : ℕ) (late_after : List Bool)
-        → are_shaped in_case body ≡ true → HasPlaces env → BodySpells true known all body env passed line at late after late_after → Wide (least_widths body) (fixed_widths body) at after
+        → are_shaped in_case body ≡ true → HasPlaces env → BodySpells plainly known all body env passed line at late after late_after → Wide (least_widths body) (fixed_widths body) at after
     body_wide in_case no_fields env passed line at late after late_after shaped has it = just_so 0 at after (let e = it.1 in omega (arith, e))
     body_wide in_case (field_and field fields) env passed line at late after late_after shaped has it =
         let test = both_true (is_shaped in_case field) (are_shaped in_case fields) shaped in

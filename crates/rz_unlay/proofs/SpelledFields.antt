@@ -14,7 +14,7 @@ use Rattle.rz_types_fields.specs.Row.{By}
 use Rattle.rz_types_fields.specs.RowLabels.{also_rows, label_places, row_of, RowOf}
 use Rattle.rz_types_fields.specs.Sees.{Late}
 use Rattle.rz_types_fields.specs.Shape.{are_cases_shaped, are_shaped, is_none_or, is_own_name, is_shaped}
-use Rattle.rz_types_fields.specs.Spells.{choice_of_tree, is_case, most_bits, put, BodySpells, CaseSpells, FieldSpells, Inside}
+use Rattle.rz_types_fields.specs.Spells.{choice_of_tree, is_case, most_bits, plainly, put, BodySpells, CaseSpells, FieldSpells, Inside}
 use Rattle.rz_types_fields.specs.Width.{case_keys}
 use Rattle.rz_types_fields.specs.declared.tree.Tree.{Tree}
 use Rattle.rz_types_fields.specs.declared.tree.Tree.TheVariants as trees
@@ -52,7 +52,7 @@ own_name name line = choice_name name name line ∙ (same_lower name.bytes name.
 record CaseCame (facts : Facts) (all : List Bool) (cases : PlainCases) (passed : Passed) (names : Environment) (at : ℕ) (late : Late) (step : Step) : Type 0 where
   same : names ≡ step.names
   differs : (name : Word) → AllByRecursion (λ later. str_eq_ignore_ascii_case name.bytes later.bytes ≡ false) (case_names cases) → is_case name step.value ≡ false
-  spells : (env : Environment) → IsPartOf names env → CaseSpells true facts all cases env passed step.value at late step.after step.late
+  spells : (env : Environment) → IsPartOf names env → CaseSpells plainly facts all cases env passed step.value at late step.after step.late
 
 module _ (tells : Tells) (facts : Facts) (all : List Bool) (short : length all ≤ most_bits) where
   -- where something is read: it is known which names are known, `true` and `false` among them, and the place is in the resource
@@ -64,7 +64,7 @@ module _ (tells : Tells) (facts : Facts) (all : List Bool) (short : length all �
   -- what is read of a body, with the places of its labels
   abbrev pub BodyRead : Passed → PlainBody → Environment → ℕ → Late → Found → Type 0
   BodyRead passed body names at late found =
-      Came (declares body) names found.names at late found.after found.late (λ env. BodySpells true facts all body env passed found.row) × PlacesAre found.names body found.places
+      Came (declares body) names found.names at late found.after found.late (λ env. BodySpells plainly facts all body env passed found.row) × PlacesAre found.names body found.places
 
   -- a body is read so, whatever stands before it
   abbrev pub BodyCame : Passed → PlainBody → Type 0
@@ -74,7 +74,7 @@ module _ (tells : Tells) (facts : Facts) (all : List Bool) (short : length all �
   -- what is read of a field
   abbrev FieldRead : PlainBody → Passed → PlainField → Environment → ℕ → Late → Step → Type 0
   FieldRead rest passed field names at late step =
-      CameNear all (field_and field rest) at (declares (field_and field rest)) names step.names at late step.after step.late (λ env. FieldSpells true facts all field env passed step.value)
+      CameNear all (field_and field rest) at (declares (field_and field rest)) names step.names at late step.after step.late (λ env. FieldSpells plainly facts all field env passed step.value)
       × Knows (is_held (behind field passed)) step.names
 
   -- passed: before the field, where the labels after it aren't near yet
@@ -167,8 +167,8 @@ module _ (tells : Tells) (facts : Facts) (all : List Bool) (short : length all �
             let inside = inside_came facts all row None (at_front row passed) names found.names env at late found.after found.late found.row
             (came (names_inside None row names) at late found (before_row true row None passed names at shaped before) (fresh_front None row names) it.1).0 part (λ label has. tt) in
             subst (λ (test : Bool). By test
-            ((line : List Tree) × (value ≡ Some (trees.Choice name line)) × Inside row None env (λ own. BodySpells true facts all row own (at_front row passed) line) at late found.after found.late)
-            (CaseSpells true facts all others env passed value at late found.after found.late))
+            ((line : List Tree) × (value ≡ Some (trees.Choice name line)) × Inside row None env (λ own. BodySpells plainly facts all row own (at_front row passed) line) at late found.after found.late)
+            (CaseSpells plainly facts all others env passed value at late found.after found.late))
             (sym (own_name name found.row)) (found.row, refl, inside);
       })
 
@@ -179,8 +179,8 @@ module _ (tells : Tells) (facts : Facts) (all : List Bool) (short : length all �
     differs = λ other all_differ. it.differs other all_differ.1;
     spells = λ env part.
         subst (λ (test : Bool). By test
-        ((line : List Tree) × (step.value ≡ Some (trees.Choice name line)) × Inside row None env (λ own. BodySpells true facts all row own (at_front row passed) line) at late step.after step.late)
-        (CaseSpells true facts all others env passed step.value at late step.after step.late))
+        ((line : List Tree) × (step.value ≡ Some (trees.Choice name line)) × Inside row None env (λ own. BodySpells plainly facts all row own (at_front row passed) line) at late step.after step.late)
+        (CaseSpells plainly facts all others env passed step.value at late step.after step.late))
         (sym (it.differs name differ)) (it.spells env part);
   }
 
@@ -244,14 +244,14 @@ module _ (tells : Tells) (facts : Facts) (all : List Bool) (short : length all �
       let stands = label_stands in_case field fields passed names at late step inner.names test.0 before first.1 behind_it.0.grows.kept in
       let names_same : inner.names ≡ found.names = ap (λ (f : Found). f.names) more.2 in
       subst (BodyRead passed (field_and field fields) names at late) more.2 (
-        then_came all (field_and field fields) at (declares (field_and field fields)) (λ env. FieldSpells true facts all field env here) (λ env. BodySpells true facts all fields env (behind field here))
+        then_came all (field_and field fields) at (declares (field_and field fields)) (λ env. FieldSpells plainly facts all field env here) (λ env. BodySpells plainly facts all fields env (behind field here))
             step.value inner.row names step.names inner.names at late step.after step.late inner.after inner.late
             (λ env part key place so.
             let it = near key place so in
             (part.give key _ (ap (λ (known : Environment). known.give key) names_same ∙ it.0), it.1))
             came.0
             (wide (declares fields) (declares (field_and field fields)) (λ key none. (neither (gives_key field key) (declares fields key) none).1)
-            step.names inner.names step.after step.late inner.after inner.late (λ env. BodySpells true facts all fields env (behind field here) inner.row) behind_it.0),
+            step.names inner.names step.after step.late inner.after inner.late (λ env. BodySpells plainly facts all fields env (behind field here) inner.row) behind_it.0),
         places_more inner.names field fields at inner.places stands behind_it.1,
       )
 

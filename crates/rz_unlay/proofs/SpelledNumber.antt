@@ -20,7 +20,7 @@ use Rattle.rz_types_fields.specs.Passed.{declares, is_held, is_known, is_near, t
 use Rattle.rz_types_fields.specs.Range.{fits_number}
 use Rattle.rz_types_fields.specs.Sees.{bits_before, is_late, sees, Late}
 use Rattle.rz_types_fields.specs.Solve.{can_solve, has_key, is_same_key, keys_in, solved_value, AreSolved, IsSolvedTo, SolvesBack}
-use Rattle.rz_types_fields.specs.Spells.{is_late_value, IsNumber}
+use Rattle.rz_types_fields.specs.Spells.{is_late_value, IsNumber, IsPlainNumber}
 use Rattle.rz_types_fields.specs.Stored.{stored_number}
 use Rattle.rz_types_fields.proofs.KeysIn.{each_key}
 use Rattle.rz_types_fields.proofs.SameNames.{key_is}
@@ -36,6 +36,9 @@ use Rattle.rz_unlay.proofs.SpelledNear.{absent_far, near_keeps, resource_place, 
 use Rattle.rz_unlay.proofs.Sees.{its_known, late_hidden, met_known, Covers}
 use Rattle.rz_unlay.proofs.Teller.{teller}
 use Rattle.rz_unlay.proofs.Told.{part_of_part, same_part}
+
+same_ok : (a b : ℤ) → ◌≡◌ {A = Result ℤ EvalFault} (Ok a) (Ok b) → a ≡ b
+same_ok a b is = cc
 
 -- Bits at a place.
 
@@ -273,7 +276,7 @@ module _ (read : (width number : ℕ) → number_of (number_bits width number) �
 
     abbrev Read : Option Term → Step → Type 0
     Read fixed step = PieceRead all (field_and field rest) first (declares rest) (told_by fixed passed) names at late
-        (λ env value bits. IsNumber true passed form width fixed (sees facts all env at) value bits) (λ env count. replicate count (is_late_value passed.met late fixed (sees facts all env at))) step
+        (λ env value bits. IsNumber form width fixed (sees facts all env at) value bits × IsPlainNumber passed width fixed (sees facts all env at)) (λ env count. replicate count (is_late_value passed.met late fixed (sees facts all env at))) step
 
     free_came : (n : ℕ) (step : Step) → Knows (is_held passed) names → NumberThere all at (nat_abs width) n
         → record { value = Some (trees.Number n); after = at + nat_abs width; names = names; late = late_behind late (nat_abs width) false } ≡ step → Read None step
@@ -284,7 +287,7 @@ module _ (read : (width number : ℕ) → number_of (number_bits width number) �
       ends = refl;
       grows = record { kept = same_part names; same = λ key none. refl };
       knows = knows;
-      stored = λ env part near_in. (n, refl, small_is all at (nat_abs width) n number, bits_are all at (nat_abs width) n number);
+      stored = λ env part near_in. ((n, refl, small_is all at (nat_abs width) n number, bits_are all at (nat_abs width) n number), tt);
       marked = λ env part near_in. ap (λ (count : ℕ). late ++ replicate count false) (sym number.stand.long);
     })
 
@@ -303,15 +306,18 @@ module _ (read : (width number : ℕ) → number_of (number_bits width number) �
             ends = refl;
             grows = told_grows facts all field rest first at (nat_abs width) passed term n names more near_is near knows solved reads;
             knows = told_knows facts all field rest first at (nat_abs width) passed term n names more near_is near knows solved it.value it.is;
-            stored = λ env part near_in. (
-              it.value,
-              refl,
-              value_grows facts (bits_before all at) (with_near own more) env (finished env part near_in) term it.value it.is,
-              it.fits,
-              bits_are all at (nat_abs width) n number ∙ ap (number_bits (nat_abs width)) (sym it.stored),
-              subst (SolvesBack (is_known passed) (nat_abs width) (sees facts all env at) term) (sym it.stored)
-                  (told_back facts all field rest first at (nat_abs width) passed term n names more near_is near knows solved it.value it.is env part near_in),
-            );
+            stored = λ env part near_in.
+                let valued = value_grows facts (bits_before all at) (with_near own more) env (finished env part near_in) term it.value it.is in (
+                  (
+                    it.value,
+                    refl,
+                    valued,
+                    it.fits,
+                    bits_are all at (nat_abs width) n number ∙ ap (number_bits (nat_abs width)) (sym it.stored),
+                  ),
+                  λ v is. subst (SolvesBack (is_known passed) (nat_abs width) (sees facts all env at) term) (sym it.stored ∙ ap (stored_number (nat_abs width)) (same_ok it.value v (sym valued ∙ is)))
+                      (told_back facts all field rest first at (nat_abs width) passed term n names more near_is near knows solved it.value it.is env part near_in),
+                );
             marked = λ env part near_in i. late ++ replicate (sym number.stand.long i) (same_late facts all field rest first at (nat_abs width) passed term n names more near_is near knows solved it.value it.is env part near_in passed.met late i);
           })
 

@@ -20,7 +20,7 @@ use Rattle.rz_types_fields.specs.Passed.{behind, behind_piece, behind_pieces, de
 use Rattle.rz_types_fields.specs.Piece.{fixed_integer, free_integer, integers, pieces_of, Filler, OneNumber, OneText, Piece, Place, Zeros}
 use Rattle.rz_types_fields.specs.Sees.{is_late, sees, Late}
 use Rattle.rz_types_fields.specs.Shape.{numbers_of}
-use Rattle.rz_types_fields.specs.Spells.{group_in, is_late_size, marks, most_bits, numbers_of_group, put, values_for, InOrder, IsGrouped, IsGroupedFor, IsStored, PieceSpells, PiecesSpell, RowSpells, Then}
+use Rattle.rz_types_fields.specs.Spells.{group_in, is_late_size, marks, most_bits, numbers_of_group, plainly, put, values_for, InOrder, IsGrouped, IsGroupedFor, IsStored, PieceSpells, PiecesSpell, RowSpells, Then}
 use Rattle.rz_types_fields.proofs.SameNames.{key_itself}
 use Rattle.rz_types.specs.Readable.{are_pieces_read, is_piece_read}
 use Rattle.rz_unlay.specs.Pieces.{field_of_pieces, first_of_row, grouped, number_of_value, numbers_of_values, piece_step, pieces_found, value_of_field, with_value, Found}
@@ -98,12 +98,12 @@ module _ (tells : Tells) (facts : Facts) (all : List Bool) (short : length all �
   -- what was read of a piece: so much is known after it
   abbrev CamePiece : Passed → Passed → Piece → Environment → ℕ → Late → Step → Type 0
   CamePiece passed behind piece names at late step =
-      CameNear all body first (declares body) names step.names at late step.after step.late (λ env. PieceSpells true facts all env passed piece step.value) × Knows (is_held behind) step.names
+      CameNear all body first (declares body) names step.names at late step.after step.late (λ env. PieceSpells plainly facts all env passed piece step.value) × Knows (is_held behind) step.names
 
   came_of : (piece : Piece) (passed behind : Passed) (names : Environment) (at : ℕ) (late : Late) (Is : Environment → Option Tree → List Bool → Type 0) (marking : Environment → ℕ → Late) (step : Step)
       → PieceRead all body first (declares rest) behind names at late Is marking step
       → ((env : Environment) (value : Option Tree) (bits : List Bool) → Is env value bits
-      → IsStored true passed piece facts at (sees facts all env at) value bits × (is_late_size passed.met late piece (sees facts all env at) ≡ false))
+      → IsStored piece facts at (sees facts all env at) value bits × plainly passed piece (sees facts all env at) value × (is_late_size passed.met late piece (sees facts all env at) ≡ false))
       → ((env : Environment) (count : ℕ) → marking env count ≡ marks passed.met late piece (sees facts all env at) count) → CamePiece passed behind piece names at late step
   came_of piece passed behind names at late Is marking step it stores marking_is =
       let ends = it.ends in
@@ -116,7 +116,8 @@ module _ (tells : Tells) (facts : Facts) (all : List Bool) (short : length all �
               record {
                 bits = it.bits;
                 stored = stored.0;
-                early = stored.1;
+                manner = stored.1;
+                early = stored.2;
                 there = ap (λ n. take n (drop at all)) it.stand.long ∙ it.stand.there;
                 ends = it.ends ∙ ap (λ n. at + n) (sym it.stand.long);
                 short = most;
@@ -131,24 +132,24 @@ module _ (tells : Tells) (facts : Facts) (all : List Bool) (short : length all �
   piece_came (OneNumber number) passed names at late step laid near_is reads knows is =
       came_of (OneNumber number) passed (behind_piece (OneNumber number) passed) names at late _ _ step
       (number_came tells.read tells.written facts all field rest first at late passed names number.form number.width near_is near knows number.fixed step reads is)
-      (λ env value bits it. (it, refl)) (λ env count. refl)
+      (λ env value bits it. (it.0, it.1, refl)) (λ env count. refl)
   piece_came (OneText text) passed names at late step laid near_is reads knows is =
       came_of (OneText text) passed passed names at late _ _ step
       (text_came (numbers.below tells.read tells.written) tells.bytes tells.read tells.written facts all field rest first at late passed names text step knows is)
       (λ env value bits it. it) (λ env count. refl)
   piece_came (Zeros count) passed names at late step laid near_is reads knows is =
       came_of (Zeros count) passed passed names at late _ _ step (zeros_came facts all field rest first at late passed names count step knows is)
-      (λ env value bits it. (it, refl)) (λ env many. refl)
+      (λ env value bits it. (it, tt, refl)) (λ env many. refl)
   piece_came (Filler unit) passed names at late step laid near_is reads knows is =
       came_of (Filler unit) passed passed names at late _ _ step (zeros_came facts all field rest first at late passed names (missing unit at) step knows is)
-      (λ env value bits it. (it, refl)) (λ env many. refl)
+      (λ env value bits it. (it, tt, refl)) (λ env many. refl)
   piece_came (Place name) passed names at late step laid near_is reads knows is = absurd laid
 
   -- Pieces in order.
 
   abbrev CamePieces : Passed → List Piece → Environment → ℕ → Late → Found → Type 0
   CamePieces passed pieces names at late found =
-      CameNear all body first (declares body) names found.names at late found.after found.late (λ env. InOrder (PieceSpells true facts all env) passed pieces found.row)
+      CameNear all body first (declares body) names found.names at late found.after found.late (λ env. InOrder (PieceSpells plainly facts all env) passed pieces found.row)
       × Knows (is_held (behind_pieces pieces passed)) found.names
 
   and_pieces : (piece : Piece) (pieces : List Piece) (passed : Passed) (names : Environment) (at : ℕ) (late : Late) (step : Step) (inner found : Found) → CamePiece passed (behind_piece piece passed) piece names at late step
@@ -193,7 +194,7 @@ module _ (tells : Tells) (facts : Facts) (all : List Bool) (short : length all �
   -- a field whose pieces have bits
   abbrev CameLaid : Passed → Environment → Late → Step → Type 0
   CameLaid passed names late step =
-      CameNear all body first (declares body) names step.names first late step.after step.late (λ env. PiecesSpell true facts all field env passed step.value) × Knows (is_held (behind_pieces (pieces_of field) passed)) step.names
+      CameNear all body first (declares body) names step.names first late step.after step.late (λ env. PiecesSpell plainly facts all field env passed step.value) × Knows (is_held (behind_pieces (pieces_of field) passed)) step.names
 
   with_pieces : (passed : Passed) (names : Environment) (late : Late) (found : Found) (step : Step) → Fits found.row → CamePieces passed (pieces_of field) names first late found
       → record { value = value_of_field field found.row; after = found.after; names = found.names; late = found.late } ≡ step → CameLaid passed names late step
@@ -202,7 +203,7 @@ module _ (tells : Tells) (facts : Facts) (all : List Bool) (short : length all �
       grows = came.0.grows;
       spells = λ env part near_in. (
         fit.0,
-        subst (λ (row : List Tree). InOrder (PieceSpells true facts all env) passed (pieces_of field) row first late found.after found.late) (sym fit.1) (came.0.spells env part near_in),
+        subst (λ (row : List Tree). InOrder (PieceSpells plainly facts all env) passed (pieces_of field) row first late found.after found.late) (sym fit.1) (came.0.spells env part near_in),
       );
     },
     came.1,
@@ -322,7 +323,7 @@ IsOfPieces (Switch cases) = ⊥
 module _ (tells : Tells) (facts : Facts) (all : List Bool) (short : length all ≤ most_bits) (outermost : Bool) where
   abbrev CameField : PlainField → PlainBody → Passed → Environment → ℕ → Late → Step → Type 0
   CameField field rest passed names at late step =
-      CameNear all (field_and field rest) at (declares (field_and field rest)) names step.names at late step.after step.late (λ env. PiecesSpell true facts all field env passed step.value)
+      CameNear all (field_and field rest) at (declares (field_and field rest)) names step.names at late step.after step.late (λ env. PiecesSpell plainly facts all field env passed step.value)
       × Knows (is_held (behind field passed)) step.names
 
   label_came : (name : Word) (rest : PlainBody) (passed : Passed) (names : Environment) (at : ℕ) (late : Late) (step : Step) → at ≤ length all → Knows (is_held passed) names
@@ -331,10 +332,11 @@ module _ (tells : Tells) (facts : Facts) (all : List Bool) (short : length all �
       let it = label_found at late (claim (place_key name.bytes) (pos at) names) step is in
       by it.0 it.1 it.2
     where
-      spelled : (more : Environment) → more.give (place_key name.bytes) ≡ Some (pos at) → (env : Environment) → IsPartOf more env → PieceSpells true facts all env passed (Place name) None at late at late
+      spelled : (more : Environment) → more.give (place_key name.bytes) ≡ Some (pos at) → (env : Environment) → IsPartOf more env → PieceSpells plainly facts all env passed (Place name) None at late at late
       spelled more has env part = record {
         bits = [];
         stored = (refl, part.give (place_key name.bytes) (pos at) has, refl);
+        manner = tt;
         early = refl;
         there = refl;
         ends = omega arith;

@@ -11,7 +11,7 @@ use Rattle.rz_types_fields.specs.Front.{names_inside, stated_in, stated_value}
 use Rattle.rz_types_fields.specs.Passed.{at_front, behind, declares, gives_count, gives_key, gives_rows, has_label, is_held, is_label, states, states_count, Passed}
 use Rattle.rz_types_fields.specs.RowLabels.{also_rows, is_row, label_index, labels_count, row_number, row_of, row_value, RowOf}
 use Rattle.rz_types_fields.specs.Sees.{Late}
-use Rattle.rz_types_fields.specs.Spells.{AreRows, BodySpells, HasPlace, Inside, IsCounted, RowSpells, RowsSpell, Within}
+use Rattle.rz_types_fields.specs.Spells.{plainly, AreRows, BodySpells, HasPlace, Inside, IsCounted, RowSpells, RowsSpell, Within}
 use Rattle.rz_types_fields.specs.declared.tree.Tree.{Tree}
 use Rattle.rz_types_fields.proofs.RowKeys.{row_keys}
 use Rattle.rz_types_fields.proofs.RowPlaces.{get_behind, get_front, index_short, place_there, places_length, PlacesAre}
@@ -231,8 +231,8 @@ module _ (row : PlainBody) (which : Option RowOf) (names found env : Environment
   }
 
 pub inside_came : (facts : Facts) (all : List Bool) (row : PlainBody) (which : Option RowOf) (passed : Passed) (names found env : Environment) (at : ℕ) (late : Late) (after : ℕ) (late_after : Late) (line : List Tree)
-    → Came (declares row) (names_inside which row names) found at late after late_after (λ own. BodySpells true facts all row own passed line)
-    → IsPartOf names env → ((label : List ℕ) → has_label row label ≡ true → HasPlace which label env found) → Inside row which env (λ own. BodySpells true facts all row own passed line) at late after late_after
+    → Came (declares row) (names_inside which row names) found at late after late_after (λ own. BodySpells plainly facts all row own passed line)
+    → IsPartOf names env → ((label : List ℕ) → has_label row label ≡ true → HasPlace which label env found) → Inside row which env (λ own. BodySpells plainly facts all row own passed line) at late after late_after
 inside_came facts all row which passed names found env at late after late_after line came part places =
     let own = own_names which row found env in
     (own, own_within row which names found env came.grows part places, came.spells own (own_part row which names found env came.grows part))
@@ -244,10 +244,10 @@ pub record RowRead (facts : Facts) (all : List Bool) (name : Option Word) (row :
   pub long : length line.places ≡ labels_count row
   pub spells : (env : Environment) → IsPartOf names env
       → ((label : List ℕ) (place : ℤ) → has_label row label ≡ true → slice_get line.places (label_index row label) ≡ Some place → env.give (place_in label (pos number)) ≡ Some place)
-      → Inside row (row_of name number) env (λ own. BodySpells true facts all row own passed line.row) at late line.after line.late
+      → Inside row (row_of name number) env (λ own. BodySpells plainly facts all row own passed line.row) at late line.after line.late
 
 pub row_read : (facts : Facts) (all : List Bool) (name : Option Word) (row : PlainBody) (passed : Passed) (names found : Environment) (number at : ℕ) (late : Late) (line : Line) → PlacesAre found row line.places
-    → Came (declares row) (names_inside (row_of name number) row names) found at late line.after line.late (λ own. BodySpells true facts all row own passed line.row)
+    → Came (declares row) (names_inside (row_of name number) row names) found at late line.after line.late (λ own. BodySpells plainly facts all row own passed line.row)
     → RowRead facts all name row passed names number line at late
 row_read facts all name row passed names found number at late line are came = record {
   long = places_length found row line.places are;
@@ -259,7 +259,7 @@ row_read facts all name row passed names found number at late line are came = re
 module _ (facts : Facts) (all : List Bool) (name : Option Word) (row : PlainBody) (passed : Passed) (names env : Environment) (part : IsPartOf names env) (count : ℕ) (whole : List ℤ)
     (given : (label : List ℕ) (n : ℕ) (place : ℤ) → has_label row label ≡ true → n < count → slice_get whole (n * labels_count row + label_index row label) ≡ Some place → env.give (place_in label (pos (suc n))) ≡ Some place) where
   abbrev Spelt : ℕ → List (List Tree) → RowSpells
-  Spelt number rows = RowsSpell (λ number line. Inside row (row_of name number) env (λ own. BodySpells true facts all row own passed line)) number rows
+  Spelt number rows = RowsSpell (λ number line. Inside row (row_of name number) env (λ own. BodySpells plainly facts all row own passed line)) number rows
 
   -- the places of the labels in rows that were read are in a whole: each row is spelled so
   rows_on : (n number : ℕ) (rows : List (List Tree)) (places : List ℤ) (at : ℕ) (late : Late) (after : ℕ) (late_after : Late) → number ≡ suc n → n + length rows ≡ count
@@ -284,7 +284,7 @@ module _ (facts : Facts) (all : List Bool) (name : Option Word) (row : PlainBody
       (λ m. ap (slice_get whole) (shift n k m) ∙ stand (k + m) ∙ ap (λ (ps : List ℤ). slice_get ps (k + m)) it.3 ∙ get_behind line.places others m (k + m) (let same = long in omega (arith, same))) in (
         line.after,
         line.late,
-        subst (λ (r : List Tree). Inside row (row_of name number) env (λ own. BodySpells true facts all row own passed r) at late line.after line.late) it.2 (own.spells env part place_is),
+        subst (λ (r : List Tree). Inside row (row_of name number) env (λ own. BodySpells plainly facts all row own passed r) at late line.after line.late) it.2 (own.spells env part place_is),
         rows_on (suc n) (number + 1) rows others line.after line.late after late_after (omega (arith, is)) (omega (arith, full)) next it.5,
       )
     where
@@ -295,7 +295,7 @@ module _ (facts : Facts) (all : List Bool) (name : Option Word) (row : PlainBody
 pub rows_spelled : (facts : Facts) (all : List Bool) (name : Option Word) (row : PlainBody) (passed : Passed) (names more env : Environment) (rows : List (List Tree)) (places : List ℤ) (at : ℕ) (late : Late) (after : ℕ)
     (late_after : Late) → IsPartOf names env → IsPartOf (also_rows row (length rows) places more) env
     → LinesRead (λ number line at late. RowRead facts all name row passed names number line at late) 1 rows places at late after late_after
-    → RowsSpell (λ number line. Inside row (row_of name number) env (λ own. BodySpells true facts all row own passed line)) 1 rows at late after late_after
+    → RowsSpell (λ number line. Inside row (row_of name number) env (λ own. BodySpells plainly facts all row own passed line)) 1 rows at late after late_after
 rows_spelled facts all name row passed names more env rows places at late after late_after part behind it =
     rows_on facts all name row passed names env part (length rows) places given 0 1 rows places at late after late_after (omega (arith)) (omega (arith)) (λ m. ap (slice_get places) (none m (labels_count row))) it
   where

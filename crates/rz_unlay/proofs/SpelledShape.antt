@@ -13,7 +13,7 @@ use Rattle.rz_types_fields.specs.declared.tree.Tree.{out-Tree, Tree}
 use Rattle.rz_types_fields.specs.declared.tree.Tree.TheVariants as trees
 use Rattle.rz_types_fields.specs.Row.{By, IsChoice, IsFront, IsRow, IsValue}
 use Rattle.rz_types_fields.specs.Sees.{sees, Late}
-use Rattle.rz_types_fields.specs.Spells.{group_in, is_case, numbers_of_group, put, AreBytes, BodySpells, CaseSpells, FieldSpells, Inside, InOrder, IsGrouped, IsNumber, IsStored, IsText, PieceSpells, RowsSpell, RowSpells, Spells}
+use Rattle.rz_types_fields.specs.Spells.{group_in, is_case, numbers_of_group, put, AreBytes, BodySpells, CaseSpells, FieldSpells, InOrder, Inside, IsGrouped, IsNumber, IsStored, IsText, Manner, PieceSpells, RowSpells, RowsSpell, Spelling}
 use Rattle.rz_types_fields.specs.RowLabels.{row_of}
 use Rattle.rz_types.specs.Field.{case_and, field_and, no_cases, no_fields, takes_value, Align, Array, Fill, Label, Number, PlainBody, PlainCases, PlainField, PlainPoints, PlainText, Points, Switch, Text}
 use Rattle.rz_types.specs.Shape.{numbers_of}
@@ -42,17 +42,17 @@ one_value value other rest is none = by value other (is ∙ ap (put other) none)
 
 -- Values of pieces.
 
-number_takes : (plain : Bool) (passed : Passed) (form : NumForm) (width : ℤ) (fixed : Option Term) (sight : Sight) (value : Option Tree) (bits : List Bool)
-    → IsNumber plain passed form width fixed sight value bits → Takes (is_none fixed) (λ v. (n : ℕ) × (v ≡ trees.Number n) × (n < 2 ^ nat_abs width)) value
-number_takes plain passed form width None sight value bits it = (trees.Number it.0, (it.0, refl, it.2), it.1)
-number_takes plain passed form width (Some term) sight value bits it = it.1
+number_takes : (form : NumForm) (width : ℤ) (fixed : Option Term) (sight : Sight) (value : Option Tree) (bits : List Bool)
+    → IsNumber form width fixed sight value bits → Takes (is_none fixed) (λ v. (n : ℕ) × (v ≡ trees.Number n) × (n < 2 ^ nat_abs width)) value
+number_takes form width None sight value bits it = (trees.Number it.0, (it.0, refl, it.2), it.1)
+number_takes form width (Some term) sight value bits it = it.1
 
-text_takes : (plain : Bool) (text : PlainText) (known : Facts) (sight : Sight) (value : Option Tree) (bits : List Bool) → IsText plain text known sight value bits
+text_takes : (text : PlainText) (known : Facts) (sight : Sight) (value : Option Tree) (bits : List Bool) → IsText text known sight value bits
     → Takes (is_none text.fixed) (λ v. (bytes : List ℕ) × (v ≡ trees.Text bytes)) value
-text_takes plain text known sight value bits it = by text.fixed it.are_bytes
+text_takes text known sight value bits it = by text.fixed it.are_bytes
   where
-    by : (fixed : Option (List PlainPart)) → AreBytes plain text.form known sight fixed it.size value it.bytes → Takes (is_none fixed) (λ v. (bytes : List ℕ) × (v ≡ trees.Text bytes)) value
-    by None are = (trees.Text it.bytes, (it.bytes, refl), are.0)
+    by : (fixed : Option (List PlainPart)) → AreBytes known sight fixed value it.bytes → Takes (is_none fixed) (λ v. (bytes : List ℕ) × (v ≡ trees.Text bytes)) value
+    by None are = (trees.Text it.bytes, (it.bytes, refl), are)
     by (Some parts) are = are.0
 
 -- Numbers of points.
@@ -71,14 +71,14 @@ same_number m n values others is = sym (ap number_of_value (trees.outs-Number m)
 nothing_is : (value : Tree) (values : List Tree) → [] ≡ value ∷ values → ⊥
 nothing_is value values is = cc
 
-module _ (plain : Bool) (facts : Facts) (all : List Bool) where
+module _ (how : Manner) (facts : Facts) (all : List Bool) where
   abbrev InPieces : Environment → Passed → List Piece → List Tree → RowSpells
-  InPieces env passed pieces values = InOrder (PieceSpells plain facts all env) passed pieces values
+  InPieces env passed pieces values = InOrder (PieceSpells how facts all env) passed pieces values
 
   single : (piece : Piece) (env : Environment) (passed : Passed) (value : Option Tree) (at : ℕ) (late : Late) (after : ℕ) (late_after : Late)
-      → InPieces env passed (piece ∷ []) (option_to_list value) at late after late_after → (bits : List Bool) × IsStored plain passed piece facts at (sees facts all env at) value bits
+      → InPieces env passed (piece ∷ []) (option_to_list value) at late after late_after → (bits : List Bool) × IsStored piece facts at (sees facts all env at) value bits
   single piece env passed value at late after late_after it =
-      (it.5.bits, subst (λ (v : Option Tree). IsStored plain passed piece facts at (sees facts all env at) v it.5.bits) (sym (one_value value it.0 it.1 it.4 it.6.0)) it.5.stored)
+      (it.5.bits, subst (λ (v : Option Tree). IsStored piece facts at (sees facts all env at) v it.5.bits) (sym (one_value value it.0 it.1 it.4 it.6.0)) it.5.stored)
 
   numbers_are : (count : ℕ) (env : Environment) (passed : Passed) (numbers : List ℕ) (row : List Tree) (at : ℕ) (late : Late) (after : ℕ) (late_after : Late) → map trees.Number numbers ≡ row
       → InPieces env passed (replicate count free_integer) row at late after late_after → (length numbers ≡ count) × AllByRecursion (λ n. n < 65536) numbers
@@ -105,14 +105,14 @@ module _ (plain : Bool) (facts : Facts) (all : List Bool) where
 
   abbrev BodyIs : PlainBody → Type 0
   BodyIs body = (env : Environment) (passed : Passed) (values : List Tree) (at : ℕ) (late : Late) (after : ℕ) (late_after : Late)
-      → BodySpells plain facts all body env passed values at late after late_after → IsRow body values
+      → BodySpells how facts all body env passed values at late after late_after → IsRow body values
 
   abbrev CasesAre : PlainCases → Type 0
   CasesAre cases = (env : Environment) (passed : Passed) (value : Option Tree) (at : ℕ) (late : Late) (after : ℕ) (late_after : Late)
-      → CaseSpells plain facts all cases env passed value at late after late_after → Takes true (IsChoice cases) value
+      → CaseSpells how facts all cases env passed value at late after late_after → Takes true (IsChoice cases) value
 
   rows_are : (name : Option Word) (row : PlainBody) → BodyIs row → (env : Environment) (passed : Passed) (rows : List (List Tree)) (number at : ℕ) (late : Late) (after : ℕ) (late_after : Late)
-      → RowsSpell (λ number line. Inside row (row_of name number) env (λ own. BodySpells plain facts all row own passed line)) number rows at late after late_after → AllByRecursion (IsRow row) rows
+      → RowsSpell (λ number line. Inside row (row_of name number) env (λ own. BodySpells how facts all row own passed line)) number rows at late after late_after → AllByRecursion (IsRow row) rows
   rows_are name row one env passed [] number at late after late_after it = tt
   rows_are name row one env passed (line ∷ rows) number at late after late_after it =
       (one it.2.0 passed line at late it.0 it.1 it.2.2, rows_are name row one env passed rows (number + 1) it.0 it.1 after late_after it.3)
@@ -121,19 +121,19 @@ module _ (plain : Bool) (facts : Facts) (all : List Bool) where
   case_is name row others one more env passed value at late after late_after = by (is_case name value)
     where
       by : (test : Bool) → By test
-          ((line : List Tree) × (value ≡ Some (trees.Choice name line)) × Inside row None env (λ own. BodySpells plain facts all row own (at_front row passed) line) at late after late_after)
-          (CaseSpells plain facts all others env passed value at late after late_after) → Takes true (IsChoice (case_and name row others)) value
+          ((line : List Tree) × (value ≡ Some (trees.Choice name line)) × Inside row None env (λ own. BodySpells how facts all row own (at_front row passed) line) at late after late_after)
+          (CaseSpells how facts all others env passed value at late after late_after) → Takes true (IsChoice (case_and name row others)) value
       by true it = (trees.Choice name it.0, inl (it.0, refl, one it.2.0 (at_front row passed) it.0 at late after late_after it.2.2), it.1)
       by false it = let inner = more env passed value at late after late_after it in (inner.0, inr inner.1, inner.2)
 
   mutual
     field_takes : (field : PlainField) (env : Environment) (passed : Passed) (value : Option Tree) (at : ℕ) (late : Late) (after : ℕ) (late_after : Late)
-        → FieldSpells plain facts all field env passed value at late after late_after → Takes (takes_value field) (IsValue field) value
+        → FieldSpells how facts all field env passed value at late after late_after → Takes (takes_value field) (IsValue field) value
     field_takes (Number number) env passed value at late after late_after it =
         let one = single (OneNumber number) env passed value at late after late_after it.1 in
-        number_takes plain passed number.form number.width number.fixed (sees facts all env at) value one.0 one.1
+        number_takes number.form number.width number.fixed (sees facts all env at) value one.0 one.1
     field_takes (Text text) env passed value at late after late_after it =
-        let one = single (OneText text) env passed value at late after late_after it.1 in text_takes plain text facts (sees facts all env at) value one.0 one.1
+        let one = single (OneText text) env passed value at late after late_after it.1 in text_takes text facts (sees facts all env at) value one.0 one.1
     field_takes (Points points) env passed value at late after late_after it = points_take points points.fixed env passed value at late after late_after it.0 it.1
     field_takes (Fill unit count) env passed value at late after late_after it = (single (Zeros (unit * nat_abs count)) env passed value at late after late_after it.1).1.0
     field_takes (Align unit) env passed value at late after late_after it = (single (Filler unit) env passed value at late after late_after it.1).1.0
@@ -154,5 +154,5 @@ module _ (plain : Bool) (facts : Facts) (all : List Bool) where
       body_is fields env (behind field (at_field (field_and field fields) passed)) it.1 it.2 it.3 after late_after it.6,
     )
 
-pub spelled_is_row : (plain : Bool) (facts : Facts) (body : PlainBody) (row : List Tree) (bytes : List ℕ) → Spells plain facts body row bytes → IsRow body row
-spelled_is_row plain facts body row bytes it = body_is plain facts (bits_of bytes) body it.names (at_front body nothing_passed) row 0 [] it.end it.late it.fields
+pub spelled_is_row : (how : Manner) (facts : Facts) (body : PlainBody) (row : List Tree) (bytes : List ℕ) → Spelling how facts body row bytes → IsRow body row
+spelled_is_row how facts body row bytes it = body_is how facts (bits_of bytes) body it.names (at_front body nothing_passed) row 0 [] it.end it.late it.fields

@@ -9,7 +9,7 @@ use Rattle.rz_types_fields.specs.declared.tree.Tree.{Tree}
 use Rattle.rz_types_fields.specs.declared.tree.Tree.TheVariants as trees
 use Rattle.rz_types_fields.specs.Row.{By}
 use Rattle.rz_types_fields.specs.Sees.{Late}
-use Rattle.rz_types_fields.specs.Spells.{is_case, most_bits, values_for, BodySpells, CaseSpells, FieldSpells, Inside, InOrder, PieceSpells, RowsSpell, Spells}
+use Rattle.rz_types_fields.specs.Spells.{is_case, most_bits, values_for, BodySpells, CaseSpells, FieldSpells, InOrder, Inside, Manner, PieceSpells, RowsSpell, Spelling}
 use Rattle.rz_types_fields.specs.RowLabels.{row_of}
 use Rattle.rz_types.specs.Field.{case_and, field_and, no_cases, no_fields, Align, Array, Fill, Label, Number, PlainBody, PlainCases, PlainField, Points, Switch, Text}
 use Rattle.rz_types.specs.Passed.{at_field, at_front, behind, behind_piece, nothing_passed, Passed}
@@ -17,23 +17,23 @@ use Rattle.rz_types.specs.Piece.{pieces_of, Piece}
 use Rattle.rz_unlay.proofs.ReadsBits.{length_bits}
 use Rattle.rz_unlay.proofs.ReadsFields.{left_few}
 
-module _ (plain : Bool) (facts : Facts) (all : List Bool) where
+module _ (how : Manner) (facts : Facts) (all : List Bool) where
   pieces_short : (pieces : List Piece) (env : Environment) (passed : Passed) (values : List Tree) (at : ℕ) (late : Late) (after : ℕ) (late_after : Late) → at ≤ most_bits
-      → InOrder (PieceSpells plain facts all env) passed pieces values at late after late_after → after ≤ most_bits
+      → InOrder (PieceSpells how facts all env) passed pieces values at late after late_after → after ≤ most_bits
   pieces_short [] env passed values at late after late_after few it = subst (λ n. n ≤ most_bits) (sym it.1) few
   pieces_short (piece ∷ pieces) env passed values at late after late_after few it =
       pieces_short pieces env (behind_piece piece passed) it.1 it.2 it.3 after late_after it.5.short it.6
 
   abbrev BodyShort : PlainBody → Type 0
   BodyShort body = (env : Environment) (passed : Passed) (values : List Tree) (at : ℕ) (late : Late) (after : ℕ) (late_after : Late) → at ≤ most_bits
-      → BodySpells plain facts all body env passed values at late after late_after → after ≤ most_bits
+      → BodySpells how facts all body env passed values at late after late_after → after ≤ most_bits
 
   abbrev CasesShort : PlainCases → Type 0
   CasesShort cases = (env : Environment) (passed : Passed) (value : Option Tree) (at : ℕ) (late : Late) (after : ℕ) (late_after : Late) → at ≤ most_bits
-      → CaseSpells plain facts all cases env passed value at late after late_after → after ≤ most_bits
+      → CaseSpells how facts all cases env passed value at late after late_after → after ≤ most_bits
 
   rows_short : (name : Option Word) (row : PlainBody) → BodyShort row → (env : Environment) (passed : Passed) (rows : List (List Tree)) (number at : ℕ) (late : Late) (after : ℕ) (late_after : Late) → at ≤ most_bits
-      → RowsSpell (λ number line. Inside row (row_of name number) env (λ own. BodySpells plain facts all row own passed line)) number rows at late after late_after → after ≤ most_bits
+      → RowsSpell (λ number line. Inside row (row_of name number) env (λ own. BodySpells how facts all row own passed line)) number rows at late after late_after → after ≤ most_bits
   rows_short name row one env passed [] number at late after late_after few it = subst (λ n. n ≤ most_bits) (sym it.0) few
   rows_short name row one env passed (line ∷ rows) number at late after late_after few it =
       rows_short name row one env passed rows (number + 1) it.0 it.1 after late_after (one it.2.0 passed line at late it.0 it.1 few it.2.2) it.3
@@ -42,14 +42,14 @@ module _ (plain : Bool) (facts : Facts) (all : List Bool) where
   case_short name row others one more env passed value at late after late_after few = by (is_case name value)
     where
       by : (test : Bool) → By test
-          ((line : List Tree) × (value ≡ Some (trees.Choice name line)) × Inside row None env (λ own. BodySpells plain facts all row own (at_front row passed) line) at late after late_after)
-          (CaseSpells plain facts all others env passed value at late after late_after) → after ≤ most_bits
+          ((line : List Tree) × (value ≡ Some (trees.Choice name line)) × Inside row None env (λ own. BodySpells how facts all row own (at_front row passed) line) at late after late_after)
+          (CaseSpells how facts all others env passed value at late after late_after) → after ≤ most_bits
       by true it = one it.2.0 (at_front row passed) it.0 at late after late_after few it.2.2
       by false it = more env passed value at late after late_after few it
 
   mutual
     field_short : (field : PlainField) (env : Environment) (passed : Passed) (value : Option Tree) (at : ℕ) (late : Late) (after : ℕ) (late_after : Late) → at ≤ most_bits
-        → FieldSpells plain facts all field env passed value at late after late_after → after ≤ most_bits
+        → FieldSpells how facts all field env passed value at late after late_after → after ≤ most_bits
     field_short (Number number) env passed value at late after late_after few it =
         pieces_short (pieces_of (Number number)) env passed (values_for (Number number) value) at late after late_after few it.1
     field_short (Text text) env passed value at late after late_after few it =
@@ -76,10 +76,10 @@ module _ (plain : Bool) (facts : Facts) (all : List Bool) where
     body_short (field_and field fields) env passed values at late after late_after few it =
         body_short fields env (behind field (at_field (field_and field fields) passed)) it.1 it.2 it.3 after late_after (field_short field env (at_field (field_and field fields) passed) it.0 at late it.2 it.3 few it.5) it.6
 
-pub spelled_is_short : ((unit place : ℕ) → 0 < unit → missing unit place < unit) → (plain : Bool) (facts : Facts) (body : PlainBody) (row : List Tree) (bytes : List ℕ)
-    → Spells plain facts body row bytes → length bytes ≤ 16777212
-spelled_is_short fewer plain facts body row bytes it =
+pub spelled_is_short : ((unit place : ℕ) → 0 < unit → missing unit place < unit) → (how : Manner) (facts : Facts) (body : PlainBody) (row : List Tree) (bytes : List ℕ)
+    → Spelling how facts body row bytes → length bytes ≤ 16777212
+spelled_is_short fewer how facts body row bytes it =
     let long = length_bits bytes in
-    let end : it.end ≤ 134217696 = body_short plain facts (bits_of bytes) body it.names (at_front body nothing_passed) row 0 [] it.end it.late (omega (arith)) it.fields in
+    let end : it.end ≤ 134217696 = body_short how facts (bits_of bytes) body it.names (at_front body nothing_passed) row 0 [] it.end it.late (omega (arith)) it.fields in
     let near = left_few fewer (bits_of bytes) it.end it.within it.filled in
     omega (arith, long, end, near)

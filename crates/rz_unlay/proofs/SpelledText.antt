@@ -25,7 +25,8 @@ use Rattle.rz_types_fields.specs.Passed.{declares, is_held, Names, Passed}
 use Rattle.rz_types_fields.specs.Piece.{terms_of_text}
 use Rattle.rz_types_fields.specs.Range.{may_be_size}
 use Rattle.rz_types_fields.specs.Sees.{beside, bits_before, hit, is_late, names_later, sees, Late}
-use Rattle.rz_types_fields.specs.Spells.{is_one_late, nowhere, AreBytes, IsPlainText, IsSize, IsText}
+use Rattle.rz_types_fields.specs.Laid.{text_in, text_of_tree}
+use Rattle.rz_types_fields.specs.Spells.{is_one_late, nowhere, AreBytes, IsPlainText, IsPlainValue, IsSize, IsText}
 use Rattle.rz_types_fields.specs.Stored.{is_too_long, stored_text}
 use Rattle.rz_types_fields.specs.Text.{bytes_seen, text_terms, PlainPart}
 use Rattle.rz_types_fields.specs.Value.{see}
@@ -248,9 +249,22 @@ fixed_is (Ok bytes) found is =
     let same = some_same (None, map (λ byte. byte % 256) bytes) found is in
     (bytes, sym (ap (λ (f : Option Tree × List ℕ). f.0) same), refl, sym (ap (λ (f : Option Tree × List ℕ). f.1) same))
 
+-- texts that are one have the same bytes
+same_text : (one other : List ℕ) → ◌≡◌ {A = Option Tree} (Some (trees.Text one)) (Some (trees.Text other)) → one ≡ other
+same_text one other is = sym (ap text_of_tree (trees.outs-Text one)) ∙ ap text_in is ∙ ap text_of_tree (trees.outs-Text other)
+
+-- a text has one size
+one_size : (form : TextForm) (sight : Sight) (term : Option Term) (a b : Option ℕ) → IsSize form sight term a → IsSize form sight term b → a ≡ b
+one_size form sight None a b one other = one ∙ sym other
+one_size form sight (Some term) a b one other = one.3 ∙ ap (λ (n : ℕ). Some n) (same_size one.0 other.0 (sym one.1 ∙ other.1)) ∙ sym other.3
+  where
+    same_size : (m n : ℕ) → ◌≡◌ {A = Result ℤ EvalFault} (Ok (pos m)) (Ok (pos n)) → m ≡ n
+    same_size m n is = cc
+
 record BytesCame (form : TextForm) (facts : Facts) (sight : Sight) (fixed : Option (List PlainPart)) (size : Option ℕ) (found : Option Tree × List ℕ) : Type 0 where
   bytes : List ℕ
-  are : AreBytes true form facts sight fixed size found.0 bytes
+  are : AreBytes facts sight fixed found.0 bytes
+  plain : (own : List ℕ) → found.0 ≡ Some (trees.Text own) → IsPlainText form size own
   long : length bytes ≡ length found.1
   same : bits_of (stored_text form size bytes) ≡ bits_of (stored_text form size found.1)
 
@@ -300,12 +314,19 @@ module _ (read : (width number : ℕ) → number_of (number_bits width number) �
       → (env : Environment) → IsPartOf (with_near here names) env → BytesCame form facts (sees facts all env at) fixed size found
   bytes_came form size None count raw found small so long is env part =
       subst (BytesCame form facts (sees facts all env at) None size) (some_same (Some (trees.Text (plain_text form size raw)), plain_text form size raw) found is)
-      (record { bytes = plain_text form size raw; are = (refl, plain_is form size raw small (sized_is all (room here names at) form size at count raw so long)); long = refl; same = refl })
+      (record {
+        bytes = plain_text form size raw;
+        are = refl;
+        plain = λ own is. subst (IsPlainText form size) (same_text (plain_text form size raw) own is) (plain_is form size raw small (sized_is all (room here names at) form size at count raw so long));
+        long = refl;
+        same = refl;
+      })
   bytes_came form size (Some parts) count raw found small so long is env part =
       let it = fixed_is (bytes_seen nowhere facts seen parts) found is in
       record {
         bytes = it.0;
         are = (it.1, bytes_kept nowhere facts seen (sees facts all env at) parts (terms_grow facts (bits_before all at) (with_near here names) env part (text_terms parts)) it.0 it.2);
+        plain = λ own is. absurd (none_is (trees.Text own) (sym it.1 ∙ is));
         long = sym (length-map it.0 (λ byte. byte % 256)) ∙ sym (ap length it.3);
         same = stored_bits read numbers it.0 form size ∙ ap (λ (bs : List ℕ). bits_of (stored_text form size bs)) (sym it.3);
       }
@@ -358,7 +379,7 @@ module _ (below : (bits : List Bool) → number_of bits < 2 ^ length bits) (writ
 
     abbrev Read : Step → Type 0
     Read step = PieceRead all (field_and field rest) first (declares rest) passed names at late
-        (λ env value bits. IsText true text facts (sees facts all env at) value bits × (is_one_late passed.met late (terms_of_text text) (sees facts all env at) ≡ false)) (λ env count. replicate count false) step
+        (λ env value bits. IsText text facts (sees facts all env at) value bits × IsPlainValue text (sees facts all env at) value × (is_one_late passed.met late (terms_of_text text) (sees facts all env at) ≡ false)) (λ env count. replicate count false) step
 
     abbrev seen_here : Sight
     seen_here = seen_at own names at
@@ -380,15 +401,17 @@ module _ (below : (bits : List Bool) → number_of bits < 2 ^ length bits) (writ
           grows = record { kept = same_part names; same = λ key none. refl };
           knows = knows;
           stored = λ env part near_in.
-              let bytes = bytes_came read numbers facts all field rest first at passed.met names text.form size text.fixed count raw found it.small counted it.long is env (finished env part near_in) in (
+              let bytes = bytes_came read numbers facts all field rest first at passed.met names text.form size text.fixed count raw found it.small counted it.long is env (finished env part near_in) in
+              let has_size = size_came facts (bits_before all at) (with_near own names) env (finished env part near_in) text.form text.size size sized in (
                 record {
                   size = size;
-                  has_size = size_came facts (bits_before all at) (with_near own names) env (finished env part near_in) text.form text.size size sized;
+                  has_size = has_size;
                   bytes = bytes.bytes;
                   are_bytes = bytes.are;
                   short = ap (is_too_long text.form size) bytes.long ∙ not_long text.form size raw found.1 it.small stored;
                   are_bits = it.are ∙ ap bits_of (sym stored) ∙ sym bytes.same;
                 },
+                λ other own sized_too is_text. subst (λ (o : Option ℕ). IsPlainText text.form o own) (one_size text.form (sees facts all env at) text.size size other has_size sized_too) (bytes.plain own is_text),
                 all_early facts (bits_before all at) (with_near own names) env (finished env part near_in) passed.met late (terms_of_text text) early,
               );
           marked = λ env part near_in. ap (λ (many : ℕ). late ++ replicate many false) (sym it.stand.long);

@@ -12,7 +12,7 @@ use Rattle.rz_types_fields.specs.Field.{PlainBody}
 use Rattle.rz_types_fields.specs.Front.{names_inside, stated_in}
 use Rattle.rz_types_fields.specs.Passed.{at_front, declares, is_held, nothing_passed, outside, Passed}
 use Rattle.rz_types_fields.specs.Shape.{are_shaped}
-use Rattle.rz_types_fields.specs.Spells.{most_bits, values_in, Spells}
+use Rattle.rz_types_fields.specs.Spells.{most_bits, values_in, SpellsPlainly}
 use Rattle.rz_types_fields.specs.declared.tree.Tree.{Tree}
 use Rattle.rz_types.specs.Kept.{IsKept}
 use Rattle.rz_types.specs.Readable.{is_readable}
@@ -85,7 +85,7 @@ outside_knows = record { covers = has; only = λ key value asked is. left_true (
         by (Some value) is = (value, refl)
 
 pub was_read : (tells : Tells) (facts : Facts) (body : PlainBody) (row : List Tree) (bytes : List ℕ) → are_shaped false body ≡ true → IsKept body → is_readable body ≡ true → length bytes ≤ 16777212
-    → ((k : ℕ) → slice_index bytes k < 256) → reading facts body bytes ≡ Some row → Spells true facts body row bytes
+    → ((k : ℕ) → slice_index bytes k < 256) → reading facts body bytes ≡ Some row → SpellsPlainly facts body row bytes
 was_read tells facts body row bytes shaped kept reads few are is = by (body_found facts all front.met body (names_inside None body outside) 0 []) refl is
   where
     all : List Bool
@@ -94,7 +94,7 @@ was_read tells facts body row bytes shaped kept reads few are is = by (body_foun
     front : Passed
     front = at_front body nothing_passed
 
-    by : (o : Option Found) → body_found facts all front.met body (names_inside None body outside) 0 [] ≡ o → ended all o ≡ Some row → Spells true facts body row bytes
+    by : (o : Option Found) → body_found facts all front.met body (names_inside None body outside) 0 [] ≡ o → ended all o ≡ Some row → SpellsPlainly facts body row bytes
     by None so is = absurd (none_is row is)
     by (Some found) so is =
         let end = end_is all found row is in
@@ -103,18 +103,20 @@ was_read tells facts body row bytes shaped kept reads few are is = by (body_foun
         let came = body_came tells facts all short (names_of body) false true front body kept.0 kept.1 shaped reads (names_inside None body outside) 0 [] found
         (record { knows = inside_knows body None nothing_passed outside outside_knows; has = places_within false None body outside shaped places_outside; inside = omega (arith) }) (fresh_front None body outside) so in
         let spelled = came.0 in
-        subst (λ (r : List Tree). Spells true facts body r bytes) end.same (record {
-          names = found.names;
-          own = record {
-            give = λ key none other. spelled.grows.same key none ∙ if_false (declares body key) (stated_in body key) (outside.give key) none;
-            number = λ key is. absurd cc;
-            places = λ label has. tt;
+        subst (λ (r : List Tree). SpellsPlainly facts body r bytes) end.same (record {
+          spelling = record {
+            names = found.names;
+            own = record {
+              give = λ key none other. spelled.grows.same key none ∙ if_false (declares body key) (stated_in body key) (outside.give key) none;
+              number = λ key is. absurd cc;
+              places = λ label has. tt;
+            };
+            end = found.after;
+            late = found.late;
+            fields = spelled.spells found.names (same_part found.names);
+            filled = filled_is all found.after (length bytes) long end.within end.near end.none;
+            within = end.within;
+            are_bytes = are;
           };
-          end = found.after;
-          late = found.late;
-          fields = spelled.spells found.names (same_part found.names);
-          filled = filled_is all found.after (length bytes) long end.within end.near end.none;
-          within = end.within;
-          are_bytes = are;
           few = end.few;
         })

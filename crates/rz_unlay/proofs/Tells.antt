@@ -2,7 +2,7 @@
 use Rattle.std.proofs.Common.{◌≡◌, ℕ, true, List, Option, Some, None, ◌∙◌}
 use Rattle.rz_core.specs.declared.facts.Facts.{Facts}
 use Rattle.rz_types_fields.specs.declared.tree.Tree.{Tree}
-use Rattle.rz_types_fields.specs.Spells.{Spells}
+use Rattle.rz_types_fields.specs.Spells.{SpellsPlainly}
 use Rattle.rz_types_fields.specs.Field.{PlainBody}
 use Rattle.rz_unlay.specs.Cursor.{reading}
 use Rattle.rz_unlay.specs.Reading.{IsTold}
@@ -10,7 +10,7 @@ use Rattle.rz_unlay.specs.Reading.{IsTold}
 module _ (known : Facts) (body : PlainBody) (bytes : List ℕ) where
   -- each row that spells the bytes plainly is read
   abbrev pub AreRead : Type 0
-  AreRead = (row : List Tree) → Spells true known body row bytes → reading known body bytes ≡ Some row
+  AreRead = (row : List Tree) → SpellsPlainly known body row bytes → reading known body bytes ≡ Some row
 
   -- so what is read is each row that is told, and where nothing is read, none is told
   pub every_told : AreRead → (found : Option (List Tree)) → found ≡ reading known body bytes → (row : List Tree) → IsTold known body bytes row → found ≡ Some row

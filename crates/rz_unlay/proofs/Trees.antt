@@ -5,7 +5,7 @@ use Rattle.rz_core.proofs.Tests.{by_test, true_false}
 use Rattle.rz_core.specs.Decided.{Decided}
 use Rattle.rz_core.specs.declared.facts.Facts.{Facts}
 use Rattle.rz_types_fields.specs.declared.tree.Tree.{Tree}
-use Rattle.rz_types_fields.specs.Spells.{Spells}
+use Rattle.rz_types_fields.specs.Spells.{SpellsPlainly}
 use Rattle.rz_types.specs.Field.{PlainBody}
 use Rattle.rz_types.specs.Readable.{is_readable}
 use Rattle.rz_types.specs.Rules.{keeps_rules}
@@ -52,7 +52,7 @@ AreDecided =
 abbrev pub OnePlainRow : Type 0
 OnePlainRow =
     (known : Facts) (body : PlainBody) (row other : List Tree) (bytes : List ℕ) → is_well_shaped body ≡ true → keeps_rules body ≡ true
-    → is_readable body ≡ true → Spells true known body row bytes → Spells true known body other bytes → row ≡ other
+    → is_readable body ≡ true → SpellsPlainly known body row bytes → SpellsPlainly known body other bytes → row ≡ other
 
 module _ (known : Facts) (bytes : List ℕ) where
   abbrev HasAnswer : Option PlainBody → Type 0

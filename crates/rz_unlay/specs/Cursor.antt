@@ -9,7 +9,7 @@ use Rattle.rz_types_fields.specs.declared.keys.CaseKey.{CaseKey}
 use Rattle.rz_types_fields.specs.declared.tree.Tree.{Tree}
 use Rattle.rz_types_fields.specs.declared.tree.Tree.TheVariants as trees
 use Rattle.rz_types_fields.specs.Spells.{values_in}
-use Rattle.rz_types.specs.Field.{case_and, field_and, no_cases, no_fields, Align, Array, Fill, Label, Number, PlainBody, PlainCases, PlainField, Points, Switch, Text}
+use Rattle.rz_types.specs.Field.{case_and, field_and, no_cases, no_fields, Align, Array, Fill, Label, Number, PlainBody, PlainCase, PlainCases, PlainField, Points, Switch, Text}
 use Rattle.rz_types.specs.Passed.{at_front, met_behind, met_inside, nothing_passed, outside, Names}
 use Rattle.rz_types.specs.Sees.{Late}
 use Rattle.rz_types.specs.Width.{case_keys, fixed_widths}
@@ -125,6 +125,17 @@ has_key_at all at key = has_bits (key_at all at key.width key.distance) key.bits
 abbrev pub has_keys : List Bool → ℕ → List CaseKey → Bool
 has_keys all at [] = true
 has_keys all at (key ∷ keys) = has_key_at all at key && has_keys all at keys
+
+-- the first case whose key stands there
+abbrev pub case_there : List Bool → ℕ → PlainCases → Option PlainCase
+case_there all at no_cases = None
+case_there all at (case_and name row others) =
+    if has_keys all at (case_keys row) then Some (record { name = name; row = row }) else case_there all at others
+
+-- the key of a case that is there stands there
+abbrev pub has_case_keys : List Bool → ℕ → Option PlainCase → Bool
+has_case_keys all at None = false
+has_case_keys all at (Some one) = has_keys all at (case_keys one.row)
 
 abbrev mutual
   -- a field, where these labels stand before it

@@ -1,6 +1,26 @@
--- What the code asks of the fields that it reads: numbers of at most 32 bits, and units to align to that aren't 0.
-use Rattle.std.specs.Prelude.{◌<◌, ◌≤◌, nat_abs}
+-- What the code asks of the fields that it reads: numbers of at most 32 bits, units to align to that aren't 0, and cases whose
+-- keys stand apart.
+use Rattle.std.specs.Prelude.{◌≡◌, ◌<◌, ◌≤◌, ℕ, nat_abs, Bool, true, false, [], ◌∷◌, Option, Some}
+use Rattle.std.specs.Option.{is_some}
+use Rattle.rz_types_fields.specs.Width.{capped, keys_from}
+use Rattle.rz_types_fields.specs.declared.keys.CaseKey.{CaseKey}
 use Rattle.rz_types_fields.specs.Field.{case_and, field_and, no_cases, no_fields, Align, Array, Fill, Label, Number, PlainBody, PlainCases, PlainField, Points, Switch, Text}
+use Rattle.rz_types.specs.Kept.{HasKey}
+
+-- fields after so many bits have one key, at a known distance
+pub record HasKeyFrom (before : Option ℕ) (row : PlainBody) : Type 0 where
+  pub key : CaseKey
+  pub alone : keys_from before row ≡ key ∷ []
+  pub fixed : is_some key.distance ≡ true
+
+-- the field is a key
+abbrev pub is_key : PlainField → Bool
+is_key (Number number) = number.key
+is_key field = false
+
+-- where a width is known, it is found
+abbrev pub IsFound : Option ℕ → Option ℕ → Type 0
+IsFound exact found = (width : ℕ) → exact ≡ Some width → found ≡ Some (capped width)
 
 abbrev mutual
   pub Fits : PlainField → Type 0
@@ -19,4 +39,4 @@ abbrev mutual
 
   pub CasesFit : PlainCases → Type 0
   CasesFit no_cases = Unit {0}
-  CasesFit (case_and name row others) = AreFit row × CasesFit others
+  CasesFit (case_and name row others) = HasKey row others × AreFit row × CasesFit others

@@ -5,7 +5,7 @@ use Rattle.rz_core.specs.declared.facts.Facts.{Facts}
 use Rattle.rz_core.specs.declared.moment.Moment.{Moment}
 use Rattle.rz_core.specs.declared.resource.Resource.{Resource}
 use Rattle.rz_types_fields.specs.declared.tree.Tree.{Tree}
-use Rattle.rz_types_fields.specs.Spells.{Spells}
+use Rattle.rz_types_fields.specs.Spells.{plainly, SpellsPlainly}
 use Rattle.rz_types.specs.Field.{PlainBody}
 use Rattle.rz_types.specs.Readable.{is_readable}
 use Rattle.rz_types.specs.Rules.{keeps_rules}
@@ -15,7 +15,7 @@ use Rattle.rz_unlay.specs.declared.resource.Reading.TheVariants as readings
 
 -- bytes tell a row: the declaration can be read, and the row spells them plainly
 abbrev pub IsTold : Facts → PlainBody → List ℕ → List Tree → Type 0
-IsTold known body bytes row = (is_readable body ≡ true) × Spells true known body row bytes
+IsTold known body bytes row = (is_readable body ≡ true) × SpellsPlainly known body row bytes
 
 -- the row of an answer, where it has one
 abbrev pub row_in : Reading → Option (List Tree)

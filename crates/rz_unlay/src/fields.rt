@@ -16,13 +16,13 @@ ghost use Rattle.rz_types_fields.specs.Sees.{marked};
 ghost use Rattle.rz_unlay.specs.Rows.{pushed};
 
 use crate::came::{RowCame, RowsCame};
-use crate::cases::has_keys;
+use crate::cases::case_there;
 use crate::leaf::{read_pieces, spend};
 use crate::rows::{Until, push_row, row_after, until_of};
 use crate::steps::{push_label, push_value, tail};
 use rz_bits::BitView;
 use rz_core::{Facts, NoMemory};
-use rz_types_fields::{ArrayField, Case, Field, InRow, Row, RowList, Tree};
+use rz_types_fields::{ArrayField, Case, CaseHints, Field, InRow, Row, RowList, Tree};
 use rz_unlay_pieces::{Learnt, Met, Spot, claim_count, enter, learn_rows};
 use std::alloc::Global;
 
@@ -168,7 +168,9 @@ impl Reader<'_> {
                 }
             }
             Field::Array(array) => self.read_array(array, rest, learnt, at, left),
-            Field::Switch(cases) => { self.read_case(cases.as_slice(), learnt, at, left) }
+            Field::Switch(cases, hints) => {
+                self.read_case(cases.as_slice(), hints, learnt, at, left)
+            }
         }
     }
 
@@ -193,7 +195,7 @@ impl Reader<'_> {
         ensures met { IfOk result (λ found. IfSome found (λ m. met learnt.new.notes.items ≡ met_behind (plain_array array.now) (met learnt.old.notes.items))) }
         ensures grew { IfOk result (λ found. IfSome found (λ m. Grew learnt.old.notes.items learnt.new.notes.items)) }
     {
-        let notes = learnt.notes.as_slice();
+        let notes = &learnt.notes;
         let until = match until_of(self.view, &array.name, array.count, rest, notes) {
             Some(until) => until,
             None => return Ok(None),
@@ -274,11 +276,12 @@ impl Reader<'_> {
         Ok(until.over(so_far))
     }
 
-    /// Reads the first case whose key stands there.
+    /// Reads the case whose key stands there.
     #[cycle(read)]
     fn read_case<'a>(
         &self,
         cases: &'a [Case],
+        hints: &CaseHints,
         learnt: &mut Learnt<'a>,
         at: u32,
         left: u32,
@@ -293,12 +296,10 @@ impl Reader<'_> {
         ensures marks { IfOk result (λ found. IfSome found (λ m. length learnt.new.marks ≤ m.after)) }
         ensures notes { IfOk result (λ found. IfSome found (λ m. learnt.new.notes.items ≡ learnt.old.notes.items)) }
     {
-        for case in cases {
-            if has_keys(self.view, case.row.as_slice(), at) {
-                return self.read_choice(case, learnt, at, left);
-            }
+        match case_there(self.view, cases, hints, at) {
+            Some(position) => self.read_choice(&cases[position], learnt, at, left),
+            None => Ok(None),
         }
-        Ok(None)
     }
 
     /// Reads the row of a case.

@@ -4,7 +4,7 @@ ghost use Rattle.std.specs.Prelude.{◌≡◌, true, ℕ, List, Option, Some};
 ghost use Rattle.rz_core.specs.Decided.{Decided};
 ghost use Rattle.rz_core.specs.declared.facts.Facts.{Facts};
 ghost use Rattle.rz_types_fields.specs.declared.tree.Tree.{Tree};
-ghost use Rattle.rz_types_fields.specs.Spells.{Spells};
+ghost use Rattle.rz_types_fields.specs.Spells.{SpellsPlainly};
 ghost use Rattle.rz_types.specs.Field.{PlainBody};
 ghost use Rattle.rz_types.specs.Readable.{is_readable};
 ghost use Rattle.rz_types.specs.Rules.{keeps_rules};
@@ -21,7 +21,7 @@ use rz_types::keys_stand_apart;
 /// A law, with nothing to run: under a declaration that can be read, a row that spells bytes plainly is read of them.
 pub fn plain_rows_are_read()
     ensures { (known : Facts) (body : PlainBody) (row : List Tree) (bytes : List ℕ) → is_well_shaped body ≡ true → keeps_rules body ≡ true
-        → is_readable body ≡ true → Spells true known body row bytes → reading known body bytes ≡ Some row }
+        → is_readable body ≡ true → SpellsPlainly known body row bytes → reading known body bytes ≡ Some row }
 {
     numbers_are_read_back();
     numbers_are_written_back();
@@ -33,7 +33,7 @@ pub fn plain_rows_are_read()
 /// A law, with nothing to run: under a declaration that can be read, two rows that spell the same bytes plainly are equal.
 pub fn one_plain_row()
     ensures { (known : Facts) (body : PlainBody) (row other : List Tree) (bytes : List ℕ) → is_well_shaped body ≡ true → keeps_rules body ≡ true
-        → is_readable body ≡ true → Spells true known body row bytes → Spells true known body other bytes → row ≡ other }
+        → is_readable body ≡ true → SpellsPlainly known body row bytes → SpellsPlainly known body other bytes → row ≡ other }
 {
     plain_rows_are_read();
 }

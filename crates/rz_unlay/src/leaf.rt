@@ -24,7 +24,7 @@ use std::alloc::Global;
 /// tell of names is noted, and so are the places of labels and the late bits. `Ok(None)` where they aren't there or aren't
 /// stored so.
 ///
-/// A name is looked for from the newest note on, and then through the fields ahead in its body.
+/// A name that isn't noted is looked for through the fields ahead in its body.
 pub fn read_pieces<'a>(
     alloc: Global,
     spot: &Spot<'_>,
@@ -52,7 +52,7 @@ pub fn read_pieces<'a>(
         }
         Field::Align(unit) => Ok(read_filler(spot.view, *unit, at)),
         Field::Label(name) => read_label(name, learnt, at),
-        Field::Array(_) | Field::Switch(_) => Ok(Some(Came {
+        Field::Array(_) | Field::Switch(..) => Ok(Some(Came {
             value: None,
             after: at,
             cost: 0,

@@ -40,11 +40,12 @@ pub enum Reading {
 /// numbers, texts and rows of arrays, where a point counts as two numbers and a rectangle as four.
 ///
 /// A row spells at most 16,777,212 bytes, so of more `NoTree` comes at once. Time and memory grow with what
-/// is read of them: for each row with the fields of its array and the cases of each switch, with the square of the
-/// operators in an expression that tells a name, and with the square of the names in one row. A name is looked for from the
-/// newest on, in its row and the bodies around, and then through the fields ahead, for a label at a known distance; an open
-/// text or array looks through the fields after it for a label whose place is told. The places of labels in rows take 4 bytes
-/// for each in each row, until the body of their array ends. (MPW Rez.)
+/// is read of them: for each row with the fields of its array, and with the square of the operators in an expression
+/// that tells a name. A case is looked up by its key; all cases of a switch are gone through once where no key stands
+/// there, which ends the reading. A name is found in constant time on average, one with an index among the arrays of its
+/// row and of the bodies around, and one without a value through the fields ahead, up to its label; an open text or array
+/// looks through the fields after it for a label whose place is told. The places of labels in rows take 4 bytes for each
+/// in each row, until the body of their array ends. (MPW Rez.)
 pub fn read(
     alloc: Global,
     template: &Template,
@@ -54,7 +55,7 @@ pub fn read(
     ensures told { IfOk result (λ reading. Decided (IsTold facts.now (template_of template.now) bytes.now) (row_in reading)) }
     ensures every { (row : List Tree) → IsTold facts.now (template_of template.now) bytes.now row → IfOk result (λ reading. row_in reading ≡ Some row) }
     ensures row { IfOk result (λ reading. IfSome (row_in reading) (IsRow (template_of template.now))) }
-    ensures spelled { IfOk result (λ reading. IfSome (row_in reading) (λ row. Spells false facts.now (template_of template.now) row bytes.now)) }
+    ensures spelled { IfOk result (λ reading. IfSome (row_in reading) (λ row. Spells facts.now (template_of template.now) row bytes.now)) }
 {
     plain_rows_are_read();
     read_rows_are_plain();

@@ -11,7 +11,7 @@ ghost use Rattle.rz_unlay.specs.Rows.{is_end};
 use crate::fields::Reader;
 use rz_bits::BitView;
 use rz_core::{Facts, NoMemory};
-use rz_types::rules_hold_within;
+use rz_types::{keys_stand_apart, rules_hold_within};
 use rz_types_fields::{Body, Row};
 use rz_unlay_pieces::Learnt;
 use std::alloc::Global;
@@ -33,6 +33,7 @@ pub fn read_row(
     ensures { IfOk result (λ row. row ≡ reading facts.now (plain_body body.now) bytes.now) }
 {
     rules_hold_within();
+    keys_stand_apart();
     let view = BitView::over(bytes);
     let mut learnt = Learnt::new(alloc);
     let fields = body.as_slice();

@@ -11,7 +11,7 @@ use crate::came::{RowCame, RowsCame};
 use rz_bits::BitView;
 use rz_core::{NoMemory, Word};
 use rz_expr::Key;
-use rz_types_fields::{Field, InRow, Note, fixed_widths, value_noted};
+use rz_types_fields::{Field, InRow, Notes, fixed_widths, value_noted};
 use rz_unlay_pieces::told_label;
 
 /// Where the rows of an array end.
@@ -73,9 +73,9 @@ pub fn until_of(
     name: &Option<Word>,
     count: Option<i32>,
     rest: &[Field],
-    notes: &[Note<'_>],
+    notes: &Notes<'_>,
 ) -> Option<Until>
-    ensures { result ≡ until_of (length (seen view.now)) (plain_body rest.now) (known notes.now) (count_known (known notes.now) name.now count) }
+    ensures { result ≡ until_of (length (seen view.now)) (plain_body rest.now) (known notes.now.items) (count_known (known notes.now.items) name.now count) }
 {
     match count_known(name, count, notes) {
         Some(count) => {
@@ -93,8 +93,8 @@ pub fn until_of(
 }
 
 /// The number of rows, where it is stated or known.
-fn count_known(name: &Option<Word>, count: Option<i32>, notes: &[Note<'_>]) -> Option<i128>
-    ensures { result ≡ count_known (known notes.now) name.now count }
+fn count_known(name: &Option<Word>, count: Option<i32>, notes: &Notes<'_>) -> Option<i128>
+    ensures { result ≡ count_known (known notes.now.items) name.now count }
 {
     match count {
         Some(count) => Some(i128::from(count)),

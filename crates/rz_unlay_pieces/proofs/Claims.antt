@@ -4,11 +4,12 @@ use Rattle.std.specs.Option.{is_some}
 use Rattle.std.specs.Prelude.{if◌then◌else◌}
 use Rattle.rz_expr.specs.Environment.{Key}
 use Rattle.rz_types_fields.specs.Field.{PlainBody}
-use Rattle.rz_types_fields.specs.Known.{known, meeting, met, met_noted, noted, noting, AreRowsNoted}
+use Rattle.rz_types_fields.specs.Known.{known, meeting, met, met_noted, noting, AreRowsNoted}
 use Rattle.rz_types_fields.specs.Passed.{outside}
 use Rattle.rz_types_fields.specs.RowLabels.{also_rows}
 use Rattle.rz_types_fields.specs.Solve.{is_same_key}
 use Rattle.rz_types_fields.specs.declared.names.Note.{Note}
+use Rattle.rz_types_fields.proofs.Fronts.{met_append, noted_append}
 use Rattle.rz_types_fields.proofs.Noting.{known_more}
 use Rattle.rz_unlay_pieces.specs.Pieces.{agrees, also, claim}
 use Rattle.rz_unlay_pieces.specs.Seen.{met_in_rows}
@@ -34,20 +35,12 @@ module _ (notes new : List Note) (note : Note) (is : new ≡ notes ++ note ∷ [
 
 -- After several notes.
 
-noted_behind : (other : Option ℤ) (old more : List Note) (key : Key) → noted other (old ++ more) key ≡ noted (noted other old key) more key
-noted_behind other [] more key = refl
-noted_behind other (first ∷ old) more key = noted_behind (noting first key other) old more key
-
-met_behind_all : (before : Bool) (old more : List Note) (key : Key) → met_noted before (old ++ more) key ≡ met_noted (met_noted before old key) more key
-met_behind_all before [] more key = refl
-met_behind_all before (first ∷ old) more key = met_behind_all (meeting first key before) old more key
-
 -- all rows of an array were read
 module _ (row : PlainBody) (count : ℕ) (places : List ℤ) (old new : List Note) (noted_rows : AreRowsNoted row count places old new) where
   pub rows_known : known new ≡ also_rows row count places (known old)
   rows_known =
       ap known noted_rows.grew
-      ∙ (λ i. record { give = λ key. (noted_behind (outside.give key) old noted_rows.more key ∙ noted_rows.values key ((known old).give key)) i })
+      ∙ (λ i. record { give = λ key. (noted_append (outside.give key) old noted_rows.more key ∙ noted_rows.values key ((known old).give key)) i })
 
   pub rows_met : met new ≡ met_in_rows row (met old)
-  rows_met = ap met noted_rows.grew ∙ (λ i key. (met_behind_all (is_some (outside.give key)) old noted_rows.more key ∙ noted_rows.all_met key (met old key)) i)
+  rows_met = ap met noted_rows.grew ∙ (λ i key. (met_append (is_some (outside.give key)) old noted_rows.more key ∙ noted_rows.all_met key (met old key)) i)

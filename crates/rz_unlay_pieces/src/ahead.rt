@@ -7,7 +7,6 @@ ghost use Rattle.rz_bits.specs.View.{seen};
 ghost use Rattle.rz_expr.specs.Environment.{place_key};
 ghost use Rattle.rz_types_fields.specs.Field.{plain_body, plain_field};
 ghost use Rattle.rz_types_fields.specs.Known.{known};
-ghost use Rattle.rz_types_fields.specs.Passed.{is_label};
 ghost use Rattle.rz_types_fields.specs.Width.{capped, fixed_widths};
 ghost use Rattle.rz_unlay_pieces.specs.Ahead.{bytes_before, bytes_left, label_place, near_place, open_size, place_within, told_label};
 ghost use Rattle.rz_unlay_pieces.specs.Seen.{behind_capped, told_capped, told_of};
@@ -17,7 +16,7 @@ use crate::spot::Spot;
 use rz_bits::{BitView, missing};
 use rz_core::Word;
 use rz_expr::Key;
-use rz_types_fields::{Field, Note, fixed_width, fixed_widths, stands_at, value_noted};
+use rz_types_fields::{Field, Notes, fixed_width, fixed_widths, is_label, value_noted};
 
 /// One bit more than the most bits of a resource.
 const TOO_MANY_BITS: u64 = 134_217_697;
@@ -32,10 +31,10 @@ pub struct LabelAhead {
 }
 
 /// The first label after fields of fixed width of which the place is known, in a resource of so many bits. Each label on
-/// the way is looked for from the newest note on, and each field is measured, with the fields of arrays within it.
-pub fn told_label(rest: &[Field], notes: &[Note<'_>], len: u32) -> Option<LabelAhead>
+/// the way is looked up, and each field is measured, with the fields of arrays within it.
+pub fn told_label(rest: &[Field], notes: &Notes<'_>, len: u32) -> Option<LabelAhead>
     ensures within { IfSome result (λ label. label.place ≤ len) }
-    ensures label { option_map told_of result ≡ option_map told_capped (told_label len (plain_body rest.now) (known notes.now)) }
+    ensures label { option_map told_of result ≡ option_map told_capped (told_label len (plain_body rest.now) (known notes.now.items)) }
 {
     let mut width = 0;
     for field in rest {
@@ -51,9 +50,9 @@ pub fn told_label(rest: &[Field], notes: &[Note<'_>], len: u32) -> Option<LabelA
 }
 
 /// The place that is known of the label that a field is.
-fn label_place(field: &Field, notes: &[Note<'_>], len: u32) -> Option<u32>
+fn label_place(field: &Field, notes: &Notes<'_>, len: u32) -> Option<u32>
     ensures within { IfSome result (λ p. p ≤ len) }
-    ensures place { result ≡ label_place len (plain_field field.now) (known notes.now) }
+    ensures place { result ≡ label_place len (plain_field field.now) (known notes.now.items) }
 {
     match field {
         Field::Label(name) => place_within(len, value_noted(notes, Key::Place(name))),
@@ -97,7 +96,7 @@ pub fn near_place(fields: &[Field], first: u32, name: &Word, len: u32) -> Option
         if at > len {
             return None;
         }
-        if is_label(field, name) {
+        if is_label(field, Key::Place(name)) {
             return Some(at);
         }
         match behind_measured(field, at) {
@@ -106,16 +105,6 @@ pub fn near_place(fields: &[Field], first: u32, name: &Word, len: u32) -> Option
         }
     }
     None
-}
-
-/// Whether a field is a label of this name.
-fn is_label(field: &Field, name: &Word) -> bool
-    ensures { result ≡ is_label (plain_field field.now) (place_key name.now.bytes) }
-{
-    match field {
-        Field::Label(label) => stands_at(label, Key::Place(name)),
-        _ => false,
-    }
 }
 
 /// The place after a field, where it is at a known distance.
@@ -150,7 +139,7 @@ pub fn open_size(spot: &Spot<'_>, learnt: &Learnt<'_>, at: u32) -> Option<u64>
     ensures { result
         ≡ open_size (length (seen spot.now.view.now)) (told_label (length (seen spot.now.view.now)) (plain_body spot.now.rest.now) (known learnt.now.notes.items)) (fixed_widths (plain_body spot.now.rest.now)) at }
 {
-    match told_label(spot.rest, learnt.notes.as_slice(), spot.view.len()) {
+    match told_label(spot.rest, &learnt.notes, spot.view.len()) {
         Some(label) => bytes_before(label, at),
         None => bytes_left(spot.view, fixed_widths(spot.rest), at),
     }

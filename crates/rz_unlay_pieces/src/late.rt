@@ -8,7 +8,7 @@ ghost use Rattle.rz_expr.specs.Value.{value_of};
 ghost use Rattle.rz_types_fields.specs.Field.{plain_text};
 ghost use Rattle.rz_types_fields.specs.Known.{met};
 ghost use Rattle.rz_types_fields.specs.Piece.{terms_of_text};
-ghost use Rattle.rz_types_fields.specs.Sees.{is_late, marked, names_later};
+ghost use Rattle.rz_types_fields.specs.Sees.{is_late, is_later, marked, names_later};
 ghost use Rattle.rz_types_fields.specs.Spells.{is_one_late};
 ghost use Rattle.rz_unlay_pieces.specs.Seen.{sight_at};
 
@@ -16,8 +16,8 @@ use crate::learnt::Learnt;
 use crate::seen::SpotEnv;
 use crate::spot::Spot;
 use rz_core::NoMemory;
-use rz_expr::{Expr, Key, value_in};
-use rz_types_fields::{Note, TextField, is_met, text_expressions};
+use rz_expr::{Expr, Key, Mention, MentionTest, first_mention, value_in};
+use rz_types_fields::{Notes, TextField, is_met, text_expressions};
 use std::alloc::Global;
 
 /// The value of an expression, and whether a number with it is late.
@@ -44,7 +44,7 @@ pub fn value_at(expr: &Expr, spot: &Spot<'_>, learnt: &Learnt<'_>, at: u32) -> O
     match value_in(expr, &env) {
         Ok(value) => Some(Valued {
             value,
-            late: names_later(expr, learnt.notes.as_slice()),
+            late: names_later(expr, &learnt.notes),
         }),
         Err(_) => match value_with_late(expr, spot, learnt, at) {
             Some(value) => Some(Valued { value, late: true }),
@@ -69,24 +69,31 @@ fn value_with_late(expr: &Expr, spot: &Spot<'_>, learnt: &Learnt<'_>, at: u32) -
     }
 }
 
-/// Whether an expression names a label that stands later.
-fn names_later(expr: &Expr, notes: &[Note<'_>]) -> bool
-    ensures { result ≡ names_later (met notes.now) (term_of expr.now) }
-{
-    match expr {
-        Expr::Number(_) | Expr::Count(_) | Expr::ArrayIndex(_) | Expr::Fact(_) => false,
-        Expr::Name(name) => !is_met(notes, Key::Place(name)),
-        Expr::Indexed(name, index) => {
-            !is_met(notes, Key::Rows(name)) || names_later(index, notes)
-        }
-        Expr::Unary(_, operand) => names_later(operand, notes),
-        Expr::Binary(_, left, right) => names_later(left, notes) || names_later(right, notes),
-        Expr::Bits(name, start, width) => {
-            !is_met(notes, Key::Place(name))
-                || names_later(start, notes)
-                || names_later(width, notes)
+/// What stands later.
+#[derive(Clone, Copy)]
+struct Later<'a> {
+    notes: &'a Notes<'a>,
+}
+
+impl MentionTest for Later<'_> {
+    ghost test = { λ test mention. is_later (met test.notes.now.items) mention };
+
+    fn passes(&self, mention: Mention<'_>) -> bool {
+        match mention {
+            Mention::Alone(name) | Mention::WithBits(name) => {
+                !is_met(self.notes, Key::Place(name))
+            }
+            Mention::Indexed(name) => !is_met(self.notes, Key::Rows(name)),
+            Mention::Counted(_) | Mention::Around(_) | Mention::Fact(_) => false,
         }
     }
+}
+
+/// Whether an expression names a label that stands later.
+fn names_later(expr: &Expr, notes: &Notes<'_>) -> bool
+    ensures { result ≡ names_later (met notes.now.items) (term_of expr.now) }
+{
+    first_mention(expr, &Later { notes }).is_some()
 }
 
 /// Whether one of the expressions of a text is late.
@@ -128,7 +135,7 @@ fn is_late(expr: &Expr, spot: &Spot<'_>, learnt: &Learnt<'_>, at: u32) -> bool
         at,
     };
     match value_in(expr, &env) {
-        Ok(_) => names_later(expr, learnt.notes.as_slice()),
+        Ok(_) => names_later(expr, &learnt.notes),
         Err(_) => true,
     }
 }

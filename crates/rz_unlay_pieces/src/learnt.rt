@@ -6,14 +6,14 @@ ghost use Rattle.rz_unlay_pieces.specs.Pieces.{late_behind};
 
 use rz_bits::BitBuf;
 use rz_core::NoMemory;
-use rz_types_fields::Note;
+use rz_types_fields::Notes;
 use std::alloc::Global;
 
 /// What is learnt of names and of late bits.
 #[derive(Drop)]
 pub struct Learnt<'a> {
     /// What was noted of names, the oldest first.
-    pub notes: Vec<Note<'a>>,
+    pub notes: Notes<'a>,
     /// A mark for each bit up to the last late one: whether it is late.
     pub marks: BitBuf,
 }
@@ -25,7 +25,7 @@ impl<'a> Learnt<'a> {
         ensures marks { result.marks ≡ [] }
     {
         Learnt {
-            notes: Vec::new(alloc),
+            notes: Notes::new(alloc),
             marks: BitBuf::new(alloc),
         }
     }

@@ -15,9 +15,9 @@ ghost use Rattle.rz_unlay_pieces.specs.Seen.{met_counted, met_in_rows, met_place
 use crate::learnt::Learnt;
 use rz_core::{NoMemory, Word};
 use rz_expr::Key;
-use rz_types_fields::{Field, InRow, Note, note_rows, value_noted};
+use rz_types_fields::{Field, InRow, Note, note_front, note_rows, value_noted};
 
-/// Enters a body, with one note: what was known of its own names is hidden, the stated numbers of its arrays are known, and so
+/// Enters a body: what was known of its own names is hidden, the stated numbers of its arrays are known, and so
 /// is the number of the row, where it is one of an array with a name.
 pub fn enter<'a>(
     fields: &'a [Field],
@@ -29,12 +29,12 @@ pub fn enter<'a>(
     ensures grew { OnOk result (Grew learnt.old.notes.items learnt.new.notes.items) }
     ensures marks { OnOk result (learnt.new.marks ≡ learnt.old.marks) }
 {
-    learnt.notes.push(Note::Entered(fields, which))?;
+    note_front(fields, which, &mut learnt.notes)?;
     Ok(())
 }
 
 /// Notes that the array of this name, if it has one, has so many rows. False, with no note, if it is known to have another
-/// number. The name is looked for from the newest note on.
+/// number.
 pub fn claim_count<'a>(
     name: &'a Option<Word>,
     rows: u32,
@@ -59,7 +59,7 @@ fn claim_rows<'a>(name: &'a Word, rows: i64, learnt: &mut Learnt<'a>) -> Result<
     ensures marks { IfOk result (λ holds. learnt.new.marks ≡ learnt.old.marks) }
 {
     if agrees(
-        value_noted(learnt.notes.as_slice(), Key::Count(name)),
+        value_noted(&learnt.notes, Key::Count(name)),
         i128::from(rows),
     ) {
         learnt.notes.push(Note::Counted(name, rows))?;
@@ -86,18 +86,14 @@ pub fn learn_rows<'a>(
     Ok(())
 }
 
-/// Notes that the label of this name stands at a place, in bits. False if another place of it was told. The name is looked for
-/// from the newest note on.
+/// Notes that the label of this name stands at a place, in bits. False if another place of it was told.
 pub fn claim_place<'a>(name: &'a Word, at: i32, learnt: &mut Learnt<'a>) -> Result<bool, NoMemory>
     ensures known { IfOk result (λ holds. told holds (known learnt.new.notes.items) ≡ claim (place_key name.now.bytes) at (known learnt.old.notes.items)) }
     ensures met { IfOk result (λ holds. holds ≡ true → met learnt.new.notes.items ≡ met_placed name.now (met learnt.old.notes.items)) }
     ensures grew { IfOk result (λ holds. Grew learnt.old.notes.items learnt.new.notes.items) }
     ensures marks { IfOk result (λ holds. learnt.new.marks ≡ learnt.old.marks) }
 {
-    if agrees(
-        value_noted(learnt.notes.as_slice(), Key::Place(name)),
-        i128::from(at),
-    ) {
+    if agrees(value_noted(&learnt.notes, Key::Place(name)), i128::from(at)) {
         learnt.notes.push(Note::Placed(name, at))?;
         Ok(true)
     } else {

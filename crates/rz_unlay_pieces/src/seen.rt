@@ -16,7 +16,7 @@ use rz_expr::{Env, FactWord, Key};
 use rz_types_fields::{fact_of, value_noted};
 
 /// What an expression sees at a place of a field: what is noted of names, the labels ahead at a known distance, and the
-/// bits before the place. A name is looked for from the newest note on, and then through the fields ahead.
+/// bits before the place. A name that isn't noted is looked for through the fields ahead.
 #[derive(Drop)]
 pub struct SpotEnv<'a> {
     /// Where the field is read.
@@ -60,7 +60,7 @@ impl Env for SpotEnv<'_> {
 pub fn value_seen(key: Key<'_>, spot: &Spot<'_>, learnt: &Learnt<'_>) -> Option<i128>
     ensures { result ≡ (near_names spot.now (known learnt.now.notes.items)).give (key_of key.entry) }
 {
-    match value_noted(learnt.notes.as_slice(), key) {
+    match value_noted(&learnt.notes, key) {
         Some(value) => Some(value),
         None => value_near(key, spot),
     }

@@ -11,7 +11,7 @@ use Rattle.rz_catalog.proofs.restring.put_texts.Goals as goal
 pub change_row-requires-clause-row : goal.change_row-requires-clause-row
 change_row-requires-clause-row c =
     let body = template_of c.args.template.now in
-    told_is_row c.spelled_rows_are_rows.ensures c.args.facts.now body c.in-Some.row c.as_slice.result.now
+    told_is_row c.spelled_rows_are_rows.ensures.plainly c.args.facts.now body c.in-Some.row c.as_slice.result.now
     (subst (Decided (HasRow (Some body) c.args.facts.now c.as_slice.result.now)) c.in-Some.is c.in_ok-row.ensures.told)
 
 pub change_row-requires-clause-few : goal.change_row-requires-clause-few

@@ -1,4 +1,5 @@
-use Rattle.std.proofs.Common.{◌≡◌, ℤ, Global, Vec, List, Result, Ok, arith, rules, refl, ap, sym, subst, ◌∙◌}
+use denote.Param.Weighed.{at_most, most}
+use Rattle.std.proofs.Common.{◌≡◌, ℕ, ℤ, Global, Vec, List, get_or, None, Result, Ok, arith, rules, refl, ap, sym, subst, ◌∙◌}
 use Rattle.rz_layout.specs.declared.laid.Laid.{Laid}
 use Rattle.rz_types_fields.specs.Known.{AreRowsNoted}
 use Rattle.rz_layout.proofs.Arrays.{array_is}
@@ -8,9 +9,15 @@ use Rattle.rz_layout.specs.Fault.{refusal_of}
 use Rattle.rz_layout.specs.Laid.{draft_of}
 use Rattle.rz_types_fields.specs.declared.field.Field.{Field}
 use Rattle.rz_types_fields.specs.declared.tree.Tree.{Tree}
-use Rattle.rz_types_fields.specs.Laid.{field_laid, rows_apart}
-use Rattle.rz_types_fields.specs.declared.field.Field.TheViews.{out-ArrayField}
-use Rattle.rz_types_fields.specs.Field.{plain_body, PlainField}
+use Rattle.rz_types_fields.proofs.Bodies.{case_is}
+use Rattle.rz_types_fields.specs.Laid.{apart, field_laid, line_in, row_laid, rows_apart}
+use Rattle.rz_types_fields.specs.Spells.{choice_in}
+use Rattle.rz_types.proofs.Cased.{found_case}
+use Rattle.rz_types.specs.Cases.{case_named}
+use Rattle.rz_layout.specs.Sound.{AreSound}
+use Rattle.rz_layout.proofs.Cased.{chosen_sound, laid_none, laid_some, row_there}
+use Rattle.rz_types_fields.specs.declared.field.Field.TheViews.{out-ArrayField, size-Case, size-Field, size_is-Case}
+use Rattle.rz_types_fields.specs.Field.{plain_body, plain_case, plain_cases, PlainCase, PlainField}
 use Rattle.rz_layout.proofs.Steps.{array_kind}
 use Rattle.rz_layout.proofs.Forms.{text_field}
 use Rattle.rz_layout.proofs.Noted.{body_is, each_declares, fields_next, noted_both, noted_if, noted_wider, sound_next}
@@ -80,3 +87,42 @@ lay_array-returns-clause-laid t c =
     (subst (λ (places : Vec ℤ Global). AreRowsNoted (plain_body c.as_slice-fields.result.now) c.count_of.result places.items after.notes.items c.note_rows.new.notes.items) c.replace-places.ensures.value
     c.in_ok-note_rows.ensures)
     c.in-Ok.ensures.laid)
+
+pub lay_case-lay_choice-requires : goal.lay_case-lay_choice-requires
+lay_case-lay_choice-requires t c =
+    let value = option_map (λ v. v.now) c.args.value in
+    let one = c.index-cases-position.result in
+    let found = found_case (choice_in value) c.choice_in.result.now c.args.cases.now c.in-Some.position one c.in-Some.ensures.within c.index-cases-position.is c.choice_in.ensures
+    (c.in-Some.ensures.named c.requires.differ) in
+    let sound = subst (λ (p : PlainCase). AreSound p.row (line_in value)) (case_is one) (chosen_sound (plain_cases c.args.cases.now) value (plain_case one) c.requires.sound found) in
+    let deep = at_most size-Case c.args.cases.now c.in-Some.position one c.in-Some.ensures.within in
+    let own = size_is-Case (get_or c.args.cases.now c.in-Some.position one) in
+    let read = ap (most size-Field) c.as_slice.ensures in (
+      omega (arith, deep, own, read),
+      (
+        subst (λ (row : List Tree). AreSound (plain_body c.as_slice.result.now) row) (sym c.line_in-row.ensures)
+            (subst (λ (fields : List Field). AreSound (plain_body fields) (line_in value)) (sym (row_there c.as_slice.result.now c.args.cases.now c.in-Some.position one c.index-cases-position.is c.as_slice.ensures)) sound),
+        c.requires.short,
+      ),
+    )
+
+pub lay_case-returns-in-Some-clause-laid : goal.lay_case-returns-in-Some-clause-laid
+lay_case-returns-in-Some-clause-laid t c =
+    let value = option_map (λ v. v.now) c.args.value in
+    let one = c.index-cases-position.result in
+    let draft = draft_of c.args.laid.now in
+    let facts = c.args.facts.now in
+    let found = found_case (choice_in value) c.choice_in.result.now c.args.cases.now c.in-Some.position one c.in-Some.ensures.within c.index-cases-position.is c.choice_in.ensures
+    (c.in-Some.ensures.named c.requires.differ) in
+    subst (λ (r : Result Draft Refusal). Gives r (fault_seen refusal_of (left (draft_of c.lay_choice.new.laid) c.lay_choice.result)))
+    (let row = row_there c.as_slice.result.now c.args.cases.now c.in-Some.position one c.index-cases-position.is c.as_slice.ensures in
+    (λ i. apart (λ inner. row_laid facts None (plain_body (row i)) inner (c.line_in-row.ensures i)) draft)
+    ∙ ap (λ (p : PlainCase). apart (λ inner. row_laid facts None p.row inner (line_in value)) draft) (sym (case_is one))
+    ∙ sym (laid_some facts draft value (plain_cases c.args.cases.now) (plain_case one) found))
+    c.lay_choice.ensures.laid
+
+pub lay_case-returns-in-None-clause-laid : goal.lay_case-returns-in-None-clause-laid
+lay_case-returns-in-None-clause-laid t c =
+    let value = option_map (λ v. v.now) c.args.value in
+    laid_none c.args.facts.now (draft_of c.args.laid.now) value (plain_cases c.args.cases.now)
+    (ap (λ (n : List ℕ). case_named n (plain_cases c.args.cases.now)) (sym c.choice_in.ensures) ∙ c.in-None.ensures.named c.requires.differ)

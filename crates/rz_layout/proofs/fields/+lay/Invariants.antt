@@ -1,12 +1,11 @@
 use Rattle.std.proofs.Common.{◌≡◌, ◌+◌, drop}
 use Rattle.std.specs.List.{AllByRecursion}
-use Rattle.std.specs.Prelude.{option_map}
 use Rattle.rz_layout.specs.Laid.{draft_of, IsNotedBy, IsShort}
-use Rattle.rz_layout.specs.Sound.{AreSound, IsCaseSound}
-use Rattle.rz_types_fields.specs.Laid.{body_laid, case_laid, row_laid, rows_laid}
+use Rattle.rz_layout.specs.Sound.{AreSound}
+use Rattle.rz_types_fields.specs.Laid.{body_laid, row_laid, rows_laid}
 use Rattle.rz_types_fields.specs.Passed.{declares}
 use Rattle.rz_types_fields.specs.RowLabels.{row_of}
-use Rattle.rz_types_fields.specs.Field.{plain_body, plain_cases}
+use Rattle.rz_types_fields.specs.Field.{plain_body}
 use Rattle.rz_layout.proofs.fields.+lay.Given as goal
 
 abbrev pub invariant-lay_fields-loop-field : goal.invariant-lay_fields-loop-field
@@ -23,15 +22,6 @@ invariant-lay_rows-loop-before l = record {
   laid : rows_laid (λ number. row_laid l.facts (row_of l.name number) (plain_body l.fields)) (l.before + 1) (draft_of l.laid) (drop l.before l.rows)
       ≡ rows_laid (λ number. row_laid l.facts (row_of l.name number) (plain_body l.fields)) 1 (draft_of l.fn.laid) l.rows;
   sound : AllByRecursion (AreSound (plain_body l.fields)) (drop l.before l.rows);
-  notes : l.laid.notes.items ≡ l.fn.laid.notes.items;
-  short : IsShort l.laid;
-}
-
-abbrev pub invariant-lay_case-loop-case : goal.invariant-lay_case-loop-case
-invariant-lay_case-loop-case l = record {
-  laid : case_laid l.facts (draft_of l.laid) (plain_cases (drop l.case-index l.cases)) (option_map (λ v. v.now) l.value)
-      ≡ case_laid l.facts (draft_of l.fn.laid) (plain_cases l.cases) (option_map (λ v. v.now) l.value);
-  sound : IsCaseSound (plain_cases (drop l.case-index l.cases)) (option_map (λ v. v.now) l.value);
   notes : l.laid.notes.items ≡ l.fn.laid.notes.items;
   short : IsShort l.laid;
 }

@@ -75,4 +75,4 @@ pub fill_one-returns-in-Number-clause-filled : goal.fill_one-returns-in-Number-c
 fill_one-returns-in-Number-clause-filled t c =
     let end = fault_seen refusal_of (left c.fill_number.new.bits c.fill_number.result) in
     subst (λ (numbers : List LateNumber). Gives (fill c.args.facts.now (known c.args.notes.now.items) numbers c.args.bits.now) end) (sym (number_is c.args.one c.in-Number.number c.in-Number.is))
-    (subst (λ (notes : List Note). Gives (filled_by c.args.facts.now (known notes) (number_held c.in-Number.number) c.args.bits.now) end) c.as_slice.ensures.value c.fill_number.ensures.filled)
+    c.fill_number.ensures.filled

@@ -1,5 +1,5 @@
 use Rattle.std.proofs.Common.{◌≡◌, ap, ◌∙◌}
-use Rattle.rz_types_fields.proofs.Noting.{known_more}
+use Rattle.rz_types_fields.proofs.Fronts.{front_known}
 use Rattle.rz_types_fields.specs.Field.{plain_body}
 use Rattle.rz_types_fields.specs.Known.{known, which_of}
 use Rattle.rz_types_fields.specs.Laid.{counted, entered}
@@ -11,12 +11,19 @@ use Rattle.rz_layout.proofs.names.enter.Goals as goal
 
 pub returns-clause-known : goal.returns-clause-known
 returns-clause-known c =
-    on_ok c.count_rows.result (known c.count_rows.new.notes.items ≡ counted (plain_body c.args.fields.now) c.args.row.now (known c.push.new.self.items))
-    (known c.count_rows.new.notes.items ≡ entered (which_of c.args.which) (plain_body c.args.fields.now) c.args.row.now (known c.args.notes.now.items))
-    (λ is. is ∙ ap (counted (plain_body c.args.fields.now) c.args.row.now) (ap known c.in_ok-push.ensures.items ∙ known_more c.args.notes.now.items _)) c.count_rows.ensures.known
+    let which = which_of c.args.which in
+    let body = plain_body c.args.fields.now in
+    let old = c.args.notes.now.items in
+    let mid = c.note_front.new.notes.items in
+    on_ok c.count_rows.result (known c.count_rows.new.notes.items ≡ counted body c.args.row.now (known mid))
+    (known c.count_rows.new.notes.items ≡ entered which body c.args.row.now (known old))
+    (λ is. is ∙ ap (counted body c.args.row.now) (front_known which body old mid c.in_ok-note_front.ensures)) c.count_rows.ensures.known
 
 pub returns-clause-noted : goal.returns-clause-noted
 returns-clause-noted c =
-    on_ok c.count_rows.result (IsNotedBy (declares (plain_body c.args.fields.now)) c.push.new.self.items c.count_rows.new.notes.items)
-    (IsEntered c.args.fields c.args.which c.args.notes.now.items c.count_rows.new.notes.items)
-    (λ it. entered_more c.args.fields c.args.which c.args.notes.now.items c.push.new.self.items c.count_rows.new.notes.items c.in_ok-push.ensures.items it) c.count_rows.ensures.noted
+    let which = which_of c.args.which in
+    let body = plain_body c.args.fields.now in
+    let old = c.args.notes.now.items in
+    let mid = c.note_front.new.notes.items in
+    on_ok c.count_rows.result (IsNotedBy (declares body) mid c.count_rows.new.notes.items) (IsEntered which body old c.count_rows.new.notes.items)
+    (λ it. entered_more which body old mid c.count_rows.new.notes.items c.in_ok-note_front.ensures it) c.count_rows.ensures.noted

@@ -10,7 +10,7 @@ use Rattle.rz_layout.proofs.valued.any_later.Goals as goal
 
 pub returns-then-names_later : goal.returns-then-names_later
 returns-then-names_later c =
-    let rule : Term → Bool = names_later (met_in (known c.args.notes.now)) in
+    let rule : Term → Bool = names_later (met_in (known c.args.notes.now.items)) in
     let exprs = c.args.exprs.now in
     let behind = drop (c.loop-expr.expr-index + 1) exprs in
     let found : List (Bor Expr) → Bool = λ all. list_any rule (map (λ expr. term_of expr.now) all) in
@@ -21,7 +21,7 @@ returns-then-names_later c =
 
 pub loop-expr-preserved : goal.loop-expr-preserved
 loop-expr-preserved c =
-    let rule : Term → Bool = names_later (met_in (known c.args.notes.now)) in
+    let rule : Term → Bool = names_later (met_in (known c.args.notes.now.items)) in
     let exprs = c.args.exprs.now in
     let behind = drop (c.loop-expr.expr-index + 1) exprs in
     let found : List (Bor Expr) → Bool = λ all. list_any rule (map (λ expr. term_of expr.now) all) in

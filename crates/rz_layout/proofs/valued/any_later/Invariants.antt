@@ -8,5 +8,5 @@ use Rattle.rz_layout.proofs.valued.any_later.Given as goal
 
 abbrev pub invariant-loop-expr : goal.invariant-loop-expr
 invariant-loop-expr l =
-    list_any (names_later (met_in (known l.notes))) (map (λ expr. term_of expr.now) (drop l.expr-index l.exprs))
-    ≡ list_any (names_later (met_in (known l.notes))) (map (λ expr. term_of expr.now) l.exprs)
+    list_any (names_later (met_in (known l.notes.items))) (map (λ expr. term_of expr.now) (drop l.expr-index l.exprs))
+    ≡ list_any (names_later (met_in (known l.notes.items))) (map (λ expr. term_of expr.now) l.exprs)

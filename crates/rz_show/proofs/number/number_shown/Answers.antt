@@ -1,5 +1,5 @@
-use Rattle.std.proofs.Common.{◌≡◌, ℕ, ◌≤◌, Bool, true, false, List, [], ◌∷◌, length, Some, sym, ap, subst, ◌∙◌}
-use Rattle.std.specs.Prelude.{if◌then◌else◌, nat_abs}
+use Rattle.std.proofs.Common.{◌≡◌, ℕ, ◌≤◌, Bool, true, false, List, [], ◌∷◌, length, Some, ap, subst, ◌∙◌}
+use Rattle.std.specs.Prelude.{if◌then◌else◌}
 use Rattle.std.specs.List.{AllByRecursion}
 use Rattle.rz_core.proofs.Tests.{by_test}
 use Rattle.rz_core.specs.declared.resource.Word.{Word}
@@ -24,7 +24,7 @@ short_name all width n (s ∷ symbols) name named is =
 
 pub is_hidden-requires : goal.is_hidden-requires
 is_hidden-requires c =
-    let symbols = c.as_slice.result.now in
+    let symbols = c.args.field.now.symbols in
     let short : length c.in-Some.name.now.bytes ≤ 255 =
-    short_name symbols (nat_abs c.args.field.now.width) c.args.number symbols c.in-Some.name.now (subst AreNamed (sym c.as_slice.ensures) c.requires.names) c.in-Some.ensures in
+    short_name symbols _ c.args.number symbols c.in-Some.name.now c.requires.names c.in-Some.ensures in
     rw c.as_slice-name.ensures short

@@ -10,9 +10,9 @@ returns c bytes file fork admits only skip short known spares text shows =
     let fits = c.admitted_forks_fit.ensures bytes file.0 fork admits in
     means_again
     (record {
-      rows = c.spelled_rows_are_rows.ensures;
+      rows = c.spelled_rows_are_rows.ensures.plainly;
       plain = c.plain_rows_are_spelled.ensures;
-      short = c.spelled_texts.ensures.short;
+      short = c.spelled_texts.ensures.plain_short;
       bytes = c.spelled_texts.ensures.bytes;
       printed = c.shown_text.ensures;
     })

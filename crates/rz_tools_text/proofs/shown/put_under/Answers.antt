@@ -11,7 +11,7 @@ use Rattle.rz_tools_text.proofs.shown.put_under.Goals as goal
 
 pub of_tree-requires-clause-is : goal.of_tree-requires-clause-is
 of_tree-requires-clause-is g c =
-    told_is_row c.spelled_rows_are_rows.ensures (known_of c.args.known.now) (lent c.args.view.now) (template_of c.args.template.now) (plain_body c.as_slice.result.now)
+    told_is_row c.spelled_rows_are_rows.ensures.plainly (known_of c.args.known.now) (lent c.args.view.now) (template_of c.args.template.now) (plain_body c.as_slice.result.now)
     c.in-Some.row c.as_slice-in-Some.result.now (ap plain_body c.as_slice.ensures ∙ c.body-fields.ensures.body) c.as_slice-in-Some.ensures
     (subst (Decided (TellsRow (known_of c.args.known.now) (lent c.args.view.now) (template_of c.args.template.now))) c.in-Some.is c.in_ok-row.ensures)
 

@@ -20,9 +20,9 @@ is_read-returns-in-Text-clause-passed t c =
 pub is_read-returns-in-Switch-clause-read : goal.is_read-returns-in-Switch-clause-read
 is_read-returns-in-Switch-clause-read t c =
     switch_read c.args.field.now c.are_cases_read.result (plain_body c.args.fields.now) c.args.notes.now.items c.are_cases_read.new.notes.items c.args.outermost (plain_body (drop 1 c.args.fields.now))
-    c.in-Switch.cases c.as_slice-in-Switch.result.now c.in-Switch.is c.as_slice-in-Switch.ensures c.are_cases_read.ensures.read
+    c.in-Switch.cases c.as_slice-in-Switch.result.now c.in-Switch._hints c.in-Switch.is c.as_slice-in-Switch.ensures c.are_cases_read.ensures.read
 
 pub is_read-returns-in-Switch-clause-passed : goal.is_read-returns-in-Switch-clause-passed
 is_read-returns-in-Switch-clause-passed t c =
-    switch_behind c.args.field.now c.are_cases_read.result (plain_body c.args.fields.now) c.args.notes.now.items c.are_cases_read.new.notes.items c.in-Switch.cases c.in-Switch.is
+    switch_behind c.args.field.now c.are_cases_read.result (plain_body c.args.fields.now) c.args.notes.now.items c.are_cases_read.new.notes.items c.in-Switch.cases c.in-Switch._hints c.in-Switch.is
     c.are_cases_read.ensures.notes

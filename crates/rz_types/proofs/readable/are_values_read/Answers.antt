@@ -1,4 +1,4 @@
-use Rattle.std.proofs.Common.{rules, ◌≡◌, Bool, true, List, drop, Some, sym, ◌∙◌}
+use Rattle.std.proofs.Common.{rules, ◌≡◌, true, List, drop, Some, sym, ◌∙◌}
 use Rattle.rz_expr.specs.Term.{term_of}
 use Rattle.rz_expr.specs.declared.expr.Expr.{Expr}
 use Rattle.rz_types_fields.specs.Field.{plain_body, PlainBody}

@@ -1,4 +1,4 @@
-use Rattle.std.proofs.Common.{◌≡◌, Bool, [], sym, ap, arith}
+use Rattle.std.proofs.Common.{◌≡◌, Bool, [], refl, sym, ap}
 use Rattle.std.specs.Prelude.{◌||◌, if◌then◌else◌}
 use Rattle.std.proofs.lemmas.List.{append-nil}
 use Rattle.rz_types_fields.specs.Field.{plain_body}
@@ -6,10 +6,10 @@ use Rattle.rz_types_fields.specs.RowLabels.{labels_count, row_value}
 use Rattle.rz_types_fields.proofs.RowKeys.{no_labels}
 use Rattle.rz_types_fields.proofs.names.note_rows.Goals as goal
 
-pub returns-else-labels_count-gt0 : goal.returns-else-labels_count-gt0
-returns-else-labels_count-gt0 c =
+pub returns-then-not-are_noted : goal.returns-then-not-are_noted
+returns-then-not-are_noted c =
     let row = plain_body c.args.row.now in
-    let none : labels_count row ≡ 0 = omega (arith, c.labels_count.ensures, c.if-labels_count-gt0.false) in
+    let none : labels_count row ≡ 0 = c.if-not-are_noted.ensures refl in
     record {
       more = [];
       grew = sym (append-nil c.args.notes.now.items);

@@ -2,7 +2,7 @@ use Rattle.std.proofs.Common.{◌≡◌, false, take}
 use Rattle.std.specs.List.{list_any}
 use Rattle.rz_types_table.specs.Listed.{listed}
 use Rattle.rz_types_table.specs.Table.{stands_at}
-use Rattle.rz_types_table.proofs.Placed.{at_positions}
+use Rattle.rz_types_fields.proofs.Positions.{at_positions}
 use Rattle.rz_types_table.proofs.find.index_of.Given as goal
 
 abbrev pub invariant-loop-index : goal.invariant-loop-index

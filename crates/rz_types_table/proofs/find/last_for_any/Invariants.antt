@@ -2,7 +2,7 @@ use Rattle.std.proofs.Common.{◌≡◌, take}
 use Rattle.std.specs.Prelude.{option_map}
 use Rattle.rz_types_table.specs.Listed.{declaration_of, listed}
 use Rattle.rz_types_table.specs.Table.{is_any, is_for, last_such}
-use Rattle.rz_types_table.proofs.Placed.{at_positions}
+use Rattle.rz_types_fields.proofs.Positions.{at_positions}
 use Rattle.rz_types_table.proofs.find.last_for_any.Given as goal
 
 abbrev pub invariant-loop-position : goal.invariant-loop-position

@@ -4,7 +4,8 @@ use Rattle.std.proofs.lemmas.Int.{to_z-of_z}
 use Rattle.rz_types_table.specs.Listed.{declaration_of, listed}
 use Rattle.rz_types_table.specs.Table.{is_for, is_id, last_such}
 use Rattle.rz_types_table.proofs.Groups.{not_for_id}
-use Rattle.rz_types_table.proofs.Placed.{at_positions, last_own, later_at, own_within}
+use Rattle.rz_types_fields.proofs.Positions.{at_positions}
+use Rattle.rz_types_table.proofs.Placed.{last_own, later_at, own_within}
 use Rattle.rz_types_table.proofs.find.last_for_id.Goals as goal
 
 pub bounds-slots-position : goal.bounds-slots-position

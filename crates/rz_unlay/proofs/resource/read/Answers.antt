@@ -1,4 +1,4 @@
-use Rattle.std.proofs.Common.{◌≤◌, true, length, Some, sym, ap, ◌∙◌, arith}
+use Rattle.std.proofs.Common.{◌≤◌, length, Some, sym, ap, ◌∙◌, arith}
 use Rattle.rz_types.specs.Template.{template_of}
 use Rattle.rz_unlay.specs.Cursor.{reading}
 use Rattle.rz_unlay.proofs.Tells.{every_told, none_told}
@@ -6,7 +6,7 @@ use Rattle.rz_unlay.proofs.resource.read.Goals as goal
 
 pub returns-then-bytes-gt-MOST_BYTES-clause-told : goal.returns-then-bytes-gt-MOST_BYTES-clause-told
 returns-then-bytes-gt-MOST_BYTES-clause-told c = λ row told.
-    let few : length c.args.bytes.now ≤ 16777212 = c.spelled_bytes_are_few.ensures true c.args.facts.now (template_of c.args.template.now) row c.args.bytes.now told.1 in
+    let few : length c.args.bytes.now ≤ 16777212 = c.spelled_bytes_are_few.ensures.plainly c.args.facts.now (template_of c.args.template.now) row c.args.bytes.now told.1 in
     let many = c.if-bytes-gt-MOST_BYTES.true in
     omega (arith, few, many)
 
@@ -24,7 +24,7 @@ pub returns-in-Some-clause-row : goal.returns-in-Some-clause-row
 returns-in-Some-clause-row c =
     let reads = sym c.is_readable.ensures ∙ c.if-not-is_readable.false in
     let few : length c.args.bytes.now ≤ 16777212 = (let not_many = c.if-bytes-gt-MOST_BYTES.false in omega (arith, not_many)) in
-    c.spelled_rows_are_rows.ensures true c.args.facts.now (template_of c.args.template.now) c.in-Some.row c.args.bytes.now
+    c.spelled_rows_are_rows.ensures.plainly c.args.facts.now (template_of c.args.template.now) c.in-Some.row c.args.bytes.now
     (c.read_rows_are_plain.ensures c.args.facts.now (template_of c.args.template.now) c.in-Some.row c.args.bytes.now c.body.ensures.shaped c.body.ensures.kept reads few
     (λ k. (c.type_inv.bytes k).fits)
     (sym (ap (λ body. reading c.args.facts.now body c.args.bytes.now) c.body.ensures.body) ∙ sym c.in_ok-row.ensures ∙ c.in-Some.is))

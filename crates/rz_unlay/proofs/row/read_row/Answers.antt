@@ -21,7 +21,8 @@ use Rattle.rz_unlay.proofs.row.read_row.Goals as goal
 pub read_body-requires-clause-fits : goal.read_body-requires-clause-fits
 read_body-requires-clause-fits c =
     subst (λ (fields : List Field). AreFit (plain_body fields)) (sym c.as_slice-fields.ensures)
-    (template_fits (plain_body c.args.body.now) c.requires.shaped (c.rules_hold_within.ensures (plain_body c.args.body.now) c.requires.kept))
+    (template_fits (plain_body c.args.body.now) c.requires.shaped (c.rules_hold_within.ensures (plain_body c.args.body.now) c.requires.kept)
+    (c.keys_stand_apart.ensures (plain_body c.args.body.now) c.requires.kept))
 
 -- what is read of a body, in the bits of the resource
 abbrev whole_found : Facts → PlainBody → List Bool → Option Found

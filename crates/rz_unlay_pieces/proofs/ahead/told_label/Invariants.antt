@@ -9,6 +9,6 @@ use Rattle.rz_unlay_pieces.proofs.ahead.told_label.Given as goal
 
 abbrev pub invariant-loop-field : goal.invariant-loop-field
 invariant-loop-field l = record {
-  read : told_behind l.len (known l.notes) l.width (plain_body (drop l.field-index l.rest)) ≡ option_map told_capped (told_label l.len (plain_body l.rest) (known l.notes));
+  read : told_behind l.len (known l.notes.items) l.width (plain_body (drop l.field-index l.rest)) ≡ option_map told_capped (told_label l.len (plain_body l.rest) (known l.notes.items));
   few : l.width ≤ 134217697;
 }

@@ -1,10 +1,8 @@
-use Rattle.std.proofs.Common.{rules, List, Some, w32, ap, ◌∙◌}
+use Rattle.std.proofs.Common.{rules, Some, w32, ap, ◌∙◌}
 use Rattle.std.proofs.lemmas.Int.{to_z-of_z}
 use Rattle.rz_expr.specs.Term.{term_of}
 use Rattle.rz_expr.specs.Unvalued.{fault_of}
 use Rattle.rz_types_fields.specs.Known.{met}
-use Rattle.rz_types_fields.specs.Sees.{names_later}
-use Rattle.rz_types_fields.specs.declared.names.Note.{Note}
 use Rattle.rz_unlay_pieces.specs.Seen.{sight_at}
 use Rattle.rz_unlay_pieces.proofs.Lateness.{late_named, late_unvalued, value_beside}
 use Rattle.rz_unlay_pieces.proofs.late.value_at.Goals as goal
@@ -17,7 +15,7 @@ returns-in-Ok-clause-value c =
 pub returns-in-Ok-clause-late : goal.returns-in-Ok-clause-late
 returns-in-Ok-clause-late c =
     late_named (met c.args.learnt.now.notes.items) c.args.learnt.now.marks c.args.at (sight_at c.args.spot.now c.args.learnt.now c.args.at) (term_of c.args.expr.now) c.in-Ok.value c.names_later.result c.in-Ok.ensures
-    (c.names_later.ensures ∙ ap (λ (ns : List Note). names_later (met ns) (term_of c.args.expr.now)) c.as_slice.ensures.value)
+    c.names_later.ensures
 
 pub returns-in-Some-clause-late : goal.returns-in-Some-clause-late
 returns-in-Some-clause-late c =

@@ -1,11 +1,9 @@
-use Rattle.std.proofs.Common.{rules, w32, ℤ, List, Option, Some, ap, ◌∙◌}
+use Rattle.std.proofs.Common.{rules, w32, ℤ, Option, Some, ap, ◌∙◌}
 use Rattle.std.specs.Prelude.{if◌then◌else◌}
 use Rattle.std.proofs.lemmas.Int.{to_z-of_z}
 use mir.Syntax.{w128}
 use Rattle.rz_expr.specs.Environment.{place_key}
-use Rattle.rz_types_fields.specs.Known.{known}
 use Rattle.rz_types_fields.specs.Solve.{is_same_key}
-use Rattle.rz_types_fields.specs.declared.names.Note.{Note}
 use Rattle.rz_unlay_pieces.specs.Pieces.{agrees}
 use Rattle.rz_unlay_pieces.proofs.Claims.{claims, met_now}
 use Rattle.rz_unlay_pieces.proofs.names.claim_place.Goals as goal
@@ -17,7 +15,7 @@ returns-in_ok-push-clause-known c =
     (λ other before. ap (λ (v : ℤ). if is_same_key (place_key c.args.name.now.bytes) other then Some v else before) same)
     (c.if-agrees.ensures
     ∙ ap (agrees c.value_noted.result) (to_z-of_z w128 c.from.result (search rules) ∙ c.from.ensures ∙ same)
-    ∙ ap (λ (o : Option ℤ). agrees o c.args.at) (c.value_noted.ensures ∙ ap (λ (ns : List Note). (known ns).give (place_key c.args.name.now.bytes)) c.as_slice.ensures.value))
+    ∙ ap (λ (o : Option ℤ). agrees o c.args.at) c.value_noted.ensures)
 
 pub returns-in_ok-push-clause-met : goal.returns-in_ok-push-clause-met
 returns-in_ok-push-clause-met c = λ holds. met_now c.args.learnt.now.notes.items _ _ c.in_ok-push.ensures.items

@@ -2,6 +2,7 @@ use Rattle.std.proofs.Common.{◌≡◌, codes, map, option_map, sym, ap, subst,
 use Rattle.std.specs.List.{AllByRecursion}
 use Rattle.rz_core.specs.declared.facts.Facts.{Facts}
 use Rattle.rz_types.specs.Field.{plain_body}
+use Rattle.rz_types.proofs.Cased.{names_apart}
 use Rattle.rz_show.specs.Height.{heights}
 use Rattle.rz_show.specs.Hidden.{hides, hides_in}
 use Rattle.rz_show.specs.Lines.{hidden_in, left, lines_left, IsOpen}
@@ -17,7 +18,8 @@ use Rattle.rz_show.proofs.lines.ShowLines.of_tree.Goals as goal
 pub of_row-list-requires : goal.of_row-list-requires
 of_row-list-requires c =
     let body = plain_body c.args.fields.now in
-    (kept_widths body c.requires.shaped (c.rules_hold_within.ensures body c.requires.kept), shaped_names body c.requires.shaped)
+    let kept = c.rules_hold_within.ensures body c.requires.kept in
+    (kept_widths body c.requires.shaped kept, shaped_names body c.requires.shaped, names_apart body kept)
 
 -- what the lines are
 are : (c : goal.After-new-rest) → lines_left c.new-rest.result ≡ row_lines (hides c.args.hidden.now) c.args.facts.now (plain_body c.args.fields.now) c.args.row.now

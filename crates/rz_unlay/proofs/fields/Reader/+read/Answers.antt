@@ -1,17 +1,18 @@
+use denote.Param.Weighed.{at_most}
 use Rattle.std.proofs.Common.{rules, inl, inr, ◌≡◌, ℕ, ℤ, ◌+◌, ◌-◌, ◌≤◌, ◌∷◌, [], true, false, length, drop, IfOk, IfSome, List, Option, Some, None, sym, ap, ◌∙◌, subst, arith}
 use Rattle.std.specs.Prelude.{option_and_then, option_map}
 use Rattle.std.proofs.lemmas.List.{length-append}
 use Rattle.rz_bits.specs.View.{seen}
 use Rattle.rz_types_fields.specs.declared.field.Field.{Field}
-use Rattle.rz_types_fields.specs.declared.field.Field.TheViews.{out-ArrayField}
-use Rattle.rz_types_fields.proofs.Bodies.{array_is, case_is}
+use Rattle.rz_types_fields.specs.declared.field.Field.TheViews.{out-ArrayField, size-Case}
+use Rattle.rz_types_fields.proofs.Bodies.{array_is}
 use Rattle.rz_types_fields.specs.declared.tree.Tree.{Tree}
 use Rattle.rz_types_fields.specs.declared.tree.Tree.TheVariants as trees
 use Rattle.rz_types_fields.specs.Spells.{values_in}
-use Rattle.rz_types.specs.Field.{plain_body, plain_field, PlainBody, PlainCase, PlainField}
-use Rattle.rz_unlay.specs.Came.{array_row, chosen, line_at, line_in, lines_in, row_at}
+use Rattle.rz_types.specs.Field.{plain_body, plain_case, plain_cases, plain_field, PlainBody, PlainField}
+use Rattle.rz_unlay.specs.Came.{array_row, line_at, line_in, lines_in, row_at}
 use Rattle.rz_unlay_pieces.specs.Came.{met_of, step_of}
-use Rattle.rz_unlay.specs.Cursor.{body_found, count_known, field_found, goes_on, has_keys, most_rows, rows_by, rows_until, until_of, ReadsRow}
+use Rattle.rz_unlay.specs.Cursor.{body_found, count_known, field_found, goes_on, most_rows, rows_by, rows_until, until_of, ReadsRow}
 use Rattle.rz_unlay_pieces.specs.Seen.{met_counted, met_in_rows}
 use Rattle.rz_unlay_pieces.specs.Pieces.{claim_count, Step}
 use Rattle.rz_types_fields.specs.Front.{names_inside}
@@ -26,11 +27,11 @@ use Rattle.rz_unlay.specs.Few.{found_count, line_count, lines_count, rows_count}
 use Rattle.rz_unlay_pieces.specs.Names.{told}
 use Rattle.rz_types_fields.specs.declared.names.Note.{Note}
 use Rattle.rz_unlay.proofs.FewValues.{count_rows, row_push, rows_push}
-use Rattle.rz_types.specs.Width.{case_keys}
 use Rattle.rz_unlay.specs.Rows.{pushed}
 use Rattle.rz_unlay_pieces.proofs.PieceSteps.{seen_length}
-use Rattle.rz_unlay.proofs.FieldSteps.{array_came, array_met, body_line, case_here, case_later, cases_fit, field_more, fields_over, fits_next, leaf_found, leaf_met, leaf_of, no_array, no_case, no_field, no_row, row_more, rows_ended, rows_out, spent_late, with_lines, with_row}
+use Rattle.rz_unlay.proofs.FieldSteps.{array_came, array_met, body_line, field_more, fields_over, fits_next, leaf_found, leaf_met, leaf_of, no_array, no_field, no_row, row_more, rows_ended, rows_out, spent_late, with_lines, with_row}
 use Rattle.rz_types_fields.proofs.Noting.{grew_more}
+use Rattle.rz_unlay.proofs.KeyedCases.{case_is_at, case_read, fit_at, no_case_read}
 use Rattle.rz_unlay.proofs.fields.Reader.+read.Goals as goal
 
 of_some : {A : Type 0} (o : Option A) (x : A) (P : Type 0) → o ≡ Some x → IfSome o (λ s. P) → P
@@ -184,7 +185,7 @@ read_array-returns-in-None-2-clause-step t c =
     let late = marked c.args.at old.marks in
     let row = row_at c.args.self.now.facts.now all a.name (plain_body a.row) (met old.notes.items) names in
     let ends : Some c.in-Some.until ≡ until_of (length all) rest names (count_known names a.name a.count) =
-    c.in-Some.ensures ∙ (λ i. until_of (length all) rest (known (c.as_slice-notes.ensures.value i)) (count_known (known (c.as_slice-notes.ensures.value i)) a.name a.count)) in
+    c.in-Some.ensures in
     no_array a.name (plain_body a.row) names (rows_by row (length all) rest names (count_known names a.name a.count) c.args.at late) c.args.left
     (ap (option_map (lines_in c.read_rows.new.learnt)) (sym c.in-None-2.is) ∙ c.in_ok-came.ensures.rows
     ∙ ap (few lines_count c.args.left) (ends_known row (length all) rest names (count_known names a.name a.count) c.in-Some.until c.args.at late ends))
@@ -202,7 +203,7 @@ read_array-returns-clause-step t c =
     let came = c.in-Some-2.came in
     let new = c.claim_count.new.learnt in
     let ends : Some c.in-Some.until ≡ until_of (length all) rest names (count_known names a.name a.count) =
-    c.in-Some.ensures ∙ (λ i. until_of (length all) rest (known (c.as_slice-notes.ensures.value i)) (count_known (known (c.as_slice-notes.ensures.value i)) a.name a.count)) in
+    c.in-Some.ensures in
     let told_more = c.in_ok-learn_rows.ensures.known ∙ (λ i. also_rows (plain_body (c.as_slice.ensures i)) (c.len-count.ensures i) came.places.items (known new.notes.items)) in
     let marks = c.in_ok-learn_rows.ensures.marks ∙ c.in-Ok-true.ensures.marks in
     (λ i. Some (record { value = Some (trees.Rows came.rows); after = came.after; names = told_more i; late = marked came.after (marks i) }))
@@ -230,37 +231,31 @@ read_array-returns-clause-met t c =
     ∙ array_met a.name a.count (plain_body a.row) (met old.notes.items)
     ∙ ap (λ (f : PlainField). met_behind f (met old.notes.items)) (sym (array_is c.args.array.now))
 
-pub read_case-returns-then-has_keys-clause-step : goal.read_case-returns-then-has_keys-clause-step
-read_case-returns-then-has_keys-clause-step t c =
+pub read_case-read_choice-requires : goal.read_case-read_choice-requires
+read_case-read_choice-requires t c =
+    let one = c.index-cases-position.result in
+    let deep = at_most size-Case c.args.cases.now c.in-Some.position one c.in-Some.ensures.within in
+    let same = ap size-Case c.index-cases-position.is in (
+      omega (arith, deep, same),
+      (fit_at c.args.cases.now c.in-Some.position one c.in-Some.ensures.within c.index-cases-position.is c.requires.fits, (c.requires.at, c.requires.marks)),
+    )
+
+pub read_case-returns-in-Some-clause-step : goal.read_case-returns-in-Some-clause-step
+read_case-returns-in-Some-clause-step t c =
     let all = seen c.args.self.now.view.now in
-    let now = c.loop-case.learnt in
-    let names = known now.notes.items in
-    let late = marked c.args.at now.marks in
-    let one = c.case-item.result in
+    let old = c.args.learnt.now in
+    let one = c.index-cases-position.result in
     subst (λ (o : Option Step). IfOk c.read_choice.result (λ found. option_map (met_of c.read_choice.new.learnt) found ≡ few step_count c.args.left o))
-    (ap (λ (p : PlainCase). chosen p.name names (line_at c.args.self.now.facts.now all None p.row (met now.notes.items) names c.args.at late)) (case_is one)
-    ∙ case_here c.args.self.now.facts.now all c.args.cases.now c.loop-case.case-index one (omega arith) c.case-item.is (met now.notes.items) names c.args.at late _
-    (sym (c.if-has_keys.ensures ∙ ap (λ (fs : List Field). has_keys all c.args.at (case_keys (plain_body fs))) c.as_slice.ensures)) c.loop-case.invariant.step)
+    (sym (case_read c.args.self.now.facts.now all (met old.notes.items) (known old.notes.items) c.args.at (marked c.args.at old.marks) (plain_cases c.args.cases.now) (plain_case one)
+    (c.in-Some.ensures.there ∙ case_is_at c.args.cases.now c.in-Some.position one c.in-Some.ensures.within c.index-cases-position.is)))
     c.read_choice.ensures.step
 
-pub read_case-loop-case-preserved : goal.read_case-loop-case-preserved
-read_case-loop-case-preserved t c =
-    let all = seen c.args.self.now.view.now in
-    let now = c.loop-case.learnt in
-    let one = c.case-item.result in
-    record {
-      step = case_later c.args.self.now.facts.now all c.args.cases.now c.loop-case.case-index one (omega arith) c.case-item.is (met now.notes.items) (known now.notes.items) c.args.at (marked c.args.at now.marks) _
-          (sym (c.if-has_keys.ensures ∙ ap (λ (fs : List Field). has_keys all c.args.at (case_keys (plain_body fs))) c.as_slice.ensures)) c.loop-case.invariant.step;
-      notes = c.loop-case.invariant.notes;
-      marks = c.loop-case.invariant.marks;
-      fits = (cases_fit c.args.cases.now c.loop-case.case-index one (omega arith) c.case-item.is c.loop-case.invariant.fits).1;
-    }
-
-pub read_case-returns-clause-step : goal.read_case-returns-clause-step
-read_case-returns-clause-step t c =
-    let now = c.loop-case.learnt in
+pub read_case-returns-in-None-clause-step : goal.read_case-returns-in-None-clause-step
+read_case-returns-in-None-clause-step t c =
+    let old = c.args.learnt.now in
     ap (few step_count c.args.left)
-    (no_case c.args.self.now.facts.now (seen c.args.self.now.view.now) c.args.cases.now c.loop-case.case-index (omega arith) (met now.notes.items) (known now.notes.items) c.args.at (marked c.args.at now.marks) _ c.loop-case.invariant.step)
+    (sym (no_case_read c.args.self.now.facts.now (seen c.args.self.now.view.now) (met old.notes.items) (known old.notes.items) c.args.at (marked c.args.at old.marks) (plain_cases c.args.cases.now)
+    c.in-None.ensures.there))
 
 pub read_field-returns-in-Some-clause-step : goal.read_field-returns-in-Some-clause-step
 read_field-returns-in-Some-clause-step t c =

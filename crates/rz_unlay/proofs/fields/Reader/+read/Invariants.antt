@@ -1,12 +1,12 @@
 use Rattle.std.proofs.Common.{◌≡◌, ◌+◌, ◌-◌, ◌≤◌, drop, length}
 use Rattle.rz_bits.specs.View.{seen}
 use Rattle.rz_types_fields.specs.Spells.{values_in}
-use Rattle.rz_types.specs.Field.{plain_body, plain_cases}
+use Rattle.rz_types.specs.Field.{plain_body}
 use Rattle.rz_unlay.specs.Came.{array_row}
-use Rattle.rz_unlay.specs.Cursor.{body_found, case_found, most_rows, rows_until}
+use Rattle.rz_unlay.specs.Cursor.{body_found, most_rows, rows_until}
 use Rattle.rz_unlay_pieces.specs.Few.{few}
 use Rattle.rz_unlay.specs.Few.{found_count, lines_count, rows_count}
-use Rattle.rz_unlay.specs.Fits.{AreFit, CasesFit}
+use Rattle.rz_unlay.specs.Fits.{AreFit}
 use Rattle.rz_types_fields.specs.Known.{known, met, Grew}
 use Rattle.rz_types_fields.specs.Sees.{marked}
 use Rattle.rz_unlay.proofs.FieldSteps.{with_lines, with_row}
@@ -34,13 +34,4 @@ invariant-read_rows-loop-turn l = record {
   within : l.so_far.after ≤ length (seen l.self.view.now);
   marks : length l.learnt.marks ≤ l.so_far.after;
   notes : l.learnt.notes.items ≡ l.fn.learnt.notes.items;
-}
-
-abbrev pub invariant-read_case-loop-case : goal.invariant-read_case-loop-case
-invariant-read_case-loop-case l = record {
-  step : case_found l.self.facts.now (seen l.self.view.now) (met l.learnt.notes.items) (plain_cases (drop l.case-index l.cases)) (known l.learnt.notes.items) l.at (marked l.at l.learnt.marks)
-      ≡ case_found l.self.facts.now (seen l.self.view.now) (met l.fn.learnt.notes.items) (plain_cases l.cases) (known l.fn.learnt.notes.items) l.at (marked l.at l.fn.learnt.marks);
-  notes : l.learnt.notes.items ≡ l.fn.learnt.notes.items;
-  marks : length l.learnt.marks ≤ l.at;
-  fits : CasesFit (plain_cases (drop l.case-index l.cases));
 }
