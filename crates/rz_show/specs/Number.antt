@@ -1,6 +1,6 @@
 -- Numbers of rows as they are shown. (As MPW DeRez shows them.)
 pub use Rattle.rz_types_fields.specs.Symbols.{is_stored, symbol_for}
-use Rattle.std.specs.Prelude.{ℕ, ◌+◌, ◌/◌, ◌%◌, ◌==◌, ◌||◌, ℤ, pos, nat_abs, Bool, true, false, if◌then◌else◌, codes, List, [], ◌∷◌, Option, Some, None}
+use Rattle.std.specs.Prelude.{ℕ, ◌+◌, ◌/◌, ◌%◌, ◌==◌, ◌||◌, pos, nat_abs, Bool, true, false, if◌then◌else◌, codes, List, [], ◌∷◌, Option, Some, None}
 use Rattle.rz_core.specs.Numbers.{be}
 use Rattle.rz_core.specs.declared.resource.Word.{Word}
 use Rattle.rz_types_fields.specs.declared.field.NumForm.{NumForm}

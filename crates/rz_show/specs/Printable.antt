@@ -1,5 +1,5 @@
 -- What holds of fields, rows and items whose lines are cut back into the tokens that are meant.
-use Rattle.std.specs.Prelude.{◌≡◌, ℕ, ◌≤◌, ◌≤ℤ◌, ℤ, pos, Bool, true, false, codes, List, Option}
+use Rattle.std.specs.Prelude.{◌≡◌, ℕ, ◌≤ℤ◌, ℤ, pos, Bool, false, codes, List, Option}
 use Rattle.std.specs.List.{AllByRecursion}
 use Rattle.rz_lex.specs.Printed.{AreBytes}
 use Rattle.rz_types_fields.specs.declared.tree.Tree.{Tree}

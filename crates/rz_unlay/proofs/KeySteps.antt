@@ -154,10 +154,11 @@ found_no_rows (Some bits) total is = ap Some (omega (arith, some_is (0 * bits) t
 capped_times : (n a : ℕ) → capped (n * capped a) ≡ capped (n * a)
 capped_times n a = grind (arith)
 
-pub found_rows : (count : ℤ) (exact found : Option ℕ) → IsFound exact found → IsFound (rows_width (Some count) exact) (option_map (λ (bits : ℕ). capped (nat_abs count * bits)) found)
-found_rows count None found is total same = absurd cc
-found_rows count (Some own) found is total same =
-    ap (option_map (λ (bits : ℕ). capped (nat_abs count * bits))) (is own refl)
+pub found_rows : (count : Option ℤ) (exact found : Option ℕ) → IsFound exact found → IsFound (rows_width count exact) (option_map capped (rows_width count found))
+found_rows None exact found is total same = absurd cc
+found_rows (Some count) None found is total same = absurd cc
+found_rows (Some count) (Some own) found is total same =
+    ap (λ (width : Option ℕ). option_map capped (rows_width (Some count) width)) (is own refl)
     ∙ ap Some (capped_times (nat_abs count) own ∙ ap capped (some_is (nat_abs count * own) total same))
 
 -- the widths of the first fields are found, where those of all are known

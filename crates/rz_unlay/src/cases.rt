@@ -1,6 +1,6 @@
 //! The case whose key stands at a place, and whether the key of a case stands there. It is defined in `specs/Cursor`.
 
-ghost use Rattle.std.specs.Prelude.{◌≡◌, ◌<◌, ◌≤◌, ◌*◌, length, nat_abs, slice_get, IfSome, Some, option_and_then, option_map};
+ghost use Rattle.std.specs.Prelude.{◌≡◌, ◌<◌, ◌≤◌, length, nat_abs, pos, slice_get, true, IfSome, Some, option_and_then, option_map};
 ghost use Rattle.rz_bits.specs.View.{seen};
 ghost use Rattle.rz_types.specs.Field.{plain_body, plain_case, plain_cases, plain_field, plain_number};
 ghost use Rattle.rz_types.specs.Width.{capped, case_keys, field_key, fixed_width, fixed_widths, number_key, plus, rows_width};
@@ -148,11 +148,18 @@ fn width_before(field: &Field) -> Option<u64>
 fn rows_before(count: Option<i32>, row: &[Field]) -> Option<u64>
     ensures { IsFound (rows_width count (fixed_widths (plain_body row.now))) result }
 {
-    match count {
-        Some(0) => Some(0),
-        Some(count) => times(count, widths_before(row)),
-        None => None,
+    if has_no_rows(count) {
+        Some(0)
+    } else {
+        rows_width(count, widths_before(row))
     }
+}
+
+/// Whether it is stated that there are no rows.
+fn has_no_rows(count: Option<i32>) -> bool
+    ensures { result ≡ true → count ≡ Some (pos 0) }
+{
+    matches!(count, Some(0))
 }
 
 /// The width of these fields, where that is the same in every row.
@@ -167,17 +174,17 @@ fn widths_before(row: &[Field]) -> Option<u64>
     width
 }
 
-/// So many times this width, where it is known; at most one more than a resource can have.
-fn times(count: i32, width: Option<u64>) -> Option<u64>
-    ensures { result ≡ option_map (λ bits. capped (nat_abs count * bits)) width }
+/// The width of as many rows as are stated, each of this width; at most one more than a resource can have.
+fn rows_width(count: Option<i32>, width: Option<u64>) -> Option<u64>
+    ensures { result ≡ option_map capped (rows_width count width) }
 {
-    match width {
-        Some(bits) => Some(
+    match (count, width) {
+        (Some(count), Some(bits)) => Some(
             u64::from(count.unsigned_abs())
                 .saturating_mul(bits)
                 .min(MOST_BITS),
         ),
-        None => None,
+        _ => None,
     }
 }
 

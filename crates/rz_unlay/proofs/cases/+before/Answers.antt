@@ -1,11 +1,11 @@
-use Rattle.std.proofs.Common.{◌∙◌, ℤ, sym, subst, List, Option, Some}
+use Rattle.std.proofs.Common.{◌∙◌, ℕ, ℤ, sym, subst, List, Option, Some}
 use Rattle.rz_types_fields.proofs.Bodies.{array_is}
 use Rattle.rz_types_fields.specs.declared.field.Field.{Field}
 use Rattle.rz_types_fields.specs.declared.field.Field.TheViews.{out-ArrayField}
 use Rattle.rz_types.specs.Field.{plain_body, plain_field, PlainField}
 use Rattle.rz_types.specs.Width.{fixed_width, fixed_widths, rows_width}
 use Rattle.rz_unlay.specs.Fits.{IsFound}
-use Rattle.rz_unlay.proofs.KeySteps.{found_exact, found_first, found_last, found_more, found_rows}
+use Rattle.rz_unlay.proofs.KeySteps.{found_exact, found_first, found_last, found_more, found_no_rows, found_rows}
 use Rattle.rz_unlay.proofs.LeafSteps.{array_field}
 use Rattle.rz_unlay.proofs.cases.+before.Goals as goal
 
@@ -18,11 +18,15 @@ width_before-returns-in-Array t c =
 pub width_before-returns-in_default : goal.width_before-returns-in_default
 width_before-returns-in_default t c = found_exact (fixed_width (plain_field c.args.field.now)) c.fixed_width.result c.fixed_width.ensures
 
-pub rows_before-returns-in-Some : goal.rows_before-returns-in-Some
-rows_before-returns-in-Some t c =
+pub rows_before-returns-then-has_no_rows : goal.rows_before-returns-then-has_no_rows
+rows_before-returns-then-has_no_rows t c =
     let exact = fixed_widths (plain_body c.args.row.now) in
-    subst (λ (count : Option ℤ). IsFound (rows_width count exact) c.times.result) (sym c.in-Some.is)
-    (subst (IsFound (rows_width (Some c.in-Some.count) exact)) (sym c.times.ensures) (found_rows c.in-Some.count exact c.widths_before.result c.widths_before.ensures))
+    subst (λ (count : Option ℤ). IsFound (rows_width count exact) (Some 0)) (sym (c.has_no_rows.ensures c.if-has_no_rows.true)) (found_no_rows exact)
+
+pub rows_before-returns-else-has_no_rows : goal.rows_before-returns-else-has_no_rows
+rows_before-returns-else-has_no_rows t c =
+    let exact = fixed_widths (plain_body c.args.row.now) in
+    subst (λ (width : Option ℕ). IsFound (rows_width c.args.count exact) width) (sym c.rows_width.ensures) (found_rows c.args.count exact c.widths_before.result c.widths_before.ensures)
 
 pub widths_before-loop-field-init : goal.widths_before-loop-field-init
 widths_before-loop-field-init t c = found_first c.args.row.now
