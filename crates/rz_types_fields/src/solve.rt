@@ -84,7 +84,11 @@ fn undoes_one(op: UnaryOp) -> bool
 fn undoes_left(op: BinaryOp) -> bool
     ensures { result ≡ undoes_left op }
 {
-    undoes_right(op) || matches!(op, BinaryOp::Divide | BinaryOp::ShiftLeft | BinaryOp::ShiftRight)
+    undoes_right(op)
+        || matches!(
+            op,
+            BinaryOp::Divide | BinaryOp::ShiftLeft | BinaryOp::ShiftRight
+        )
 }
 
 fn undoes_right(op: BinaryOp) -> bool
