@@ -2,7 +2,7 @@ use Rattle.std.proofs.Common.{◌≡◌, drop}
 use Rattle.std.specs.Prelude.{option_map}
 use Rattle.rz_types_fields.specs.Field.{plain_body}
 use Rattle.rz_types_fields.specs.Width.{capped, fixed_widths, plus}
-use Rattle.rz_types_fields.proofs.keys.+width.Given as goal
+use Rattle.rz_types_fields.proofs.width.+width.Given as goal
 
 abbrev pub invariant-fixed_widths-loop-field : goal.invariant-fixed_widths-loop-field
 invariant-fixed_widths-loop-field l = record {
