@@ -202,7 +202,7 @@ module _ {F E : Type 0} (g : Ghosts F) (name other : CommandName) (items : List 
 
 -- That of words.
 
-position_of : Outcome → ℕ
+abbrev position_of : Outcome → ℕ
 position_of (Usage fault) = fault.position
 position_of other = 0
 
