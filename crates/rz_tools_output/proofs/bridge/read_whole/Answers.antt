@@ -71,5 +71,5 @@ returns g c =
     present_then g.F.Folder asked.file (IsRead asked) (rw c.as_str-name.ensures.value at c.in_ok-bytes.ensures)
     (finds_as g.F.Folder (Ok c.in_ok-file_in.field-0)
     (finds_then g.F.Folder (IsBeside form header) (IsIn asked bytes) c.in_ok-data_file.ensures
-    (finds_this g.F.Folder (file_in None asked.from bytes c.in_ok-data_file.data_file) {Good = IsShort} c.in_ok-file_in.field-0 c.in_ok-file_in.ensures.file c.in_ok-file_in.ensures.res_fork))
+    (finds_this g.F.Folder (file_in None asked.from bytes c.in_ok-data_file.data_file) {Good = IsShort} c.in_ok-file_in.field-0 c.in_ok-file_in.ensures.file c.in_ok-file_in.ensures.res_fork.1))
     (held_so asked bytes form (c.form_or-form.ensures ∙ ap (form_or asked.from) c.as_slice.ensures) header c.as_str-name.ensures.value))

@@ -1,8 +1,9 @@
-use Rattle.std.proofs.Common.{ℕ, List, [], Option, None, Ok, refl, sym, ap, subst, ◌∙◌}
+use Rattle.std.proofs.Common.{ℕ, List, [], Option, None, Ok, Err, refl, sym, ap, subst, ◌∙◌}
 use Rattle.std.specs.declared.result.Result.{Result}
 use Rattle.std.specs.Prelude.{◌≡◌}
 use Rattle.rz_bridge.specs.declared.file.MacFile.{MacFile}
 use Rattle.rz_bridge_files.specs.Contents.{file_in}
+use Rattle.rz_core.specs.Stop.{Gives}
 use Rattle.rz_core.specs.declared.fault.Fault.{Fault}
 use Rattle.rz_det.specs.Text.{breaks_text}
 use Rattle.rz_folder.proofs.Finding.{binds, finds_as, finds_none, finds_stop, finds_then, finds_this, stops_so}
@@ -37,7 +38,7 @@ returns-in_err-file g c =
     present_then g.F.Folder asked.file (Breaks asked) (rw c.as_str.ensures.value at c.in_ok-bytes.ensures)
     (finds_as g.F.Folder result
     (finds_stop g.F.Folder (IsIn asked c.in_ok-bytes.bytes) IsText {GoodX = λ file. Unit {0}} result c.from_residual-in_err-file.ensures.1
-    (stops_so g.F.Folder (file_in None asked.from c.in_ok-bytes.bytes []) c.in_err-file.field-0.0 (rw c.new.ensures at c.in_err-file.ensures.file)
+    (stops_so g.F.Folder (file_in None asked.from c.in_ok-bytes.bytes []) c.in_err-file.field-0.0 (subst (λ (d : List ℕ). Gives {X = MacFile} (file_in None asked.from c.in_ok-bytes.bytes d) (Err c.in_err-file.field-0.0)) c.new.ensures c.in_err-file.ensures.file)
     (unplaced MacFile MacFile c.in_err-file.field-0.0 (λ files. c.in_err-file.ensures.nameable files tt))))
     (λ files answer is. binds (file_in None asked.from c.in_ok-bytes.bytes []) (λ file. Ok (breaks_text file.res_fork)) answer is))
 
@@ -54,7 +55,7 @@ returns g c =
     present_then g.F.Folder asked.file (Breaks asked) (rw c.as_str.ensures.value at c.in_ok-bytes.ensures)
     (finds_as g.F.Folder (Ok c.in_ok-breaks_text.field-0)
     (finds_then g.F.Folder (IsIn asked c.in_ok-bytes.bytes) IsText {GoodX = λ file. Unit {0}}
-    (finds_this g.F.Folder (file_in None asked.from c.in_ok-bytes.bytes []) file (rw c.new.ensures at c.in_ok-file.ensures.file) tt)
+    (finds_this g.F.Folder (file_in None asked.from c.in_ok-bytes.bytes []) file (subst (λ (d : List ℕ). file_in None asked.from c.in_ok-bytes.bytes d ≡ Ok file) c.new.ensures c.in_ok-file.ensures.file) tt)
     (finds_this g.F.Folder (Ok (breaks_text file.res_fork)) c.in_ok-breaks_text.field-0
     (ap (λ (text : List ℕ). Ok text) (ap breaks_text (sym c.as_slice.ensures) ∙ sym c.in_ok-breaks_text.ensures)) tt))
     (λ files answer is. binds (file_in None asked.from c.in_ok-bytes.bytes []) (λ file. Ok (breaks_text file.res_fork)) answer is))

@@ -1,4 +1,4 @@
 use Rattle.rz_tools_tmpl.proofs.templates.templates_in.Goals as goal
 
-pub returns-in-Err-clause-nameable : goal.returns-in-Err-clause-nameable
-returns-in-Err-clause-nameable c files = c.in-Err.ensures.nameable files tt
+pub returns-clause-nameable : goal.returns-clause-nameable
+returns-clause-nameable c files = c.in-Err.ensures.nameable files tt
