@@ -13,8 +13,8 @@ use Rattle.rz_core.proofs.Stops.{then_halts, then_yields, halt_so}
 use Rattle.rz_tools_values.proofs.Behind.{meets_yields}
 use Rattle.rz_tools_resource.proofs.resource.bytes_read.Goals as goal
 
-pub returns-in_ok-bytes_under-clause-bytes : goal.returns-in_ok-bytes_under-clause-bytes
-returns-in_ok-bytes_under-clause-bytes g c = IfSome_then (g.F.Folder.files c.args.folder.now) c.in_ok-items.ensures.read (λ files yields.
+pub returns-clause-bytes : goal.returns-clause-bytes
+returns-clause-bytes g c = IfSome_then (g.F.Folder.files c.args.folder.now) c.in_ok-items.ensures.read (λ files yields.
     then_yields (λ answer. answer ≡ items_read c.args.around.paths.now files c.args.around.mark c.args.known.now (plain_items c.args.items))
     (λ items. AreItemBytes c.args.around.mark c.args.known.now items (template_of c.args.template.now)) (plain_items c.in_ok-items.items) yields
     (Ok c.in_ok-bytes_under.field-0) c.in_ok-bytes_under.ensures.bytes)
