@@ -59,9 +59,22 @@ pub fn include_resources<F: Folder>(
     ensures nameable { (files : ℕ) → around.entry.mark.file < files → OnRefusal result (IsNameable files) }
     ensures reads { OnlyReads F.Folder folder.old folder.new (IsReadFault result) }
 {
-    let file = file_of_name(alloc, folder, around.paths, stmt.file.as_slice(), around.mark)?;
+    let file = file_of_name(
+        alloc,
+        folder,
+        around.paths,
+        stmt.file.as_slice(),
+        around.mark,
+    )?;
     let fork = file.res_fork.as_slice();
-    halted(include_fork(alloc, fork, &stmt.part, around.mark, around.setting, resources))
+    halted(include_fork(
+        alloc,
+        fork,
+        &stmt.part,
+        around.mark,
+        around.setting,
+        resources,
+    ))
 }
 
 /// Puts the resources that a part means of the fork in these bytes into the list. No other is copied.

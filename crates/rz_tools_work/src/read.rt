@@ -57,7 +57,14 @@ fn resource_read<F: Folder>(
     ensures reads { OnlyReads F.Folder folder.old folder.new (IsReadFault result) }
 {
     let known = facts_of(alloc, stmt.kind, &stmt.head, around.mark, around.setting)?;
-    with_file(alloc, folder, around.paths, known, stmt.file.as_slice(), around.mark)
+    with_file(
+        alloc,
+        folder,
+        around.paths,
+        known,
+        stmt.file.as_slice(),
+        around.mark,
+    )
 }
 
 /// The resource of which this is known, with the contents of a file.
