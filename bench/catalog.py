@@ -20,7 +20,7 @@ import tempfile
 
 sys.path.insert(0, os.path.join(os.path.dirname(os.path.abspath(__file__)), "..", "tools"))
 from derez import TYPE, lists_text  # noqa: E402
-from fork import fork_of  # noqa: E402
+from model.fork import fork_of  # noqa: E402
 from forks import MB, TIME, peak_in, seconds_of_children  # noqa: E402
 
 RUNS = 7

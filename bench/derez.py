@@ -30,8 +30,8 @@ import tempfile
 import time
 
 sys.path.insert(0, os.path.join(os.path.dirname(os.path.abspath(__file__)), "..", "tools"))
-from fork import fork_of  # noqa: E402
-from fork_shapes import each, held, laid, reference  # noqa: E402
+from model.fork import fork_of  # noqa: E402
+from model.fork_shapes import each, held, laid, reference  # noqa: E402
 from forks import ADDRESSES, MB, TIME, limits_of, peak_in, seconds_of_children  # noqa: E402
 
 RUNS = 7

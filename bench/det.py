@@ -13,10 +13,11 @@ codes       1,024 to 8,192 types of one code, without references
 types       the same of different codes, each of which is compared with those before it
 far         one reference to data that lie outside, behind a data area of 16 MB
 
-Each fork is told twenty times. Counted are the least seconds of the processor, without those that a fork of no bytes takes, and
-the most memory. The text is compared byte by byte with that of tools/breaks.py. The status is 1 where it differs, where eight
-times as much takes more than sixteen times the time, but for types of different codes, where a fork takes more than 0.2
-seconds, or where more memory is taken than the fork, its text twice, and 8 MB. Memory is told by `/usr/bin/time -v`.
+Each fork is told twenty times. Counted are the least seconds of the processor, without those that a fork of no bytes
+takes, and the most memory. The text is compared byte by byte with that of tools/model/breaks.py. The status is 1
+where it differs, where eight times as much takes more than sixteen times the time, but for types of different codes,
+where a fork takes more than 0.2 seconds, or where more memory is taken than the fork, its text twice, and 8 MB.
+Memory is told by `/usr/bin/time -v`.
 """
 import os
 import subprocess
@@ -26,8 +27,8 @@ import tempfile
 from forks import MB, TIME, peak_in, seconds_of_children
 
 sys.path.insert(0, os.path.join(os.path.dirname(os.path.abspath(__file__)), "..", "tools"))
-from breaks import breaks, text_of  # noqa: E402
-from fork_shapes import each, held, laid, reference  # noqa: E402
+from model.breaks import breaks, text_of  # noqa: E402
+from model.fork_shapes import each, held, laid, reference  # noqa: E402
 
 RUNS = 20
 MOST_GROWTH, MOST_SECONDS = 16.0, 0.2

@@ -29,8 +29,8 @@ import sys
 import tempfile
 
 sys.path.insert(0, os.path.join(os.path.dirname(os.path.abspath(__file__)), "..", "tools"))
-from fork import fork_of  # noqa: E402
-from fork_shapes import each, held, laid, reference  # noqa: E402
+from model.fork import fork_of  # noqa: E402
+from model.fork_shapes import each, held, laid, reference  # noqa: E402
 
 MB = 1_000_000
 RUNS = 3

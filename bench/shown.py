@@ -26,7 +26,7 @@ import tempfile
 import time
 
 sys.path.insert(0, os.path.join(os.path.dirname(os.path.abspath(__file__)), "..", "tools"))
-from fork import fork_of  # noqa: E402
+from model.fork import fork_of  # noqa: E402
 
 MB = 1_000_000
 RUNS = 5

@@ -11,7 +11,7 @@ scopes      one type declared for n ids, each for itself, and a resource of the 
 labels      one type of n labels with a byte after each, and a resource of it
 choices     one type with a switch of n cases, and a resource of the last one
 included    n statements that each include one of 16,384 small resources
-labels      a type of n labels, each with a number that is the place of one of them, and a resource of it
+named       a type of n labels, each with a number that is the place of one of them, and a resource of it
 weightless  `derez` of n/4 rows, each with an array of no rows before the key of a case; its row has n fields
 cases       `derez` of n rows, each of another case of a switch of n cases
 symbols     `derez` of ten numbers 1 under n/2 symbols with the value 0 and n/2 of the same names with the value 1
@@ -29,8 +29,8 @@ import sys
 import tempfile
 
 sys.path.insert(0, os.path.join(os.path.dirname(os.path.abspath(__file__)), "..", "tools"))
-from fork import fork_of  # noqa: E402
-from fork_shapes import each, held, laid, reference  # noqa: E402
+from model.fork import fork_of  # noqa: E402
+from model.fork_shapes import each, held, laid, reference  # noqa: E402
 from forks import ADDRESSES, MB, SECONDS, TIME, limits_of, peak_in, seconds_of_children  # noqa: E402
 
 RUNS = 3
@@ -101,11 +101,11 @@ def included(count):
     return {"T": fork, **files}, words, made, wanted
 
 
-def labels(count):
-    named = [number * 7_919 % count for number in range(count)]
-    fields = "".join("L%d: longint = L%d;\n" % one for one in enumerate(named))
+def named(count):
+    places = [number * 7_919 % count for number in range(count)]
+    fields = "".join("L%d: longint = L%d;\n" % one for one in enumerate(places))
     source = "type 'Many' {\n%s};\nresource 'Many' (1) {};\n" % fields
-    return compiled(source, [(b"Many", 1, b"", 0, b"".join((32 * one).to_bytes(4, "big") for one in named))])
+    return compiled(source, [(b"Many", 1, b"", 0, b"".join((32 * one).to_bytes(4, "big") for one in places))])
 
 
 def weightless(count):
@@ -141,7 +141,7 @@ KINDS = {
     "labels": (labels, 5_000, 0.5, 48 * MB),
     "choices": (choices, 5_000, 0.5, 48 * MB),
     "included": (included, 500, 0.5, 16 * MB),
-    "labels": (labels, 5_000, 0.5, 64 * MB),
+    "named": (named, 5_000, 0.5, 64 * MB),
     "weightless": (weightless, 5_000, 0.2, 32 * MB),
     "cases": (cases, 2_500, 1.0, 32 * MB),
     "symbols": (symbols, 2_000, 0.1, 32 * MB),

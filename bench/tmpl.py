@@ -31,7 +31,7 @@ import tempfile
 from forks import MB, TIME, peak_in, seconds_of_children
 
 sys.path.insert(0, os.path.join(os.path.dirname(os.path.abspath(__file__)), "..", "tools"))
-from fork import fork_of  # noqa: E402
+from model.fork import fork_of  # noqa: E402
 
 RUNS = 5
 MOST_GROWTH = 16.0

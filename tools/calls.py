@@ -1,14 +1,14 @@
 #!/usr/bin/env python3
 """Writes docs/CALLS.md: what each public call promises, and where the definitions stand.
 
-    python3 tools/calls.py            writes docs/CALLS.md
-    python3 tools/calls.py --check    says whether docs/CALLS.md is what would be written now
+    python3 tools/calls.py            writes docs/CALLS.md, which the repository doesn't keep
+    python3 tools/calls.py --check    writes nothing, and says whether the page can be written
 
-Of each library of crates.txt but those of tests it lists, from the sources alone: the first sentence of the crate; each
-public type that contracts see as something else, or that has invariants; each public call with its parameters, the first
-sentence of its comment, and its clauses with the definitions that they cite; its laws likewise; and its definitions,
-first those that the contract of `run` rests on. The status is 1 if `--check` finds a difference, or if a definition that
-a clause cites doesn't stand where its `ghost use` says; else it is 0.
+Of each library of crates.txt but those of tests it lists, from the sources alone: the first sentence of the crate;
+each public type that contracts see as something else, or that has invariants; each public call with its parameters,
+the first sentence of its comment, and its clauses with the definitions that they cite; its laws likewise; and its
+definitions, first those that the contract of `run` rests on. The status is 1 if a definition that a clause cites
+doesn't stand where its `ghost use` says; else it is 0.
 """
 import os
 import re
@@ -25,7 +25,7 @@ LAW = "A law, with nothing to run: "
 
 HEAD = """# What each call promises
 
-`tools/calls.py` makes this page from the sources, and the gate compares it with them. It has a section for each library \
+`tools/calls.py` makes this page from the sources. It has a section for each library \
 that ships, lowest first; programs and crates of tests have no public calls. [PROOFS.md](PROOFS.md) says what the whole \
 promises.
 
@@ -374,14 +374,11 @@ def main():
     beneath = beneath_run()
     contents = ", ".join("[%s](#%s)" % (crate, crate) for crate in libraries())
     page = HEAD % (len(beneath), contents) + "\n\n".join(section(crate, beneath) for crate in libraries()) + "\n"
-    if sys.argv[1:] == ["--check"]:
-        same = os.path.exists(TARGET) and text_of(TARGET) == page
-        print("%s is %s" % (TARGET, "as its script writes it" if same else "NOT as its script writes it: run tools/calls.py"))
-        sys.exit(0 if same else 1)
-    if sys.argv[1:]:
+    if sys.argv[1:] not in ([], ["--check"]):
         sys.exit(__doc__)
-    with open(TARGET, "w", encoding="utf-8") as file:
-        file.write(page)
+    if not sys.argv[1:]:
+        with open(TARGET, "w", encoding="utf-8") as file:
+            file.write(page)
     print("%s: %d bytes" % (TARGET, len(page.encode("utf-8"))))
 
 

@@ -5,18 +5,18 @@
     python3 tools/catalog.py carry OLD TRANSLATED NEW     the translation of an old version, for a new one
     python3 tools/catalog.py same OLD TRANSLATED          the entries that aren't translated yet
 
-The catalogue goes to standard output, in UTF-8 after the mark without which `restring` reads Mac Roman. OLD and NEW are
-what `strings` says of both versions, and TRANSLATED has the texts for OLD. A text is carried only if the text that it
-stands for is the same in both versions, at the same place, or else at just one place of the same resource in each; what
-isn't carried is told on standard error, and stays as it is in the new version. Nothing here is proved: `restring` checks
-what it is given.
+The catalogue goes to standard output, in UTF-8 after the mark without which `restring` reads Mac Roman. OLD and NEW
+are what `strings` says of both versions, and TRANSLATED has the texts for OLD. A text is carried only if the text
+that it stands for is the same in both versions, at the same place, or else at just one place of the same resource in
+each; what isn't carried is told on standard error, and stays as it is in the new version. Nothing here is proved:
+`restring` checks what it is given.
 """
 import sys
 
-from catalogues import entries_of, message, roman_text, tokens_of_catalogue
-from forms import Refused
-from lists import key_text
-from shown import pieces
+from model.catalogues import entries_of, message, roman_text, tokens_of_catalogue
+from model.faults import Refused
+from model.lists import key_text
+from model.shown import pieces
 
 
 def entries_in(name):

@@ -23,7 +23,7 @@ SYNTAX = os.path.join(CRATES, "rz_tools_args", "src", "syntax.rt")
 OPTION = re.compile(r"(-[a-z]+)(?: ([A-Z]+))?")
 ALONE = {"--help": "writes this help", "--version": "writes the version"}
 # The examples of the man page, for each kind of user: what they do, and their commands, with TYPES for the folder of the
-# type files. tools/tour.py runs them.
+# type files. tools/check/tour.py runs them.
 EXAMPLES = (
     ("Compile a source, show the fork as text, and compile the text after it was edited",
      ("rezkit rez App.r -i TYPES -o App.rsrc", "rezkit derez App.rsrc TYPES/Types.r > App.txt",

@@ -32,8 +32,8 @@ import subprocess
 import sys
 import tempfile
 
-from casefile import admitted, image
-from forms import Refused
+from model.faults import Refused
+from model.fork import admitted, image
 from running import program_to_run
 
 TOP = os.path.dirname(os.path.dirname(os.path.realpath(__file__)))

@@ -4,5 +4,6 @@ import sys
 
 sys.dont_write_bytecode = True
 HERE = os.path.dirname(os.path.abspath(__file__))
-for folder in (HERE, os.path.dirname(HERE), os.path.join(HERE, "..", "..", "tools")):
+TOOLS = os.path.join(HERE, "..", "..", "tools")
+for folder in (HERE, os.path.dirname(HERE), TOOLS, os.path.join(TOOLS, "check")):
     sys.path.insert(0, os.path.abspath(folder))

@@ -3,7 +3,7 @@ such resources that are damaged by chance."""
 import random
 import struct
 
-from fork import fork_of
+from model.fork import fork_of
 from helpers import some_bytes
 
 

@@ -1,14 +1,15 @@
 """What the tests of the workbench share: how its programs are run, and files that are made by a second writer.
 
-The files come from tools/fork.py and tools/forms.py, which write what docs/FORMATS.md says and know nothing of rezkit.
+The files come from tools/model/fork.py and tools/model/forms.py, which write what docs/FORMATS.md says and know
+nothing of rezkit.
 """
 import os
 import random
 import resource
 import subprocess
 
-from fork import fork_of
-from forms import File
+from model.fork import fork_of
+from model.forms import File
 from rezkit_workbench import program
 
 WORKBENCH = os.path.abspath(os.path.join(os.path.dirname(os.path.abspath(__file__)), ".."))
@@ -102,7 +103,7 @@ def mutated(chance, data):
 
 def mutants(seed, count):
     """Files that are damaged by chance, of all forms."""
-    from forms import double, hqx, macbin, single
+    from model.forms import double, hqx, macbin, single
     chance = random.Random(seed)
     forms = [lambda file: file.res, double, single, macbin, hqx]
     for number in range(count):

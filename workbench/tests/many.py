@@ -21,8 +21,8 @@ HERE = os.path.dirname(os.path.abspath(__file__))
 for folder in (HERE, os.path.dirname(HERE), os.path.join(HERE, "..", "..", "tools")):
     sys.path.insert(0, os.path.abspath(folder))
 
-from fork import fork_of  # noqa: E402
-from forms import double, hqx, macbin, single  # noqa: E402
+from model.fork import fork_of  # noqa: E402
+from model.forms import double, hqx, macbin, single  # noqa: E402
 from helpers import MEMORY, SECONDS, WHOLE, mutants, some_bytes  # noqa: E402
 from rezkit_workbench import command, ls, po, program, salvage  # noqa: E402
 

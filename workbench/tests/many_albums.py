@@ -25,7 +25,7 @@ HERE = os.path.dirname(os.path.abspath(__file__))
 for place in (HERE, os.path.dirname(HERE), os.path.join(HERE, "..", "..", "tools")):
     sys.path.insert(0, os.path.abspath(place))
 
-from fork import fork_of  # noqa: E402
+from model.fork import fork_of  # noqa: E402
 from helpers import MEMORY, SECONDS, names_in, read  # noqa: E402
 from pages import Page  # noqa: E402
 from rezkit_workbench import command, dialogs, draw, look, menus, program  # noqa: E402

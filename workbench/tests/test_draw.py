@@ -12,8 +12,8 @@ from xml.etree import ElementTree
 
 import pytest
 from dialog_makers import alrt, cntl, ditl, dlog, forks, item, mbar, menu
-from fork import fork_of
-from forms import double, hqx, macbin, single
+from model.fork import fork_of
+from model.forms import double, hqx, macbin, single
 from helpers import MEMORY, SECONDS, WHOLE, mutants, names_in, read, rezkit, run, write
 from rezkit_workbench import command, draw
 

@@ -2,7 +2,7 @@
 import os
 
 import pytest
-from forms import double, hqx, macbin, single
+from model.forms import double, hqx, macbin, single
 from helpers import FORK, TWO, WHOLE, write
 from rezkit_workbench import facts
 from rezkit_workbench.errors import Refused

@@ -3,7 +3,7 @@ import json
 import struct
 
 import pytest
-from forms import hqx, macbin
+from model.forms import hqx, macbin
 from helpers import FORK, WHOLE, run, write
 
 

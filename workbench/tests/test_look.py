@@ -9,8 +9,8 @@ import tracemalloc
 import wave
 
 import pytest
-from fork import fork_of
-from forms import double, hqx, macbin, single
+from model.fork import fork_of
+from model.forms import double, hqx, macbin, single
 from helpers import MEMORY, WHOLE, WORKBENCH, names_in, read, rezkit, run, write
 from pages import Page
 

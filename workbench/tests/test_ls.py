@@ -9,8 +9,8 @@ import signal
 import subprocess
 import time
 
-from fork import fork_of
-from forms import double, hqx, macbin, single
+from model.fork import fork_of
+from model.forms import double, hqx, macbin, single
 from helpers import FORK, MEMORY, SECONDS, TOP, TYPES, WHOLE, WORKBENCH, mutants, names_in, read, rezkit, run, some_resources, write
 
 PNG = b"\x89PNG\r\n\x1A\n\0\0\0\rIHDR"

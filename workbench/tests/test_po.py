@@ -5,8 +5,8 @@ import re
 import subprocess
 
 import pytest
-from fork import fork_of
-from forms import File, double, hqx, macbin, read_form, single
+from model.fork import fork_of
+from model.forms import File, double, hqx, macbin, read_form, single
 from helpers import FORK, MEMORY, SECONDS, TYPES, WHOLE, names_in, read, rezkit, run, write
 from rezkit_workbench import catalogue
 

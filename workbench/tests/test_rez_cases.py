@@ -3,10 +3,9 @@ import glob
 import os
 import random
 
-import case_reader
 import run_cases
+from model.case_reader import read_cases
 from rez_running import TOP, run
-
 
 
 def some_cases():
@@ -17,7 +16,7 @@ def some_cases():
             parts = file.read().split("\ncase ")
         for part in parts[1:]:
             if chance.random() < 1 / 40 and ("\nwords rez " in part or "\nwords derez " in part):
-                case = case_reader.read_cases("case " + part + "\n")[0]
+                case = read_cases("case " + part + "\n")[0]
                 if case.status != 1 and not case.wrong and not run_cases.apart(case):
                     yield case
 

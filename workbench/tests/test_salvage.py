@@ -3,9 +3,8 @@ import os
 import struct
 
 import pytest
-from casefile import image
-from fork import fork_of
-from forms import double, hqx, macbin, single
+from model.fork import fork_of, image
+from model.forms import double, hqx, macbin, single
 from helpers import MEMORY, SECONDS, TYPES, WHOLE, mutants, names_in, read, rezkit, run, write
 from rezkit_workbench import facts, guess, program, salvage
 

@@ -75,8 +75,8 @@ impl BitBuf {
         Ok(())
     }
 
-    /// Appends a bit so many times, 32 at once. Where memory is refused those that were appended stay, and the others are
-    /// left. Its time is in proportion to the count.
+    /// Appends a bit so many times, 32 at once. Where memory is refused those that were appended stay, and the others
+    /// are left. Its time is in proportion to the count.
     pub fn push_many(&mut self, bit: bool, count: u32) -> Result<(), NoMemory>
         requires room { length self.old + count < 2 ^ 31 }
         ensures ok { OnOk result (self.new ≡ self.old ++ replicate count bit) }
@@ -116,8 +116,8 @@ impl BitBuf {
         Some(number_in(&self.bytes, place, width))
     }
 
-    /// Whether one of so many bits from a place on, counted from 0, is set; after the last bit none is. It looks at five
-    /// bytes at most.
+    /// Whether one of so many bits from a place on, counted from 0, is set; after the last bit none is. It looks at
+    /// five bytes at most.
     pub fn any(&self, place: u32, width: u8) -> bool
         requires { width ≤ 32 }
         ensures { result ≡ list_any (λ bit. bit) (take width (drop place self.now)) }

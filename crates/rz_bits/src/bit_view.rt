@@ -47,8 +47,8 @@ impl<'a> BitView<'a> {
         self.place
     }
 
-    /// The number in the next so many bits, the highest bit first; the place then stands after them. `None` exactly where
-    /// so many bits are not left, and then the view is unchanged. It looks at five bytes at most.
+    /// The number in the next so many bits, the highest bit first; the place then stands after them. `None` exactly
+    /// where so many bits are not left, and then the view is unchanged. It looks at five bytes at most.
     #[tactic(auto, using(crate::proofs::Windows::bits_length))]
     pub fn take(&mut self, width: u8) -> Option<u32>
         requires { width ≤ 32 }
@@ -63,8 +63,8 @@ impl<'a> BitView<'a> {
         Some(number)
     }
 
-    /// The number in so many bits, the highest bit first, where `ahead` bits are between the place and them. `None` exactly
-    /// where so many bits are not there. The place stays. It looks at five bytes at most.
+    /// The number in so many bits, the highest bit first, where `ahead` bits are between the place and them. `None`
+    /// exactly where so many bits are not there. The place stays. It looks at five bytes at most.
     #[tactic(auto, using(crate::proofs::Windows::bits_length))]
     pub fn peek(&self, ahead: u32, width: u8) -> Option<u32>
         requires { width ≤ 32 }

@@ -97,8 +97,8 @@ macbin_torn bytes = first_of (
 unfoldable pub around : List ℕ → List ℕ
 around two = replicate 8 0 ++ two ++ replicate 6 0
 
--- the last 16 bytes of the Finder's fields: where "mBIN" stands at 102 the form is of version III and has two of them at
--- 106, else all are zeros
+-- the last 16 bytes of the Finder's fields: where "mBIN" stands at 102 the form is of version III and has two of them
+-- at 106, else all are zeros
 unfoldable pub macbin_extra : List ℕ → List ℕ
 macbin_extra bytes = if number 4 bytes 102 == 1833060686 then around (piece bytes 106 2) else replicate 16 0
 
@@ -150,8 +150,8 @@ unfoldable pub macbin_lengths : MacFile → List ℕ
 macbin_lengths file =
     be 4 (length file.data_fork) ++ be 4 (length file.res_fork) ++ be 4 file.created ++ be 4 file.modified ++ be 2 0
 
--- bytes 101 to 123: the low byte of the flags, "mBIN", the script and further flags, 12 zeros, the length of a secondary
--- header, which is 0, and the versions: III, and II, which a reader must know
+-- bytes 101 to 123: the low byte of the flags, "mBIN", the script and further flags, 12 zeros, the length of a
+-- secondary header, which is 0, and the versions: III, and II, which a reader must know
 unfoldable pub macbin_versions : MacFile → List ℕ
 macbin_versions file =
     (file.finder.flags % 256) ∷ [] ++ be 4 1833060686 ++ piece file.finder.extra 8 2 ++ replicate 12 0 ++ be 2 0

@@ -41,10 +41,10 @@ const LONGEST_NAME: usize = 255;
 
 /// The file of an AppleDouble header file and the data file beside it: the name, cut to 255 bytes, the Finder's fields,
 /// the dates, and both forks. The first entry of an id counts, entries of other ids pass unread, also that of a data
-/// fork, and an absent entry is empty. Fewer than 32 bytes of Finder info are filled with zeros, and more are cut. Fewer
-/// than 8 bytes of dates have none. A date that is absent, is stored as 80000000 or lies after the last second that 32
-/// bits count from 1904 on is 0. The lock is off. An entry without bytes may have any offset. The header has fewer than
-/// 2^32 bytes.
+/// fork, and an absent entry is empty. Fewer than 32 bytes of Finder info are filled with zeros, and more are cut.
+/// Fewer than 8 bytes of dates have none. A date that is absent, is stored as 80000000 or lies after the last second
+/// that 32 bits count from 1904 on is 0. The lock is off. An entry without bytes may have any offset. The header has
+/// fewer than 2^32 bytes.
 ///
 /// Refused with the header's first broken rule, in the order 421, 422, 427, 423 (see [`BridgeFault`]). (RFC 1740.)
 pub fn double_read(

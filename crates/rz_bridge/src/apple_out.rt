@@ -48,8 +48,8 @@ pub fn double_write(alloc: Global, file: &MacFile) -> Result<Bytes, Stop<BridgeF
     write_apple(alloc, AppleForm::Double, file)
 }
 
-/// The one AppleSingle of a file: the entries of the name, where it isn't empty, of the dates, of the Finder's fields, of
-/// the data fork and of the resource fork, and their bytes after them, each as [`double_write`] writes it.
+/// The one AppleSingle of a file: the entries of the name, where it isn't empty, of the dates, of the Finder's fields,
+/// of the data fork and of the resource fork, and their bytes after them, each as [`double_write`] writes it.
 /// [`single_read`](crate::single_read) gives the file again, with its name cut to 255 bytes, with 0 for dates before
 /// 882,045,953, and without its lock. The time is linear in both forks.
 ///

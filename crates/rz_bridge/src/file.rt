@@ -19,8 +19,8 @@ pub struct Finder {
     pub horizontal: i16,
     /// The number of the window or folder.
     pub folder: i16,
-    /// The 16 bytes after these fields. AppleDouble and AppleSingle carry them; MacBinary carries the bytes 8 and 9, the
-    /// script and further flags.
+    /// The 16 bytes after these fields. AppleDouble and AppleSingle carry them; MacBinary carries the bytes 8 and 9,
+    /// the script and further flags.
     pub extra: [u8; 16],
 }
 

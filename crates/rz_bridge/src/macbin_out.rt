@@ -26,10 +26,10 @@ const VERSION: u8 = 130;
 /// The version that a reader must know, that of MacBinary II.
 const LEAST_VERSION: u8 = 129;
 
-/// The one MacBinary III of a file, which readers of MacBinary II can read too: without a secondary header and without a
-/// comment, both forks filled with zeros to a multiple of 128 bytes. [`macbin_read`](crate::macbin_read) of it gives the
-/// file again, with zeros in the last 16 bytes of the Finder's fields but for the bytes 8 and 9. The time is linear in
-/// the forks.
+/// The one MacBinary III of a file, which readers of MacBinary II can read too: without a secondary header and without
+/// a comment, both forks filled with zeros to a multiple of 128 bytes. [`macbin_read`](crate::macbin_read) of it gives
+/// the file again, with zeros in the last 16 bytes of the Finder's fields but for the bytes 8 and 9. The time is linear
+/// in the forks.
 ///
 /// Refused with 425 where the name doesn't have 1 to 63 bytes, and then with 428 where a fork has more than 33,554,432
 /// bytes, the data fork first; each keeps the length in bytes. (MacBinary III.)

@@ -57,7 +57,8 @@ pub fn forks_refused(file: &MacFile) -> Option<BridgeFault>
     fork_too_long(&file.res_fork)
 }
 
-/// Why a file can't be written in another form: a bad name, and then a fork that is too long; none for every other file.
+/// Why a file can't be written in another form: a bad name, and then a fork that is too long; none for every other
+/// file.
 #[tactic(auto, unfolding(crate::specs::Faults::file_refused))]
 pub fn file_refused(file: &MacFile) -> Option<BridgeFault>
     ensures rule { result ≡ file_refused file.now }

@@ -40,8 +40,8 @@ pub fn every_file_is_named()
     one_text();
 }
 
-/// A law, with nothing to run: the fork of a list of resources is found to be raw, whatever the resources, the attributes
-/// and the reserved bytes are: it begins with two zero bytes, and all bytes that do are found to be raw.
+/// A law, with nothing to run: the fork of a list of resources is found to be raw, whatever the resources, the
+/// attributes and the reserved bytes are: it begins with two zero bytes, and all bytes that do are found to be raw.
 pub fn forks_are_found_raw()
     ensures zeros { (bytes : List ℕ) → form_of (0 ∷ 0 ∷ bytes) ≡ Raw }
     ensures fork { (list : List Resource) (attributes : ℕ) (reserved : List ℕ) → form_of (image list attributes reserved) ≡ Raw }

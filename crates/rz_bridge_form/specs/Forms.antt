@@ -23,7 +23,8 @@ double_magic = 0 ∷ 5 ∷ 22 ∷ 7 ∷ []
 abbrev pub single_magic : List ℕ
 single_magic = 0 ∷ 5 ∷ 22 ∷ 0 ∷ []
 
--- a header of MacBinary: a name of 1 to 63 bytes, the bytes 74 and 82 zero, and the versions at 122 and 123 at least 129
+-- a header of MacBinary: a name of 1 to 63 bytes, the bytes 74 and 82 zero, and the versions at 122 and 123 at least
+-- 129
 abbrev pub is_header : List ℕ → Bool
 is_header bytes =
     nat_le 1 (number 1 bytes 1) && nat_le (number 1 bytes 1) 63 && (number 1 bytes 74 == 0) && (number 1 bytes 82 == 0)

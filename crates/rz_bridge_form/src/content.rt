@@ -20,8 +20,8 @@ const UNKNOWN: OsType = OsType { code: 0x3F3F_3F3F };
 /// The file of bytes in a form, and of the data file beside them, which AppleDouble alone has. A raw file has an empty
 /// name, type and creator `????`, no data fork, and all other fields zero. There are fewer than 2^32 bytes.
 ///
-/// Refused as by the form's own reader: [`double_read`], [`single_read`], [`macbin_read`] and [`hqx_read`]; a raw file is
-/// never refused.
+/// Refused as by the form's own reader: [`double_read`], [`single_read`], [`macbin_read`] and [`hqx_read`]; a raw file
+/// is never refused.
 pub fn read_form(
     alloc: Global,
     form: Form,

@@ -8,8 +8,8 @@ ghost use Rattle.rz_bridge_form.specs.DataFile.{IsDataFile, IsDataName};
 use rz_core::NoMemory;
 use std::alloc::Global;
 
-/// The name of the file that holds the data fork beside a header file of AppleDouble: `dir/n` beside `dir/._n` where `n`
-/// isn't empty, and beside any other header file its name and `.data`.
+/// The name of the file that holds the data fork beside a header file of AppleDouble: `dir/n` beside `dir/._n` where
+/// `n` isn't empty, and beside any other header file its name and `.data`.
 pub fn data_file_name(alloc: Global, header: &str) -> Result<String, NoMemory>
     ensures { IfOk result (λ name. IsDataFile header.now (string_bytes name)) }
 {

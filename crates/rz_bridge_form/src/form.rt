@@ -30,8 +30,8 @@ const SINGLE_MAGIC: &[u8] = &[0x00, 0x05, 0x16, 0x00];
 const HEADER_LENGTH: usize = 128;
 
 /// The form of a file's bytes. No bytes are raw; the first four bytes 00051607 are AppleDouble, and 00051600 are
-/// AppleSingle; another first byte than 00 is BinHex; at least 128 bytes with byte 1 from 1 to 63, bytes 74 and 82 zero,
-/// and bytes 122 and 123 at least 129 are MacBinary; all else is raw. It takes no memory.
+/// AppleSingle; another first byte than 00 is BinHex; at least 128 bytes with byte 1 from 1 to 63, bytes 74 and 82
+/// zero, and bytes 122 and 123 at least 129 are MacBinary; all else is raw. It takes no memory.
 pub fn form_of(bytes: &[u8]) -> Form
     ensures { result ≡ form_of bytes.now }
 {

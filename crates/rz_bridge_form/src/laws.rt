@@ -13,8 +13,8 @@ ghost use Rattle.rz_bridge_form.specs.Forms.{double_magic, single_magic, form_of
 ghost use Rattle.rz_bridge_form.specs.declared.form.Form.TheVariants.{AppleDouble, AppleSingle, MacBinary, BinHex};
 
 /// A law, with nothing to run: what is written in AppleDouble, AppleSingle and BinHex is found to be in that form. What
-/// the reader of MacBinary takes is found to be MacBinary, unless it begins as AppleDouble or AppleSingle does, as a name
-/// of 5 bytes can make it.
+/// the reader of MacBinary takes is found to be MacBinary, unless it begins as AppleDouble or AppleSingle does, as a
+/// name of 5 bytes can make it.
 pub fn written_forms_are_found()
     ensures double { (file : MacFile) → form_of (apple_image Double file) ≡ AppleDouble }
     ensures single { (file : MacFile) → form_of (apple_image Single file) ≡ AppleSingle }

@@ -17,16 +17,16 @@ pub fn one_list_of_entries()
     ensures { (tokens : List Token) (one other : Result (List Entry) Fault) → AreEntries tokens one → AreEntries tokens other → one ≡ other }
 {}
 
-/// A law, with nothing to run: of all tokens it is decided whether they are entries: they are a list of entries, or have a
-/// fault.
+/// A law, with nothing to run: of all tokens it is decided whether they are entries: they are a list of entries, or
+/// have a fault.
 pub fn every_list_of_entries()
     ensures { (tokens : List Token) → (answer : Result (List Entry) Fault) × AreEntries tokens answer }
 {
     one_sign();
 }
 
-/// A law, with nothing to run: of tokens whose marks are of one of so many files, the fault can be told, and the marks of
-/// the entries are of one of these files.
+/// A law, with nothing to run: of tokens whose marks are of one of so many files, the fault can be told, and the marks
+/// of the entries are of one of these files.
 pub fn entries_are_in_files()
     ensures fault { (files : ℕ) (tokens : List Token) (fault : Fault) → AllByRecursion (λ token. token.mark.file < files) tokens
         → AreEntries tokens (Err fault) → IsNameable files fault }

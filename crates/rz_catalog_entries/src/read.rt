@@ -23,9 +23,9 @@ struct Front<'a> {
     texts: &'a [Token],
 }
 
-/// The entries that the tokens are, in order. Each is a literal of four bytes, the type; the id, a number, after a minus
-/// sign or none; the place of the text, a number; one text token or more, which are joined; and `;`. It has the mark of its
-/// first token, and lines play no part. Time and memory are linear in the tokens.
+/// The entries that the tokens are, in order. Each is a literal of four bytes, the type; the id, a number, after a
+/// minus sign or none; the place of the text, a number; one text token or more, which are joined; and `;`. It has the
+/// mark of its first token, and lines play no part. Time and memory are linear in the tokens.
 ///
 /// Refused is the first entry that has another form, or whose id isn't from -32768 to 32767: 461 BadEntry, at its first
 /// token. Tokens after the last `;` are an entry, too.

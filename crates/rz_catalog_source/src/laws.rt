@@ -19,7 +19,8 @@ pub fn one_list_of_a_source()
     one_list_of_entries();
 }
 
-/// A law, with nothing to run: each file has entries or a first fault; [`one_list_of_a_source`] says that it has no other.
+/// A law, with nothing to run: each file has entries or a first fault; [`one_list_of_a_source`] says that it has no
+/// other.
 pub fn every_source_has_entries()
     ensures { (file : ℕ) (source : List ℕ) → (answer : Result (List Entry) Fault) × HasEntries file source answer }
 {

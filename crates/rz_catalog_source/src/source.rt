@@ -12,11 +12,12 @@ use rz_lex::lex;
 use rz_pre::text_of;
 use std::alloc::Global;
 
-/// The entries of the file of a catalogue, which stands at this position of the list of files. Its bytes are Mac Roman, or
-/// UTF-8 after the mark EF BB BF; its text is cut into tokens as a source is, without directives, and these are entries.
+/// The entries of the file of a catalogue, which stands at this position of the list of files. Its bytes are Mac Roman,
+/// or UTF-8 after the mark EF BB BF; its text is cut into tokens as a source is, without directives, and these are
+/// entries.
 ///
-/// Refused is the first fault: 102 for what has no place in Mac Roman, then those of tokens (107 to 111, 113, 115), then 461
-/// for what is no entry, each with a mark in this file. (MPW Rez.)
+/// Refused is the first fault: 102 for what has no place in Mac Roman, then those of tokens (107 to 111, 113, 115),
+/// then 461 for what is no entry, each with a mark in this file. (MPW Rez.)
 pub fn entries_in(alloc: Global, source: Bytes, file: u64) -> Result<Entries, Stop<Fault>>
     requires { length source < 2 ^ 32 }
     ensures entries { Meets result (HasEntries file source) }

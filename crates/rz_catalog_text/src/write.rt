@@ -11,8 +11,8 @@ const PIECE: usize = 64;
 
 /// Appends an entry: a line with the type as a literal, the id and the place of the text, with a blank between; and the
 /// text in pieces of 64 bytes, each between `"` on a line of its own after four blanks, with `;` after the last one.
-/// Bytes outside of 20 to 7E are written as `\0x` and two hex digits. An empty text is one piece. Where memory is refused
-/// `into` is unchanged.
+/// Bytes outside of 20 to 7E are written as `\0x` and two hex digits. An empty text is one piece. Where memory is
+/// refused `into` is unchanged.
 pub fn write_entry(entry: &Entry, into: &mut Bytes) -> Result<(), NoMemory>
     ensures ok { OnOk result (into.new ≡ into.old ++ entries_text (entry.now ∷ [])) }
     ensures err { OnErr result (into.new ≡ into.old) }

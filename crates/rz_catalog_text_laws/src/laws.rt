@@ -11,8 +11,8 @@ ghost use Rattle.rz_catalog_text_laws.specs.Back.{AreReadBack};
 use rz_lex::lines_of_page;
 use rz_show_lines_laws::{printed_line, printed_page};
 
-/// A law, with nothing to run: the text of entries is lines that are cut into tokens, wherever it stands, and tokens like
-/// these, whatever lines they stand on, are the same entries, but for their marks.
+/// A law, with nothing to run: the text of entries is lines that are cut into tokens, wherever it stands, and tokens
+/// like these, whatever lines they stand on, are the same entries, but for their marks.
 pub fn written_entries_are_read()
     ensures { (entries : List Entry) → AllByRecursion IsStored entries → AreReadBack entries }
 {
@@ -21,8 +21,8 @@ pub fn written_entries_are_read()
     printed_page();
 }
 
-/// A law, with nothing to run: a file that has the text of entries has the same entries, but for their marks, at whatever
-/// position of the list of files it stands.
+/// A law, with nothing to run: a file that has the text of entries has the same entries, but for their marks, at
+/// whatever position of the list of files it stands.
 pub fn written_catalogues_are_read()
     ensures { (entries : List Entry) → AllByRecursion IsStored entries → (file : ℕ)
         → (back : List Entry) × HasEntries file (entries_text entries) (Ok back) × (map unmarked back ≡ map unmarked entries) }

@@ -1,4 +1,5 @@
--- Of a list it is decided whether one of its cuts is of a kind, and which is the longest, where it is decided of each cut.
+-- Of a list it is decided whether one of its cuts is of a kind, and which is the longest, where it is decided of each
+-- cut.
 use Rattle.std.proofs.Common.{◌≡◌, ◌≢◌, ◌⊎◌, inl, inr, Bool, true, false, ℕ, suc, ◌≤◌, List, [], ◌∷◌, ◌++◌, length, length-append, Option, Some, None, refl, sym, ap, subst, arith}
 use Rattle.std.proofs.Math.Decide.{map_dec}
 use Rattle.rz_core.proofs.Tests.{none_some, true_false}

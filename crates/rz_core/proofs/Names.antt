@@ -1,5 +1,5 @@
--- Each number of the table of faults has a name: a test of the numbers below 465. So there is a line for each fault that
--- refuses.
+-- Each number of the table of faults has a name: a test of the numbers below 465. So there is a line for each fault
+-- that refuses.
 use Rattle.std.proofs.Common.{◌≡◌, ℕ, ◌<◌, Bool, true, false, ◌||◌, not, List, Option, Some, None, refl, arith}
 use Rattle.std.specs.Prelude.{◌==◌, IsSome}
 use Rattle.std.specs.Option.{is_some, option_copied}

@@ -1,5 +1,5 @@
--- Chains: lists, or what is like a list, of an item and a chain, or empty. They are made one item after the other, with what
--- was made so far before those that follow.
+-- Chains: lists, or what is like a list, of an item and a chain, or empty. They are made one item after the other, with
+-- what was made so far before those that follow.
 use Rattle.std.proofs.Common.{◌≡◌, List, [], ◌∷◌, ◌++◌, Ok, Err, refl, sym, ap, ◌∙◌}
 use Rattle.std.specs.declared.result.Result.{Result}
 use Rattle.rz_core.specs.Stop.{◌>>=◌, Gives}

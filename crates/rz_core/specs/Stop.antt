@@ -1,5 +1,5 @@
--- What a call gives, against what it is to answer. Where memory was refused or a file could not be read, nothing is said
--- of the answer.
+-- What a call gives, against what it is to answer. Where memory was refused or a file could not be read, nothing is
+-- said of the answer.
 use Rattle.std.specs.Prelude.{◌≡◌, Ok, Err}
 use Rattle.std.specs.declared.result.Result.{Result}
 use Rattle.rz_core.specs.declared.stop.Halt.{Halt}

@@ -105,8 +105,8 @@ fn append_kept(kept: &Kept, line: &mut Bytes) -> Result<(), NoMemory>
     Ok(())
 }
 
-/// The name that messages give the fault of a number, as `MissingFile` for 101; it is `None` exactly for a number that is no
-/// fault's. It takes no memory.
+/// The name that messages give the fault of a number, as `MissingFile` for 101; it is `None` exactly for a number that
+/// is no fault's. It takes no memory.
 pub fn fault_name(number: u16) -> Option<&'static str>
     ensures { option_copied result ≡ fault_name number }
 {

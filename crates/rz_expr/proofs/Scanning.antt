@@ -326,8 +326,8 @@ at_most : (op : BinaryOp) → level_of op ≤ loosest
 at_most two.Times = omega arith
 at_most _ = omega arith
 
--- tokens after an operand that complete an expression begin with an operator, and complete one after it, or else after a
--- label with an index
+-- tokens after an operand that complete an expression begin with an operator, and complete one after it, or else after
+-- a label with an index
 operates : (a : After) (label : Bool) (t : Token) (ts : List Token) → after_of t.shape ≡ a → gone a label ts [] ≡ true
     → ((op : BinaryOp) × (after_of t.shape ≡ Operates op) × (wants ts [] ≡ true)) ⊎ ((label ≡ true) × (after_of t.shape ≡ Indexes) × (wants ts (InIndex ∷ []) ≡ true))
 operates (Operates op) label t ts is h = inl (op, is, h)

@@ -3,9 +3,9 @@ use Rattle.std.specs.Prelude.{◌≡◌, ℕ, ℤ, pos, codes, if◌then◌else�
 use Rattle.std.specs.Str.{str_eq_ignore_ascii_case, str_to_ascii_lowercase}
 use Rattle.rz_words.specs.declared.words.FactWord.{FactWord}
 
--- What can have a value: a name by itself, as a label, and an array by the number of its rows; a label in the rows of an array
--- by the number of these rows, and by its place in one of them, which are counted from 1; and an array by the number of the
--- row around. Names are the same in whatever case.
+-- What can have a value: a name by itself, as a label, and an array by the number of its rows; a label in the rows of
+-- an array by the number of these rows, and by its place in one of them, which are counted from 1; and an array by the
+-- number of the row around. Names are the same in whatever case.
 pub data Key : Type 0 where
   place_of : List ℕ → Key
   count_of : List ℕ → Key

@@ -10,8 +10,8 @@ use Rattle.rz_words.specs.declared.words.Function.TheVariants.{CountOf, ArrayInd
 use Rattle.rz_expr.specs.Grammar.{Start, Operand, Label, Prefix, Bracket, Calls, NoStart, After, Operates, Closes, Separates, Indexes, EndsIndex, start_of, after_of, level_of, argument, closes, separates, Derives, operand, labelled, indexed, prefixed, grouped, counted, numbered, data_at, bits_at, tighter, binary}
 use Rattle.rz_expr.specs.Term.{Term}
 
--- one answer of each kind: with an operand read, which is a label or none, an operand wanted, an operand wanted in a bracket,
--- a function's name
+-- one answer of each kind: with an operand read, which is a label or none, an operand wanted, an operand wanted in a
+-- bracket, a function's name
 abbrev pub started : Start → (Bool → Bool) → Bool → Bool → (Function → Bool) → Bool
 started (Operand e) have want bracket call = have false
 started (Label name) have want bracket call = have true
@@ -54,8 +54,8 @@ abbrev pub nothing_open : List Frame → Bool
 nothing_open [] = true
 nothing_open (frame ∷ frames) = false
 
--- the tokens complete an expression inside these frames: where an operand is wanted; after one, which is a label by itself
--- or not; and after a function
+-- the tokens complete an expression inside these frames: where an operand is wanted; after one, which is a label by
+-- itself or not; and after a function
 abbrev mutual
   pub wants : List Token → List Frame → Bool
   wants [] frames = false

@@ -100,8 +100,8 @@ IsUnknown (Err (UnknownName name)) = Unit {0}
 IsUnknown other = ⊥
 
 -- the value, or the first fault: the left operand's, else the right operand's, else the operator's; of bits the name's,
--- else the start's, else the width's, else that of bits that aren't there; of an indexed label the index's, else that of a
--- label whose rows aren't known, else that of an index that is none of them
+-- else the start's, else the width's, else that of bits that aren't there; of an indexed label the index's, else that
+-- of a label whose rows aren't known, else that of an index that is none of them
 abbrev pub value_of : Term → Sight → Result ℤ EvalFault
 value_of (Constant number) sight = Ok number
 value_of (Named name) sight = known_value name (sight.names.give (place_key name))

@@ -1,5 +1,5 @@
-//! Expressions: their grammar, and their values in an environment. `read_expr`, `read_whole` and `eval` give exactly their
-//! definitions, and tokens are one expression at most.
+//! Expressions: their grammar, and their values in an environment. `read_expr`, `read_whole` and `eval` give exactly
+//! their definitions, and tokens are one expression at most.
 //! It rests on `rz_core`, `rz_lex` and `rz_words`, which says what a word may be, and is handed on.
 //! A new operator changes the grammar and the values, here and in docs/LANGUAGE.md.
 #![tactic(auto)]

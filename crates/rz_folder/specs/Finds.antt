@@ -7,8 +7,8 @@ use Rattle.rz_folder.specs.Folder.{Files}
 use Rattle.rz_folder.specs.OnlyReads.{OnlyReads}
 use Rattle.rz_folder.specs.declared.folder.Folder.{Ghosts}
 
--- Where the folder tells its files, the call gave what is answered of them. Good holds of its value, Bad of its refusal, and
--- it only read.
+-- Where the folder tells its files, the call gave what is answered of them. Good holds of its value, Bad of its
+-- refusal, and it only read.
 pub record Finds {F X E : Type 0} (g : Ghosts F) (old new : F) (result : Result X (Halt E)) (answers : Files → Result X E → Type 0) (Good : X → Type 0) (Bad : E → Type 0) : Type 0 where
   pub answered : IfSome (g.files old) (λ files. Yields result (answers files))
   pub good : IfOk result Good

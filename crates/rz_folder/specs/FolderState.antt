@@ -6,8 +6,8 @@ use Rattle.rz_folder.specs.Counts.{next}
 use Rattle.rz_folder.specs.Folder.{Files}
 
 -- The files, the room (how many writes and how many bytes more it takes), the number of reads and writes so
--- far, the number of the call that is to fail (0: none), the numbers of reads and writes that failed, and the number of all
--- writes.
+-- far, the number of the call that is to fail (0: none), the numbers of reads and writes that failed, and the number of
+-- all writes.
 pub record FolderState : Type 0 where
   pub files : Files
   pub write_room : ℕ

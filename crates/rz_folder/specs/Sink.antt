@@ -45,7 +45,8 @@ GotPart text before after = (left : List ℕ) × (left ≢ []) × GotBut left te
 abbrev pub IsFlushed : List ℕ → Stream → Stream → Type 0
 IsFlushed text before after = after ≡ all_out (written before ++ text)
 
--- the text is out after all that was put before, and nothing is held back; or the text is empty, and the stream is as before
+-- the text is out after all that was put before, and nothing is held back; or the text is empty, and the stream is as
+-- before
 abbrev pub IsOut : List ℕ → Stream → Stream → Type 0
 IsOut text before after = IsFlushed text before after ⊎ ((text ≡ []) × (after ≡ before))
 
@@ -59,14 +60,14 @@ abbrev pub Puts : List ℕ → Option Stream → Option Stream → Put → Type 
 Puts piece before after Done = Told (Got piece) before after
 Puts piece before after Failed = Told (GotFront piece) before after
 
--- How a flush ended: after one that is done all that was put is out; after one that failed the same bytes are put as before,
--- and what was out is still out.
+-- How a flush ended: after one that is done all that was put is out; after one that failed the same bytes are put as
+-- before, and what was out is still out.
 abbrev pub Flushes : Option Stream → Option Stream → Put → Type 0
 Flushes before after Done = Told (IsFlushed []) before after
 Flushes before after Failed = Told (Got []) before after
 
--- How a text was put piece by piece: the whole text; after a put that failed a front of it; where memory was refused, a front
--- that is not the whole text.
+-- How a text was put piece by piece: the whole text; after a put that failed a front of it; where memory was refused, a
+-- front that is not the whole text.
 abbrev pub PutsFront : List ℕ → Option Stream → Option Stream → Result Put NoMemory → Type 0
 PutsFront text before after (Ok put) = Puts text before after put
 PutsFront text before after (Err refused) = Told (GotPart text) before after

@@ -27,8 +27,8 @@ struct Entry {
 /// so that each answer of a program over a folder can be brought about.
 ///
 /// Contracts see the files, the room, the number of calls so far, the number of the call that is to
-/// fail, the two counts of faults, and the count of writes. The room is the number of writes and the number of bytes for
-/// which there is memory; both are 0 at first. A look-up goes through the entries one by one, and
+/// fail, the two counts of faults, and the count of writes. The room is the number of writes and the number of bytes
+/// for which there is memory; both are 0 at first. A look-up goes through the entries one by one, and
 /// contents that were replaced keep their memory.
 #[derive(Drop)]
 pub struct MemFolder {

@@ -173,7 +173,8 @@ fn read_to_end<F: io::Read>(file: &mut F, bytes: &mut Bytes) -> io::Result<()>
     Err(io::Error::from(ErrorKind::FileTooLarge))
 }
 
-// Opens the file of that path. A path at which no file can stand isn't found, but for that of a folder, which is opened.
+// Opens the file of that path. A path at which no file can stand isn't found, but for that of a folder, which is
+// opened.
 fn open_file<R: Files>(rt: &R, name: &str) -> io::Result<R::File> {
     match fs::open(rt, name) {
         Err(error) if is_no_place(error.kind()) => Err(io::Error::from(ErrorKind::NotFound)),
@@ -189,7 +190,8 @@ fn is_no_place(kind: ErrorKind) -> bool {
     )
 }
 
-// The length that a regular file tells, and 0 for what tells none. One that is too long is an error, and a folder isn't found.
+// The length that a regular file tells, and 0 for what tells none. One that is too long is an error, and a folder isn't
+// found.
 fn expected_length<F: OpenFile>(file: &F) -> io::Result<usize>
     ensures { IfOk result (λ expected. expected < 2 ^ 32) }
 {

@@ -1,5 +1,5 @@
-//! A writer as a sink; over a writer of the host's it is a trusted edge. How its count of faults rises is in `specs/Counts`, and what it
-//! tells in `specs/RealSink`.
+//! A writer as a sink; over a writer of the host's it is a trusted edge. How its count of faults rises is in
+//! `specs/Counts`, and what it tells in `specs/RealSink`.
 
 ghost use Rattle.std.specs.Prelude.{◌≡◌, ◌≤◌, [], true, length, take, IfOk};
 ghost use Rattle.std.specs.Io.KnownBytes.{Appends};

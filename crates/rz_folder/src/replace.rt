@@ -52,8 +52,8 @@ fn target_at<R: Files>(rt: &R, path: &str) -> io::Result<Target> {
     Ok(Target::Regular(found.permissions()))
 }
 
-// Writes what the path leads to, from its start. A regular file is on its disk after this; one that may not have so many
-// bytes stays as it was.
+// Writes what the path leads to, from its start. A regular file is on its disk after this; one that may not have so
+// many bytes stays as it was.
 fn write_in_place<R: Files>(rt: &R, path: &str, bytes: &[u8]) -> io::Result<()> {
     if !may_have(rt, bytes.len()) && fs::metadata(rt, path)?.is_file() {
         return Err(io::Error::from(ErrorKind::FileTooLarge));

@@ -39,7 +39,8 @@ fn joined(folder: &str, slash: &str, number: u32) -> Option<TemporaryName>
     Some(name)
 }
 
-/// The folder of a path: what stands before its last slash, `.` where it has none, and `/` where nothing stands before it.
+/// The folder of a path: what stands before its last slash, `.` where it has none, and `/` where nothing stands before
+/// it.
 pub(crate) fn folder_of(path: &str) -> &str {
     match path.rsplit_once('/') {
         Some(("", _)) => "/",

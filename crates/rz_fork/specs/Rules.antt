@@ -1,5 +1,5 @@
--- The rules by which a fork is admitted, each by itself. The offset of a fault counts from the start of the fork. (Inside
--- Macintosh: More Macintosh Toolbox, Resource Manager, resource file format.)
+-- The rules by which a fork is admitted, each by itself. The offset of a fault counts from the start of the fork.
+-- (Inside Macintosh: More Macintosh Toolbox, Resource Manager, resource file format.)
 use Rattle.std.specs.Prelude.{ℕ, ◌+◌, ◌*◌, ◌==◌, ◌||◌, nat_lt, nat_le, Bool, if◌then◌else◌, List, length}
 use Rattle.std.specs.List.{list_any, sum_by}
 use Rattle.std.specs.declared.option.Option.{Option}

@@ -17,8 +17,8 @@ pub fn admitted_forks_fit()
 {}
 
 /// A law, with nothing to run: the first of all broken rules is the one that admission gives, and so none is broken
-/// exactly where bytes are admitted. It is the first that is broken where the rules are tested one after the other, each
-/// over the whole fork before the next.
+/// exactly where bytes are admitted. It is the first that is broken where the rules are tested one after the other,
+/// each over the whole fork before the next.
 pub fn breaks_begin()
     ensures begins { (bytes : List ℕ) → first (breaks bytes) ≡ inadmissible bytes }
     ensures tested { (bytes : List ℕ) → inadmissible bytes ≡ first_tested bytes }

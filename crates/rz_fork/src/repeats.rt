@@ -139,8 +139,8 @@ pub fn id_repeated(bytes: &[u8], outline: Outline) -> Option<ForkFault>
     None
 }
 
-/// Repeated, of a reference: whether its id is marked, as those of the references of its type before it are. From then on
-/// it is.
+/// Repeated, of a reference: whether its id is marked, as those of the references of its type before it are. From then
+/// on it is.
 pub fn id_repeats(seen: &mut Marks, reference: Reference) -> Option<ForkFault>
     requires place { reference.place < 2 ^ 32 }
     ensures rule { (before : List Reference) → AreMarked seen.old before → result ≡ id_rule before reference }

@@ -77,9 +77,9 @@ const NO_TYPE: TypeEntry = TypeEntry {
 };
 
 impl<'a> ForkView<'a> {
-    /// The fork that the bytes are, or the first rule that they break. No bytes hold no resources, the attributes 0 and no reserved bytes. Other
-    /// bytes are admitted where no rule of [`ForkFault`] is broken, and are else refused with the first
-    /// broken rule, each tested over all types and references, in map order, before the next. Counts are
+    /// The fork that the bytes are, or the first rule that they break. No bytes hold no resources, the attributes 0 and
+    /// no reserved bytes. Other bytes are admitted where no rule of [`ForkFault`] is broken, and are else refused with
+    /// the first broken rule, each tested over all types and references, in map order, before the next. Counts are
     /// stored less one, modulo 65,536, so that FFFF means none. A name offset of FFFF and a name without
     /// bytes are both an empty name. Resources may share bytes, names and reference lists. There are at most
     /// 2^32 - 1 bytes, and every offset in a fault is below 2^63. It takes no memory. (Inside Macintosh: More

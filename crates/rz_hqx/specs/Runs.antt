@@ -62,7 +62,8 @@ packed bytes = flat_map stored (flat_map run_codes (runs_of bytes))
 
 -- Read.
 
--- what bytes are cut into: counts that go on with a byte before them, then codes; and whether a 90 without a count is last
+-- what bytes are cut into: counts that go on with a byte before them, then codes; and whether a 90 without a count is
+-- last
 pub record Cut : Type 0 where
   pub counts : List ℕ
   pub codes : List Code

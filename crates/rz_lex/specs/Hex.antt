@@ -5,7 +5,8 @@ use Rattle.rz_lex.specs.Digits.{digit_value}
 use Rattle.rz_lex.specs.Escape.{before}
 
 abbrev mutual
-  -- the bytes that pairs of hex digits spell, with blanks anywhere; none where a digit is left over or another byte stands
+  -- the bytes that pairs of hex digits spell, with blanks anywhere; none where a digit is left over or another byte
+  -- stands
   pub hex_value : List ℕ → Option (List ℕ)
   hex_value [] = Some []
   hex_value (b ∷ bs) =

@@ -9,6 +9,7 @@ pub record Source : Type 0 where
   pub left : ℕ
   pub ahead : List Placed
 
--- of this text, of which the bytes from this place on aren't read yet, and the first of them stands on this physical line
+-- of this text, of which the bytes from this place on aren't read yet, and the first of them stands on this physical
+-- line
 abbrev pub source_of : ℕ → List ℕ → ℕ → ℕ → Source
 source_of file text at line = record { file = file; left = length text - at; ahead = joined line (drop at text) }

@@ -1,4 +1,5 @@
--- The parts of a joined text in the words of the language: comments, quoted parts, and all other bytes, one by one. (MPW Rez.)
+-- The parts of a joined text in the words of the language: comments, quoted parts, and all other bytes, one by one.
+-- (MPW Rez.)
 use Rattle.std.specs.Prelude.{◌≡◌, ◌≢◌, ◌⊎◌, ℕ, true, false, List, [], ◌∷◌, ◌++◌}
 use Rattle.std.specs.List.{AllByRecursion}
 use Rattle.rz_lex.specs.declared.joined.Placed.{Placed}

@@ -1,10 +1,10 @@
 //! The tokens of a line, or its first fault. How a line is cut is in `specs/Cutting`.
 
-ghost use Rattle.std.specs.Prelude.{◌≡◌, ◌≢◌, ◌+◌, ◌<◌, ◌≤◌, ℕ, List, [], length, IfOk, IfSome, MatchOption, Ok, Err};
+ghost use Rattle.std.specs.Prelude.{◌≡◌, ◌+◌, ◌≤◌, ℕ, List, length, IfOk, Ok, Err};
 ghost use Rattle.rz_core.specs.Message.{IsNameable};
 ghost use Rattle.rz_core.specs.Stop.{Gives, OnFault};
 ghost use Rattle.rz_core.specs.declared.fault.Fault.{Fault};
-ghost use Rattle.rz_lex.specs.Cutting.{after_blanks, Cuts, IsBad, Next, Refuses};
+ghost use Rattle.rz_lex.specs.Cutting.{after_blanks, Cuts, IsBad, Refuses};
 ghost use Rattle.rz_lex.specs.Extent.{is_lexeme, Longest};
 ghost use Rattle.rz_lex.specs.Shape.{shape_of};
 ghost use Rattle.rz_lex.specs.declared.token.Token.{Token};
@@ -39,40 +39,17 @@ fn cut_line(alloc: Global, line: &RawLine) -> Result<Tokens, Stop<Fault>>
     ensures tokens { IfOk result (Cuts line.now.mark line.now.bytes) }
     ensures fault { OnFault result (Refuses line.now.mark line.now.bytes) }
 {
-    if after_blanks(line.bytes.as_slice()).is_empty() {
+    let mut rest = after_blanks(line.bytes.as_slice());
+    if rest.is_empty() {
         return Ok(Tokens::new(alloc));
     }
     let mut tokens = Tokens::with_capacity(alloc, FIRST_ROOM)?;
-    let mut rest = line.bytes.as_slice();
-    'lexemes: loop {
-        match next_token(alloc, line.mark, rest) {
-            Ok(None) => return Ok(tokens),
-            Ok(Some((token, after))) => {
-                tokens.push(token)?;
-                rest = after;
-            }
-            Err(stop) => return Err(stop),
-        }
+    'lexemes: while !rest.is_empty() {
+        let (token, after) = token_at(alloc, line.mark, rest)?;
+        tokens.push(token)?;
+        rest = after_blanks(after);
     }
-}
-
-/// The next token of a line, and what follows it; `None` where only blanks are left.
-fn next_token(alloc: Global, mark: Mark, line: &[u8]) -> Result<Option<(Token, &[u8])>, Stop<Fault>>
-    ensures token { IfOk result (λ found. MatchOption found (after_blanks line.now ≡ [])
-        (λ read. Next mark line.now read.0 read.1.now)) }
-    ensures shorter { IfOk result (λ found. IfSome found
-        (λ read. length read.1.now < length line.now)) }
-    ensures fault { OnFault result (λ fault.
-        (after_blanks line.now ≢ []) × IsBad mark (after_blanks line.now) fault) }
-{
-    let rest = after_blanks(line);
-    if rest.is_empty() {
-        return Ok(None);
-    }
-    match token_at(alloc, mark, rest) {
-        Ok((token, after)) => Ok(Some((token, after))),
-        Err(stop) => Err(stop),
-    }
+    Ok(tokens)
 }
 
 /// The token at the front, and what follows it.

@@ -45,8 +45,8 @@ pub fn bare_line(start: Position) -> Option<(&[u8], Position)>
     }
 }
 
-/// How many bytes stand before the first line end, or in all where there is none. `None` where a backslash stands before
-/// that.
+/// How many bytes stand before the first line end, or in all where there is none. `None` where a backslash stands
+/// before that.
 fn line_size(bytes: &[u8]) -> Option<usize>
     ensures within { IfSome result (λ size. size ≤ length bytes.now) }
     ensures free { IfSome result (λ size. AllByRecursion (λ byte. is_byte3 10 13 92 byte ≡ false) (take size bytes.now)) }

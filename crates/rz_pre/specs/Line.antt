@@ -105,7 +105,8 @@ if_free (Some word) = if is_label (role_of word.bytes) then Some word else None
 abbrev pub free_word : Shape → Option Word
 free_word shape = if_free (word_in shape)
 
--- `#define`: such a word and its text, unless the word is written like a macro with parameters; `#undef`: such a word alone
+-- `#define`: such a word and its text, unless the word is written like a macro with parameters; `#undef`: such a word
+-- alone
 abbrev pub defined : Bool → List Token → Option Act
 defined has_parameters [] = None
 defined has_parameters (name ∷ text) = if has_parameters then None else option_map (λ word. Set word (Some text)) (free_word name.shape)

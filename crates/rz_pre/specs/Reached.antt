@@ -20,7 +20,8 @@ abbrev pub HasLine : ℕ → List Placed → RawLine → Type 0
 HasLine file text line =
     (before : List RawLine) × (after : List RawLine) × (ending : Option Fault) × HasLines file text (before ++ line ∷ after) ending
 
--- the line includes the file of this name, for some tool, and for some words that are macros and some conditional around it
+-- the line includes the file of this name, for some tool, and for some words that are macros and some conditional
+-- around it
 abbrev pub CanInclude : RawLine → List ℕ → Type 0
 CanInclude line own = (live : Live) × (tool : Tool) × (around : Option Open) × Does live tool around line (Ok (Include own))
 
@@ -36,8 +37,8 @@ IsIncluded paths file text = LooksFor paths (IncludesFile file text)
 abbrev pub HoldsText : Files → List ℕ → List ℕ → Type 0
 HoldsText files name text = (source : List ℕ) × (finite.get files name ≡ Some source) × IsTextOf source text
 
--- The least set that has some first names and, for each name in it, those under which the files are looked for that a line of
--- its file includes.
+-- The least set that has some first names and, for each name in it, those under which the files are looked for that a
+-- line of its file includes.
 pub data IsReached (paths : List (List ℕ)) (files : Files) (First : List ℕ → Type 0) : List ℕ → Type 0 where
   begins : (name : List ℕ) → First name → IsReached paths files First name
   goes_on : (name opened text : List ℕ) (file : ℕ) → IsReached paths files First opened → HoldsText files opened text

@@ -1,11 +1,11 @@
 //! Sources as one program: included files, conditionals and macros. Over a folder that tells its files,
 //! `preprocess` gives exactly the program that the named files mean, or the first fault, and there is one of them
-//! at most, and no name is read but those of `specs/Reached.antt`. Over every folder no file changes, and each mark is of
-//! an opened file.
+//! at most, and no name is read but those of `specs/Reached.antt`. Over every folder no file changes, and each mark is
+//! of an opened file.
 //! It rests on `rz_core`, `rz_folder`, `rz_folder_paths`, `rz_lex`, `rz_words`, `rz_expr`, `rz_pre_source`,
 //! `rz_pre_tokens` and `indexmap`.
-//! What a program means is `specs/Program.antt`; a new directive changes `line`, and `directive` of `rz_pre_source`. The
-//! laws above it, in the words of the language, stand in `rz_pre_laws`.
+//! What a program means is `specs/Program.antt`; a new directive changes `line`, and `directive` of `rz_pre_source`.
+//! The laws above it, in the words of the language, stand in `rz_pre_laws`.
 #![tactic(auto)]
 
 mod act;

@@ -49,8 +49,9 @@ pub fn open_file<F: Folder>(
     }
 }
 
-/// The text in Mac Roman of the source at this position of the list of files. Refused is 102 on its first line for the first
-/// bytes that can't be turned into it (kept: their offset, in bytes). (Unicode Standard, table 3-7; Inside Macintosh: Text.)
+/// The text in Mac Roman of the source at this position of the list of files. Refused is 102 on its first line for the
+/// first bytes that can't be turned into it (kept: their offset, in bytes). (Unicode Standard, table 3-7; Inside
+/// Macintosh: Text.)
 pub fn text_of(alloc: Global, file: u64, source: Bytes) -> Result<Bytes, Stop<Fault>>
     requires { length source < 2 ^ 32 }
     ensures text { Meets result (HasText file source) }

@@ -1,5 +1,5 @@
--- Of each token it is known what stands in its place, or that too many tokens are handled for it; and so each line has its
--- macros replaced, or has a first word that is too long.
+-- Of each token it is known what stands in its place, or that too many tokens are handled for it; and so each line has
+-- its macros replaced, or has a first word that is too long.
 use Rattle.std.proofs.Common.{◌⊎◌, inl, inr, ℕ, ◌<◌, List, [], ◌∷◌, ◌++◌, map, Ok, Err, refl, subst}
 use Rattle.std.specs.Prelude.{nat_le}
 use Rattle.std.proofs.lemmas.Bool.{leb-false, leb-true}

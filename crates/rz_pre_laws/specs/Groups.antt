@@ -25,7 +25,8 @@ mutual
     Line : RawLine → Group → Group
     Choice : (test : RawLine) → (first : Group) → (others : Others) → (behind : Group) → Group
 
-  -- what stands after the first part: the `#endif`; `#else`, its part and the `#endif`; or `#elif`, its part and what stands after that
+  -- what stands after the first part: the `#endif`; `#else`, its part and the `#endif`; or `#elif`, its part and what
+  -- stands after that
   pub data Others : Type 0 where
     End : RawLine → Others
     Else : RawLine → Group → RawLine → Others
@@ -105,7 +106,8 @@ Chooses part others true = part
 Chooses part others false = others
 
 abbrev mutual
-  -- a line does what it does outside of conditionals; of a conditional the first part is read whose test holds, and nothing of the others
+  -- a line does what it does outside of conditionals; of a conditional the first part is read whose test holds, and
+  -- nothing of the others
   pub GroupGoes : Includes → Tool → Group → State → Result State Failure → Type 0
   GroupGoes Reads tool Done s answer = answer ≡ Ok s
   GroupGoes Reads tool (Line line group) s answer =

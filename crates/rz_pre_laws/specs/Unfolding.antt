@@ -19,7 +19,8 @@ use Rattle.rz_pre.specs.declared.condition.Tool.{Tool}
 use Rattle.rz_pre.specs.declared.conditional.Open.{Open}
 use Rattle.rz_pre.specs.declared.program.Def.{Def}
 
--- a file is opened under a name; or a line on some level is read, in the innermost conditional of its file, and does this
+-- a file is opened under a name; or a line on some level is read, in the innermost conditional of its file, and does
+-- this
 pub data Entry : Type 0 where
   Opened : (name : List ℕ) → Entry
   Line : (level : ℕ) (around : Option Open) (line : RawLine) (act : Act) → Entry
@@ -59,8 +60,8 @@ abbrev pub BehindLine : (List ℕ → Mark → State → Stretch) → Mark → A
 BehindLine Inner mark (Include name) s = Inner name mark s
 BehindLine Inner mark act s = λ entries fault. (entries ≡ []) × (fault ≡ None)
 
--- a line has a fault; or it does something, and there is a fault in the file that it includes; or it does something, and
--- after it and what stands directly after it the lines that follow are read
+-- a line has a fault; or it does something, and there is a fault in the file that it includes; or it does something,
+-- and after it and what stands directly after it the lines that follow are read
 abbrev pub StopsAt : Tool → List Open → State → RawLine → Stretch
 StopsAt tool opens s line entries fault =
     (own : Fault) × Does s.live tool (innermost opens) line (Err own) × (entries ≡ []) × (fault ≡ Some own)

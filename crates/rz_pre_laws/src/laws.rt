@@ -52,18 +52,18 @@ pub fn one_list_of_entries()
         → ProgramGoes files tool names paths defs (outcome entries fault (start defs)) }
 {}
 
-/// A law, with nothing to run: files that are named one after the other are the first of them, and then the others after
-/// what was read of the first; a fault of the first is that of all.
+/// A law, with nothing to run: files that are named one after the other are the first of them, and then the others
+/// after what was read of the first; a fault of the first is that of all.
 pub fn programs_go_on()
     ensures { (tool : Tool) (files : Files) (paths names others : List (List ℕ)) (s : State) (answer : Result State Failure)
         → Then (NamesGo tool files paths names s) (λ t. NamesGo tool files paths others t) answer
         ↔ NamesGo tool files paths (names ++ others) s answer }
 {}
 
-/// A law, with nothing to run: a program means the same to both tools if it is read to its end and no condition that it asks
-/// has one of the words `rez` and `derez` in it, once its questions are answered and its macros are replaced: the same
-/// entries, and so the same tokens, macros and files. So it is if no line that is read has such a word, and no definition
-/// of the words: then its tokens have none either.
+/// A law, with nothing to run: a program means the same to both tools if it is read to its end and no condition that it
+/// asks has one of the words `rez` and `derez` in it, once its questions are answered and its macros are replaced: the
+/// same entries, and so the same tokens, macros and files. So it is if no line that is read has such a word, and no
+/// definition of the words: then its tokens have none either.
 pub fn tools_agree()
     ensures entries { (files : Files) (names paths : List (List ℕ)) (defs : List Def) (tool other : Tool) (entries : List Entry)
         → EachAsksNoTool entries (start defs) → ProgramUnfolds files tool names paths defs entries None

@@ -18,11 +18,11 @@ pub struct BadText {
 /// The bytes at the front of a source in UTF-8.
 const MARK: [u8; 3] = [0xEF, 0xBB, 0xBF];
 
-/// The text of a source in Mac Roman, or the first byte of what has no place in it. A source that begins with the bytes EF BB BF is UTF-8, and each
-/// character after these is turned into its byte; any other source is given back as it stands, and takes no
-/// memory. The refusal comes exactly where the bytes after the mark aren't UTF-8 or hold a character that has
-/// no byte, and tells the first byte of the first such sequence or character. (Unicode Standard, table 3-7;
-/// Inside Macintosh: Text.)
+/// The text of a source in Mac Roman, or the first byte of what has no place in it. A source that begins with the bytes
+/// EF BB BF is UTF-8, and each character after these is turned into its byte; any other source is given back as it
+/// stands, and takes no memory. The refusal comes exactly where the bytes after the mark aren't UTF-8 or hold a
+/// character that has no byte, and tells the first byte of the first such sequence or character. (Unicode Standard,
+/// table 3-7; Inside Macintosh: Text.)
 pub fn to_mac_roman(alloc: Global, source: Bytes) -> Result<Bytes, Stop<BadText>>
     ensures unmarked { IsUnmarked source → result ≡ Ok source }
     ensures text { IfOk result (IsTextOf source) }

@@ -79,8 +79,8 @@ impl TokenStore {
     }
 }
 
-/// How many bytes the tokens have together; `None` where one has 2^32 or more or stands in a later file than the first 2^32, or all have more than
-/// memory can hold.
+/// How many bytes the tokens have together; `None` where one has 2^32 or more or stands in a later file than the first
+/// 2^32, or all have more than memory can hold.
 fn short_size(tokens: &[Token]) -> Option<usize>
     ensures size { IfSome result (λ size. size ≡ length (bytes_of tokens.now)) }
     ensures short { IfSome result (λ _. AreShort tokens.now) }

@@ -51,8 +51,8 @@ fn find_in(list: &[Resource], kind: OsType, id: i16) -> Option<&Resource>
     None
 }
 
-/// The first resource of a list that is of a type and has exactly this name, or nothing where there is none. It goes over
-/// the list once.
+/// The first resource of a list that is of a type and has exactly this name, or nothing where there is none. It goes
+/// over the list once.
 fn find_name_in<'a>(list: &'a [Resource], kind: OsType, name: &[u8]) -> Option<&'a Resource>
     ensures { option_copied result ≡ found_name kind name.now list.now }
 {

@@ -43,8 +43,8 @@ impl Wanted {
     }
 }
 
-/// What a pick chooses in a list, by types and ids alone. `one` is the type and the id of the resource that a pick by id or
-/// name finds in that list, if there is one; where there is none, such a pick is refused, with its type.
+/// What a pick chooses in a list, by types and ids alone. `one` is the type and the id of the resource that a pick by
+/// id or name finds in that list, if there is one; where there is none, such a pick is refused, with its type.
 pub fn wanted_as(kind: OsType, pick: &Pick, one: Option<(OsType, i16)>) -> Result<Wanted, SetFault>
     ensures chooses { (list : List Resource) → option_map key_pair (picked kind pick.now list) ≡ one
         → IfOk result (λ wanted. is_wanted wanted ≡ chooses kind pick.now list) }
@@ -96,9 +96,9 @@ impl Included {
     }
 }
 
-/// Which resources of a list a choice includes, by types and ids alone, so that a list that is read in place needs no copy.
-/// `one` is the type and the id of the resource that the choice's pick by id or name finds in that list, if there is one;
-/// where there is none, such a choice is refused, with its type. (MPW Rez.)
+/// Which resources of a list a choice includes, by types and ids alone, so that a list that is read in place needs no
+/// copy. `one` is the type and the id of the resource that the choice's pick by id or name finds in that list, if there
+/// is one; where there is none, such a choice is refused, with its type. (MPW Rez.)
 pub fn included_as(choice: &Choice, one: Option<(OsType, i16)>) -> Result<Included, SetFault>
     ensures included { (list : List Resource) → option_map key_pair (the_choice choice.now list) ≡ one
         → IfOk result (λ test. filter (is_included test) list ≡ included choice.now list) }

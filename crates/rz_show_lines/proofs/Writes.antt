@@ -1,5 +1,6 @@
--- Several writes to a line are one: with `a ≡ cut (old ++ x)` and `b ≡ cut (a ++ y)`, `b ≡ cut (old ++ (x ++ y))` by
--- `grind writes`, or with no answer under `#[tactic(auto, using(crate::proofs::Writes::writes))]`, as in `head_front`.
+-- Several writes to a line are one: with `a ≡ cut (old ++ x)` and `b ≡ cut (a ++ y)`, `b ≡ cut (old ++ (x ++ y))`
+-- by `grind writes`, or with no answer under `#[tactic(auto, using(crate::proofs::Writes::writes))]`, as in
+-- `head_front`.
 use Rattle.std.proofs.Common.{◌≡◌, ℕ, zero, suc, ◌+◌, ◌-◌, ◌/◌, ◌%◌, ◌^◌, ◌<◌, ◌≤◌, ℤ, pos, negsuc, List, [], ◌∷◌, ◌++◌, length, take, drop, get_or, add-one, drop-cons, refl, sym, ap, ◌∙◌, arith, append_assoc, length-append}
 use Rattle.std.specs.Fmt.{signed_decimal}
 use Rattle.std.specs.Int.{byte_at, bytes_high_first}

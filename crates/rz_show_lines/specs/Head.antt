@@ -1,4 +1,5 @@
--- The parts of a header that stand on one line: the word, the type and the id, and the attributes. (As MPW DeRez shows them.)
+-- The parts of a header that stand on one line: the word, the type and the id, and the attributes. (As MPW DeRez shows
+-- them.)
 use Rattle.std.specs.Prelude.{ℕ, ℤ, ◌/◌, ◌%◌, nat_le, ◌==◌, ◌||◌, if◌then◌else◌, List, [], ◌∷◌, ◌++◌}
 use Rattle.rz_core.specs.Numbers.{be}
 use Rattle.rz_lex.specs.declared.sign.Sign.TheVariants as signs

@@ -18,7 +18,7 @@ pub data Single : Type 0 where
 mutual
   pub data Print : Type 0 where
     single : (one : Single) → Print
-    pieces : (hex : Bool) → (first : List ℕ) → (others : List (List ℕ)) → Print  -- a text, in one piece at least
+    pieces : (hex : Bool) → (first : List ℕ) → (others : List (List ℕ)) → Print  -- a text: at least one piece
     block : (items : Prints) → Print  -- the rows of an array
     named_block : (name : List ℕ) → (items : Prints) → Print  -- a case
 

@@ -24,8 +24,8 @@ pub fn head_front(word: &[u8], code: u32, id: i16, line: &mut Line)
     line.decimal(i64::from(id));
 }
 
-/// Writes the attributes, where there are any: by words, or as a number where the bit 80 or 01 is set, which have no word.
-/// (MPW Rez.)
+/// Writes the attributes, where there are any: by words, or as a number where the bit 80 or 01 is set, which have no
+/// word. (MPW Rez.)
 #[tactic(auto, using(crate::proofs::Writes::writes, rz_core::proofs::OneBit::has_unnamed))]
 pub fn attributes(attr: Attr, line: &mut Line)
     ensures { line.new ≡ cut (line.old ++ line_text (attr_written attr)) }

@@ -1,8 +1,8 @@
-//! Lines as DeRez writes them: a line of at most 512 bytes, to which bytes and tokens are appended; numbers, literals, texts and
-//! words, each exactly as its definition says; texts in pieces, of which each stands on a line of its own; and the parts of a
-//! header. It takes no memory. That lines are cut into the tokens that are meant is said by the laws of `rz_show_lines_laws`.
-//! It rests on `rz_core`, `rz_lex` and `rz_words`, which has the words of attributes, on `bitflags` for attributes, on
-//! `arrayvec` for lines, and on `itoa` for numbers in decimal.
+//! Lines as DeRez writes them: a line of at most 512 bytes, to which bytes and tokens are appended; numbers, literals,
+//! texts and words, each exactly as its definition says; texts in pieces, of which each stands on a line of its own;
+//! and the parts of a header. It takes no memory. That lines are cut into the tokens that are meant is said by the laws
+//! of `rz_show_lines_laws`. It rests on `rz_core`, `rz_lex` and `rz_words`, which has the words of attributes, on
+//! `bitflags` for attributes, on `arrayvec` for lines, and on `itoa` for numbers in decimal.
 //! A new token is a case of `specs/Written`, of `token` and of the laws; a new form of a number is one of `Single` too.
 #![tactic(auto)]
 

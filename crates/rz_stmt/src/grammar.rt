@@ -33,9 +33,9 @@ pub enum Stmt {
     Declare(DeclareStmt),
 }
 
-/// The statement that the tokens of a span are, or its first fault. A refusal has the mark of its first token: 221 where more
-/// than 64 brackets are open, in a `type` statement 60, or more than 1,024 tokens other than texts stand in a
-/// row without one of `{ } , ;`; else 201 where the tokens are no statement; else that of the first constant of
+/// The statement that the tokens of a span are, or its first fault. A refusal has the mark of its first token: 221
+/// where more than 64 brackets are open, in a `type` statement 60, or more than 1,024 tokens other than texts stand in
+/// a row without one of `{ } , ;`; else 201 where the tokens are no statement; else that of the first constant of
 /// a `type` statement, from left to right, without a value: 211 for a zero divisor, 215 for a shift by a count
 /// outside 0 to 31 (kept: the count), or 207 for the value of a symbol outside the range of its field (kept:
 /// the value). The fields of a `type` statement are well shaped, where the tokens are as lines are cut into, and

@@ -22,8 +22,8 @@ pub fn one_statement()
     keywords_are_spelled();
 }
 
-/// A law, with nothing to run: all tokens are a statement, or have a fault: beyond the limits 221, within them that of the
-/// statement's constants, or 201 where they are no statement.
+/// A law, with nothing to run: all tokens are a statement, or have a fault: beyond the limits 221, within them that of
+/// the statement's constants, or 201 where they are no statement.
 pub fn every_statement_is_parsed()
     ensures { (tokens : List Token) → (answer : Result Statement Fault) × Parses tokens answer }
 {

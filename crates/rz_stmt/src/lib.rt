@@ -1,10 +1,10 @@
 //! The one front of the statements: `parse` gives exactly what the tokens of a span are, or their first fault, and they
 //! are one thing at most. `next_statement` takes the statements of a long list of tokens, one after the other, so that
 //! only one of them is held at a time; they are exactly those that `rz_stmt_brackets` defines.
-//! It rests on `rz_core`, `rz_lex`, `rz_words`, `rz_expr`, `rz_pre_tokens`, `rz_types`, `rz_stmt_brackets`, `rz_stmt_data`,
-//! `rz_stmt_items`, `rz_stmt_lists`, `rz_stmt_fields` and `rz_stmt_type`, and hands on what the crates above need of them.
-//! A new statement is a crate beside `rz_stmt_data`, `rz_stmt_items`, `rz_stmt_lists` and `rz_stmt_type`, a case of `Stmt`
-//! here and one of `step` in `rz_tools`.
+//! It rests on `rz_core`, `rz_lex`, `rz_words`, `rz_expr`, `rz_pre_tokens`, `rz_types`, `rz_stmt_brackets`,
+//! `rz_stmt_data`, `rz_stmt_items`, `rz_stmt_lists`, `rz_stmt_fields` and `rz_stmt_type`, and hands on what the crates
+//! above need of them. A new statement is a crate beside `rz_stmt_data`, `rz_stmt_items`, `rz_stmt_lists` and
+//! `rz_stmt_type`, a case of `Stmt` here and one of `step` in `rz_tools`.
 #![tactic(auto)]
 
 mod grammar;

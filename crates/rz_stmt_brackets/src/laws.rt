@@ -35,8 +35,9 @@ pub fn pieces_are_cut()
         → IsBracketed bracket tokens parted → IsBracketed bracket tokens other → parted ≡ other }
 {}
 
-/// A law, with nothing to run: of all tokens it is decided what stands before the first dividing token outside brackets, and
-/// what after it, and what stands in brackets at their front, and after them: there is such a thing, or none.
+/// A law, with nothing to run: of all tokens it is decided what stands before the first dividing token outside
+/// brackets, and what after it, and what stands in brackets at their front, and after them: there is such a thing, or
+/// none.
 pub fn partings_are_decided()
     ensures first { (divider : Divider) (tokens : List Token) → (answer : Option Parted) × Decided (IsParted divider tokens) answer }
     ensures within { (bracket : Bracket) (tokens : List Token) → (answer : Option Parted) × Decided (IsBracketed bracket tokens) answer }

@@ -1,4 +1,5 @@
--- The frame of a statement that makes a resource: a word, a type, a head in brackets, and braces, with `;` after them. (MPW Rez.)
+-- The frame of a statement that makes a resource: a word, a type, a head in brackets, and braces, with `;` after them.
+-- (MPW Rez.)
 use Rattle.std.specs.Prelude.{◌≡◌, ℕ, true, List}
 use Rattle.rz_words.specs.declared.keyword.Keyword.{Keyword}
 use Rattle.rz_lex.specs.declared.token.Token.{Token}

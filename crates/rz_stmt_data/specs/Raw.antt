@@ -1,4 +1,5 @@
--- A `data` statement: `data`, a type, a head, and in braces a text, or nothing, with at most one `;` after it. (MPW Rez.)
+-- A `data` statement: `data`, a type, a head, and in braces a text, or nothing, with at most one `;` after it. (MPW
+-- Rez.)
 use Rattle.std.specs.Prelude.{◌≡◌, ℕ, List, [], ◌∷◌}
 use Rattle.rz_words.specs.declared.keyword.Keyword.TheVariants as keywords
 use Rattle.rz_lex.specs.declared.token.Token.{Token}

@@ -50,8 +50,8 @@ pub struct HeadExpr {
     pub attributes: AttrParts,
 }
 
-/// The head of a new resource that the pieces of its brackets are: an id, then maybe a name without `$$Name`, then maybe
-/// attributes. `None` exactly where they are none. (MPW Rez.)
+/// The head of a new resource that the pieces of its brackets are: an id, then maybe a name without `$$Name`, then
+/// maybe attributes. `None` exactly where they are none. (MPW Rez.)
 pub fn read_head(alloc: Global, pieces: &[&[Token]]) -> Result<Option<HeadExpr>, NoMemory>
     ensures { IfOk result (λ head. Decided (IsHead (map (λ piece. piece.now) pieces.now)) (option_map head_of head)) }
 {

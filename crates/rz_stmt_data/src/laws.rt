@@ -45,8 +45,8 @@ pub fn texts_are_decided()
     partings_are_decided();
 }
 
-/// A law, with nothing to run: of all pieces it is decided which head they are, and of all tokens which `data` statement:
-/// there is one that they are, or none.
+/// A law, with nothing to run: of all pieces it is decided which head they are, and of all tokens which `data`
+/// statement: there is one that they are, or none.
 pub fn data_statements_are_decided()
     ensures head { (subject : Subject) (pieces : List (List Token)) → (answer : Option Head) × Decided (IsHeadFor subject pieces) answer }
     ensures statement { (tokens : List Token) → (answer : Option Raw) × Decided (IsRaw tokens) answer }

@@ -5,10 +5,10 @@
 //! frame, and the text that is its bytes. `read_head_for` reads heads that speak of a resource that is chosen, too.
 //! `whole_file` and `file_in` read the name of a file. The values of expressions are computed by who asks for them.
 //! It rests on `rz_core`, `rz_lex`, `rz_words`, `rz_expr`, `rz_types_fields` and `rz_stmt_brackets`.
-//! A new part of a text changes `texts` here, and what `specs/Text.antt` and `specs/Place.antt` of `rz_types_fields` say of it.
-//! A new part of a frame changes `frame` here, and `rz_show` and `rz_show_laws`, which write it and read it again.
-//! A new part of a head changes `head` here, `head` of `rz_tools_values`, which computes its value, and `rz_show` and
-//! `rz_show_lines`, which write it.
+//! A new part of a text changes `texts` here, and what `specs/Text.antt` and `specs/Place.antt` of `rz_types_fields`
+//! say of it. A new part of a frame changes `frame` here, and `rz_show` and `rz_show_laws`, which write it and read it
+//! again. A new part of a head changes `head` here, `head` of `rz_tools_values`, which computes its value, and
+//! `rz_show` and `rz_show_lines`, which write it.
 #![tactic(auto)]
 
 mod files;

@@ -11,8 +11,8 @@ use Rattle.rz_types_fields.specs.Value.{is_fixed_expression, is_size_expression}
 use Rattle.rz_types_fields.specs.declared.field.NumForm.{NumForm}
 use Rattle.rz_types_fields.specs.declared.field.NumForm.TheVariants.{Char}
 
--- an expression that may stand for a size: it may name labels, by themselves, in a row and with the bits after them, and arrays by
--- the row around, but not by the number of their rows
+-- an expression that may stand for a size: it may name labels, by themselves, in a row and with the bits after them,
+-- and arrays by the row around, but not by the number of their rows
 abbrev pub IsSizeExpression : List Token → Term → Type 0
 IsSizeExpression tokens term = IsExpression tokens term × (is_size_expression term ≡ true)
 

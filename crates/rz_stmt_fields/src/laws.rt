@@ -20,8 +20,8 @@ pub fn words_before_fields()
     ensures { (tokens : List Token) (front : FieldFront) → (front_in false None tokens ≡ Some front) ↔ IsFront tokens front }
 {}
 
-/// A law, with nothing to run: of all tokens it is decided which front of a field they have, which key of a case they are,
-/// and which expression of a size; and of each front which field it begins, of those that are no texts and have no
+/// A law, with nothing to run: of all tokens it is decided which front of a field they have, which key of a case they
+/// are, and which expression of a size; and of each front which field it begins, of those that are no texts and have no
 /// fields of their own: there is one, or none.
 pub fn flat_fields_are_decided()
     ensures front { (tokens : List Token) → (answer : Option FieldFront) × Decided (IsFront tokens) answer }

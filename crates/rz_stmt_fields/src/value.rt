@@ -12,8 +12,8 @@ use rz_lex::{Shape, Sign, Token};
 use rz_types_fields::{Exprs, NumForm, is_fixed_expression, is_size_expression};
 use std::alloc::Global;
 
-/// The expression of a size that the tokens are: one without `$$CountOf`. It may name labels, by themselves, with an index
-/// and in `$$BitField`, `$$Byte`, `$$Word` and `$$Long`, and the row around by `$$ArrayIndex`.
+/// The expression of a size that the tokens are: one without `$$CountOf`. It may name labels, by themselves, with an
+/// index and in `$$BitField`, `$$Byte`, `$$Word` and `$$Long`, and the row around by `$$ArrayIndex`.
 pub fn read_expression(alloc: Global, tokens: &[Token]) -> Result<Option<Expr>, NoMemory>
     ensures { IfOk result (λ expr. Decided (IsSizeExpression tokens.now) (option_map term_of expr)) }
 {

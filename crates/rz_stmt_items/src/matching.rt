@@ -216,7 +216,8 @@ fn rows_for(
     requires { AreNamesApart (plain_body fields.now) }
     ensures { Gives (rows_matched (row_matched facts.now (plain_body fields.now) place (plain_items items.now)) (length items.now) 0 (plain_items items.now)) result }
 {
-    let mut rows = RowList::new(alloc);
+    // So many rows if each takes its own items.
+    let mut rows = RowList::with_capacity(alloc, items.len() / values_of(fields).max(1))?;
     let mut before = 0;
     for _turn in 0..items.len() {
         if before >= items.len() {

@@ -1,5 +1,5 @@
-//! Laws of statements one after the other. They speak of `specs/Statements` of `rz_stmt_brackets` and of `specs/Grammar` of
-//! `rz_stmt`.
+//! Laws of statements one after the other. They speak of `specs/Statements` of `rz_stmt_brackets` and of
+//! `specs/Grammar` of `rz_stmt`.
 
 ghost use Rattle.std.specs.Prelude.{◌≡◌, true, List, Ok, ◌++◌};
 ghost use Rattle.std.specs.List.{AllByRecursion};

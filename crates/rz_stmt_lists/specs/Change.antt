@@ -1,5 +1,5 @@
--- A `change` statement: `change`, a type, maybe a pick in brackets, and after `to` what the picked resources become. (MPW
--- Rez.)
+-- A `change` statement: `change`, a type, maybe a pick in brackets, and after `to` what the picked resources become.
+-- (MPW Rez.)
 use Rattle.std.specs.Prelude.{ℕ, List, Option, option_map}
 use Rattle.rz_words.specs.declared.keyword.Keyword.TheVariants as keywords
 use Rattle.rz_lex.specs.declared.token.Token.{Token}

@@ -1,5 +1,5 @@
--- A word, a type, and brackets that may be left out. So `delete` and `change` begin, and so chosen resources are said to
--- become others. (MPW Rez.)
+-- A word, a type, and brackets that may be left out. So `delete` and `change` begin, and so chosen resources are said
+-- to become others. (MPW Rez.)
 use Rattle.std.specs.Prelude.{ℕ, List, Option, option_map}
 use Rattle.rz_words.specs.declared.keyword.Keyword.{Keyword}
 use Rattle.rz_lex.specs.declared.token.Token.{Token}

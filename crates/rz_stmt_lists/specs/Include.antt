@@ -1,5 +1,5 @@
--- An `include` statement: `include`, a file, and which resources of it: all, all but those of a type, or those of a type
--- that are picked, maybe as another type and with another head. (MPW Rez.)
+-- An `include` statement: `include`, a file, and which resources of it: all, all but those of a type, or those of a
+-- type that are picked, maybe as another type and with another head. (MPW Rez.)
 use Rattle.std.specs.Prelude.{◌≡◌, ℕ, true, List, ◌∷◌, ◌++◌, Option, Some, option_map}
 use Rattle.rz_expr.specs.Keyword.{is_keyword}
 use Rattle.rz_words.specs.declared.keyword.Keyword.TheVariants as keywords

@@ -18,8 +18,8 @@ pub fn one_list()
     keywords_are_spelled();
 }
 
-/// A law, with nothing to run: of all tokens it is decided which statement over lists of resources they are: there is one
-/// that they are, or none.
+/// A law, with nothing to run: of all tokens it is decided which statement over lists of resources they are: there is
+/// one that they are, or none.
 pub fn list_statements_are_decided()
     ensures { (tokens : List Token) → (answer : Option ListForm) × Decided (IsListed tokens) answer }
 {

@@ -2,8 +2,8 @@
 //! statement that the tokens are, or none, and there is one at most. Which resources are meant, and the values of heads
 //! and picks, are for who carries them out.
 //! It rests on `rz_core`, `rz_lex`, `rz_words`, `rz_expr`, `rz_types_fields`, `rz_stmt_brackets` and `rz_stmt_data`.
-//! What may stand in heads and picks is said in `specs/Head.antt` of `rz_stmt_data` and `specs/Place.antt` of `rz_types_fields`, and changes
-//! there.
+//! What may stand in heads and picks is said in `specs/Head.antt` of `rz_stmt_data` and `specs/Place.antt` of
+//! `rz_types_fields`, and changes there.
 #![tactic(auto)]
 
 mod brackets;

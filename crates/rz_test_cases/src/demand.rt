@@ -42,9 +42,9 @@ pub struct Demand {
 
 impl Demand {
     /// What the run of this number must leave, whose call of this number failed: after a read all files as before, no
-    /// output, and the line of a read fault alone; after a write the files before it, all that the command says, and the
-    /// line of a write fault; after a call of the output a front of it, and that line too; and after a call for what is
-    /// said only a front of it.
+    /// output, and the line of a read fault alone; after a write the files before it, all that the command says, and
+    /// the line of a write fault; after a call of the output a front of it, and that line too; and after a call for
+    /// what is said only a front of it.
     pub fn of(alloc: Global, sweep: &Sweep, case: &Case, run: u64) -> Result<Demand, Trouble> {
         let out = stated(alloc, &case.out)?;
         let mut err = stated(alloc, &case.err)?;

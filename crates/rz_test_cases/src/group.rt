@@ -12,11 +12,11 @@ use std::fs;
 use std::process::ExitCode;
 use std::rt::Files;
 
-/// Runs the cases of a folder by this command: those of its files `*.cases`, in the order of their names. It prints each
-/// place in which a run left something else than its case wants, then how many cases there are and how many differ.
-/// It is a success exactly where there are cases and none differs; a case that can't be run counts as one that differs, and
-/// so does a file that isn't one of cases. An error comes where the folder can't be read, nothing can be printed, or memory
-/// for the names of the files is refused.
+/// Runs the cases of a folder by this command: those of its files `*.cases`, in the order of their names. It prints
+/// each place in which a run left something else than its case wants, then how many cases there are and how many
+/// differ. It is a success exactly where there are cases and none differs; a case that can't be run counts as one that
+/// differs, and so does a file that isn't one of cases. An error comes where the folder can't be read, nothing can be
+/// printed, or memory for the names of the files is refused.
 pub fn run_cases<R: Files + AllocGlobal + Print + Clone + Drop, C: Command>(
     rt: &R,
     folder: &str,
@@ -141,8 +141,8 @@ fn cases_in<R: Files + AllocGlobal>(rt: &R, name: &str) -> Result<Vec<Case>, Tro
     }
 }
 
-/// Runs a case, and says whether it differs: in a place in which it isn't wrong on purpose, or not in one in which it is.
-/// Both are printed. A sweep differs where one of its runs does.
+/// Runs a case, and says whether it differs: in a place in which it isn't wrong on purpose, or not in one in which it
+/// is. Both are printed. A sweep differs where one of its runs does.
 fn print_differences<R: AllocGlobal + Print, C: Command>(
     rt: &R,
     command: &C,

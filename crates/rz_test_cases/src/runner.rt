@@ -6,8 +6,8 @@ use std::alloc::Global;
 
 /// A command whose cases are run.
 pub trait Command {
-    /// Runs the command of these words, those after the program's name, over the folder and the streams of the world, at
-    /// its moment. It gives the exit status.
+    /// Runs the command of these words, those after the program's name, over the folder and the streams of the world,
+    /// at its moment. It gives the exit status.
     fn run(&self, alloc: Global, words: &[String], world: &mut World) -> u8;
 }
 

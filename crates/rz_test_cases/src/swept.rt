@@ -40,7 +40,8 @@ fn run_differs<R: AllocGlobal + Print, C: Command>(
     differs
 }
 
-/// Prints what the run of this number, which left this, left otherwise than it must, and says whether there is anything.
+/// Prints what the run of this number, which left this, left otherwise than it must, and says whether there is
+/// anything.
 fn print_run<R: AllocGlobal + Print>(
     rt: &R,
     name: &str,

@@ -1,5 +1,5 @@
-//! A folder and a stream in memory that count their calls; the folder also keeps the names of the files that are written,
-//! and the stream holds back what is put until a flush.
+//! A folder and a stream in memory that count their calls; the folder also keeps the names of the files that are
+//! written, and the stream holds back what is put until a flush.
 
 ghost use Rattle.std.specs.Prelude.{Some};
 ghost use Rattle.rz_folder.specs.HeldSink.{stream_of};
@@ -85,7 +85,8 @@ impl WatchedSink {
         WatchedSink { sink, calls: 0 }
     }
 
-    /// The bytes that are out, so that a text that wasn't flushed is missed; after a call that failed all that were put.
+    /// The bytes that are out, so that a text that wasn't flushed is missed; after a call that failed all that were
+    /// put.
     pub(crate) fn bytes(&self) -> &[u8] {
         if self.sink.faults() == 0 {
             self.sink.out()

@@ -32,8 +32,8 @@ pub struct World {
 }
 
 impl World {
-    /// The world of a case before its run, in which these calls are to fail. `Malformed` comes where the moment is outside
-    /// 1904 to 2039, or a file is too long.
+    /// The world of a case before its run, in which these calls are to fail. `Malformed` comes where the moment is
+    /// outside 1904 to 2039, or a file is too long.
     pub(crate) fn before(alloc: Global, case: &Case, failures: Failures) -> Result<World, Trouble> {
         let Some(moment) = Moment::of_unix(case.moment.unwrap_or(0)) else {
             return Err(flaw(case, "the moment is outside 1904 to 2039"));

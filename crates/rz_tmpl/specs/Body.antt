@@ -85,8 +85,8 @@ count_field stored number = Number (record { form = forms.Integer; width = pos 1
 
 -- Bodies.
 
--- the fields of items, where the next counted list has this number: counted lists are numbered in the order in which they begin,
--- and a count is that of the next one of its own body
+-- the fields of items, where the next counted list has this number: counted lists are numbered in the order in which
+-- they begin, and a count is that of the next one of its own body
 abbrev pub body_from : ℕ → Items → PlainBody
 body_from number none = no_fields
 body_from number (one plain rest) = field_and (field_of plain) (body_from number rest)

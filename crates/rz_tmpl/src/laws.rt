@@ -16,8 +16,8 @@ ghost use Rattle.rz_types_fields.specs.Shape.{is_well_shaped};
 use rz_tmpl_entries::{every_tmpl_is_cut, one_cut, tmpl_faults_are_sayable};
 use rz_types::first_broken_rule;
 
-/// A law, with nothing to run: the fields of entries without a fault have the shape of a declaration and keep the rules of
-/// declarations.
+/// A law, with nothing to run: the fields of entries without a fault have the shape of a declaration and keep the rules
+/// of declarations.
 pub fn tmpl_bodies_are_templates()
     ensures shaped { (items : Items) → is_kept 60 false items ≡ true → 1 + lists_of items ≤ 2 ^ 64 → is_well_shaped (tmpl_body items) ≡ true }
     ensures kept { (items : Items) → is_kept 60 false items ≡ true → waits false items ≡ false → 1 + lists_of items ≤ 2 ^ 64 → keeps_rules (tmpl_body items) ≡ true }
@@ -44,8 +44,9 @@ pub fn every_tmpl_has_a_body()
     every_tmpl_is_cut();
 }
 
-/// A law, with nothing to run: the fields that bytes have as a template, fewer than 2^64, have the shape of a declaration
-/// and keep the rules of declarations. Their fault has one of the numbers 451 to 456, and its offset isn't after their end.
+/// A law, with nothing to run: the fields that bytes have as a template, fewer than 2^64, have the shape of a
+/// declaration and keep the rules of declarations. Their fault has one of the numbers 451 to 456, and its offset isn't
+/// after their end.
 pub fn tmpl_types_are_templates()
     ensures shaped { (bytes : List ℕ) (body : PlainBody) → length bytes < 2 ^ 64 → HasBody bytes (Ok body) → is_well_shaped body ≡ true }
     ensures kept { (bytes : List ℕ) (body : PlainBody) → length bytes < 2 ^ 64 → HasBody bytes (Ok body) → keeps_rules body ≡ true }

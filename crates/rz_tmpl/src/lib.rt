@@ -1,5 +1,5 @@
-//! 'TMPL' resources as templates: `template_of` gives the template that the bytes of one are, or exactly their first fault.
-//! What the entries are stands in `rz_tmpl_entries`, and which fields they are in `specs/Body`.
+//! 'TMPL' resources as templates: `template_of` gives the template that the bytes of one are, or exactly their first
+//! fault. What the entries are stands in `rz_tmpl_entries`, and which fields they are in `specs/Body`.
 //! It rests on `rz_core`, `rz_lex`, `rz_words`, `rz_expr`, `rz_types_fields`, `rz_types` and `rz_tmpl_entries`.
 //! A new code changes `field_of` in `specs/Body` and `field`, and `specs/Closed` and `closing`.
 #![tactic(auto)]

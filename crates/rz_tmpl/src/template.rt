@@ -15,7 +15,8 @@ use rz_types::Template;
 use std::alloc::Global;
 
 /// The template that the bytes of a 'TMPL' resource are. Its fields are those of a declaration: each entry is one, and
-/// counted lists are arrays `L1`, `L2` and so on, in the order in which they begin. Time and memory are linear in the bytes.
+/// counted lists are arrays `L1`, `L2` and so on, in the order in which they begin. Time and memory are linear in the
+/// bytes.
 ///
 /// Refused is the first fault of the entries, 451 to 456, as by [`entries`]. (ResEdit Reference, 'TMPL' resources.)
 pub fn template_of(alloc: Global, bytes: &[u8]) -> Result<Template, Stop<TmplFault>>
@@ -31,7 +32,8 @@ pub fn template_of(alloc: Global, bytes: &[u8]) -> Result<Template, Stop<TmplFau
     Ok(Template::of(alloc, part.into_body(), readable)?)
 }
 
-/// The fields of the entries of a body. They are read from the last to the first, so that a count is met after its list.
+/// The fields of the entries of a body. They are read from the last to the first, so that a count is met after its
+/// list.
 fn part_of(alloc: Global, entries: &[Entry]) -> Result<Part, NoMemory>
     requires { (items : Items) × (entries.now ≡ entries_of items) }
     ensures few { 1 + starts_in entries.now ≤ 2 ^ 64 }

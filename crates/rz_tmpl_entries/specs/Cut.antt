@@ -25,8 +25,8 @@ entry_bytes entry = length entry.label ∷ (entry.label ++ entry.code)
 
 -- Faults.
 
--- what holds before an entry: no further list may be opened; no list is open; a count waits in the innermost body; a row of
--- that body has a value
+-- what holds before an entry: no further list may be opened; no list is open; a count waits in the innermost body; a
+-- row of that body has a value
 pub record Standing : Type 0 where
   pub full : Bool
   pub outermost : Bool

@@ -46,8 +46,9 @@ abbrev pub waits_behind : ListForm → (waiting : Bool) → Bool
 waits_behind Counted waiting = false
 waits_behind Uncounted waiting = waiting
 
--- A body keeps the rules where a count waits in front of it or none does, and so many lists may be open in one another: one
--- count at a time waits, each counted list has its count, and none waits at the end of a list, whose rows have values.
+-- A body keeps the rules where a count waits in front of it or none does, and so many lists may be open in one another:
+-- one count at a time waits, each counted list has its count, and none waits at the end of a list, whose rows have
+-- values.
 abbrev pub is_kept : (left : ℕ) (waiting : Bool) → Items → Bool
 is_kept left waiting none = true
 is_kept left waiting (one plain rest) = is_kept left waiting rest

@@ -1,4 +1,5 @@
-//! What stands open between two entries, and the next entry with its fault; changed only with `specs/Cut` and `specs/Bodies`.
+//! What stands open between two entries, and the next entry with its fault; changed only with `specs/Cut` and
+//! `specs/Bodies`.
 
 ghost use Rattle.std.specs.Prelude.{◌≡◌, ◌<◌, ◌≤◌, ◌||◌, ◌++◌, ◌∷◌, [], length, true, false, MatchResult};
 ghost use Rattle.rz_tmpl_entries.specs.Entry.{takes};

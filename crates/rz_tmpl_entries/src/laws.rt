@@ -7,7 +7,8 @@ ghost use Rattle.rz_tmpl_entries.specs.Faults.{IsSayable};
 ghost use Rattle.rz_tmpl_entries.specs.Items.{Items};
 ghost use Rattle.rz_tmpl_entries.specs.declared.fault.TmplFault.{TmplFault};
 
-/// A law, with nothing to run: the bytes of a template are cut in one way, into the entries of one body or up to one fault.
+/// A law, with nothing to run: the bytes of a template are cut in one way, into the entries of one body or up to one
+/// fault.
 pub fn one_cut()
     ensures { (bytes : List ℕ) (one other : Result Items TmplFault) → IsCut bytes one → IsCut bytes other → one ≡ other }
 {}

@@ -12,15 +12,15 @@ use std::alloc::Global;
 /// The entries of a template, in order.
 pub type Entries = Listing<Entry>;
 
-/// The entries of a template, without their labels: counts, lists that are closed, and fields. Time and memory are linear in
-/// the bytes.
+/// The entries of a template, without their labels: counts, lists that are closed, and fields. Time and memory are
+/// linear in the bytes.
 ///
-/// Refused is the first entry with a fault, at its offset, or the end, at the length of the bytes: 451 TornEntry, the label
-/// or the code ends after the bytes; 452 UnknownCode, a code that this project doesn't take; 453 ListUnbalanced, the end
-/// of a list where none is open, or the end of the bytes where one is; 454 CountUnpaired, a list with a count before which
-/// no count waits in its body, a count while one waits there, or one that still waits at the end; 455 EmptyElement, the
-/// end of a list whose rows have nothing but zeros; 456 ListTooDeep, the 61st list that is open at once. An entry has the
-/// first of these that it meets. (ResEdit Reference, 'TMPL' resources.)
+/// Refused is the first entry with a fault, at its offset, or the end, at the length of the bytes: 451 TornEntry, the
+/// label or the code ends after the bytes; 452 UnknownCode, a code that this project doesn't take; 453 ListUnbalanced,
+/// the end of a list where none is open, or the end of the bytes where one is; 454 CountUnpaired, a list with a count
+/// before which no count waits in its body, a count while one waits there, or one that still waits at the end; 455
+/// EmptyElement, the end of a list whose rows have nothing but zeros; 456 ListTooDeep, the 61st list that is open at
+/// once. An entry has the first of these that it meets. (ResEdit Reference, 'TMPL' resources.)
 pub fn entries(alloc: Global, bytes: &[u8]) -> Result<Entries, Stop<TmplFault>>
     ensures { Meets result (Reads bytes.now) }
 {

@@ -365,7 +365,7 @@ module _ (known : Facts) (bytes : List ℕ) (small : AreSmall bytes) where
       let all : AllSmall (length own ∷ own) = subst AllSmall same (there_all place piece next there) in
       to_text texts.Pascal false names passed value place late piece next
       (record { size = None; has_size = refl; bytes = own; are_bytes = is; short = not_over (length own) few; are_bits = ap bits_of same })
-      (plain_of texts.Pascal false _ value own is (all.1, tt, tt, tt)) there short
+      (plain_of texts.Pascal false (sees known (bits_of bytes) names (8 * place)) value own is (all.1, tt, tt, tt)) there short
 
   to_ended : (names : Environment) (passed : Passed) (value : Option Tree) (place : ℕ) (late : Late) (piece : List ℕ) (next : ℕ) → IsPiece plain.ZeroEnded place value piece
       → IsThere bytes place piece next → next ≤ 16777212 → (late_after : Late) × Field (field_of plain.ZeroEnded) names passed value (8 * place) late (8 * next) late_after
@@ -373,14 +373,14 @@ module _ (known : Facts) (bytes : List ℕ) (small : AreSmall bytes) where
       let all = each_append (λ byte. byte < 256) own (0 ∷ []) (subst AllSmall same (there_all place piece next there)) in
       to_text texts.Zero false names passed value place late piece next
       (record { size = None; has_size = refl; bytes = own; are_bytes = is; short = refl; are_bits = ap bits_of same })
-      (plain_of texts.Zero false _ value own is (all.0, nonzero, tt, tt)) there short
+      (plain_of texts.Zero false (sees known (bits_of bytes) names (8 * place)) value own is (all.0, nonzero, tt, tt)) there short
 
   to_rest : (names : Environment) (passed : Passed) (value : Option Tree) (place : ℕ) (late : Late) (piece : List ℕ) (next : ℕ) → IsPiece plain.Rest place value piece
       → IsThere bytes place piece next → next ≤ 16777212 → (late_after : Late) × Field (field_of plain.Rest) names passed value (8 * place) late (8 * next) late_after
   to_rest names passed value place late piece next is there short =
       to_text texts.Open true names passed value place late piece next
       (record { size = None; has_size = refl; bytes = piece; are_bytes = is; short = refl; are_bits = refl })
-      (plain_of texts.Open true _ value piece is (there_all place piece next there, tt, tt, tt)) there short
+      (plain_of texts.Open true (sees known (bits_of bytes) names (8 * place)) value piece is (there_all place piece next there, tt, tt, tt)) there short
 
   -- Entries.
 

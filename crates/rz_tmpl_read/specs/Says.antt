@@ -1,4 +1,5 @@
--- What bytes say under the entries of a template: which values of a row, piece after piece. (ResEdit Reference, 'TMPL' resources.)
+-- What bytes say under the entries of a template: which values of a row, piece after piece. (ResEdit Reference, 'TMPL'
+-- resources.)
 use Rattle.std.specs.Prelude.{◌≡◌, ◌≢◌, ℕ, ◌+◌, ◌%◌, ◌^◌, ◌<◌, ◌≤◌, if◌then◌else◌, List, [], ◌∷◌, ◌++◌, length, take, drop, replicate, slice_index, Option, Some, None}
 use Rattle.std.specs.List.{flat_map, AllByRecursion}
 use Rattle.rz_bits.specs.BitBuf.{missing}

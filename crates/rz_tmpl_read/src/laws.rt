@@ -10,8 +10,8 @@ ghost use Rattle.rz_types_fields.specs.declared.tree.Tree.{Tree};
 
 use rz_unlay::spelled_bytes_are_few;
 
-/// A law, with nothing to run: under the fields of entries without a fault, whether they can be read or not, a row spells bytes
-/// plainly exactly where the bytes say it.
+/// A law, with nothing to run: under the fields of entries without a fault, whether they can be read or not, a row
+/// spells bytes plainly exactly where the bytes say it.
 pub fn said_rows_are_plain()
     ensures { (known : Facts) (items : Items) (row : List Tree) (bytes : List ℕ) → is_kept 60 false items ≡ true → waits false items ≡ false
         → 1 + lists_of items ≤ 2 ^ 64 → SpellsPlainly known (tmpl_body items) row bytes ↔ Says items row bytes }

@@ -15,9 +15,10 @@ use rz_tmpl_entries::one_cut;
 use rz_unlay::{Reading, read};
 use std::alloc::Global;
 
-/// The row that the bytes of a resource say under those of a 'TMPL' resource: `Tree` with the one row that they say where the
-/// template is closed, and `NoTree` exactly where it isn't, or they say none. No row is said by more than 16,777,212 bytes.
-/// Nothing depends on what is known of the resource. Time and memory are those of [`template_of`] and of [`read`].
+/// The row that the bytes of a resource say under those of a 'TMPL' resource: `Tree` with the one row that they say
+/// where the template is closed, and `NoTree` exactly where it isn't, or they say none. No row is said by more than
+/// 16,777,212 bytes. Nothing depends on what is known of the resource. Time and memory are those of [`template_of`] and
+/// of [`read`].
 ///
 /// Refused is the first fault of the entries, 451 to 456, as by [`template_of`]. (ResEdit Reference, 'TMPL' resources.)
 pub fn tmpl_read(

@@ -202,8 +202,12 @@ module _ {F E : Type 0} (g : Ghosts F) (name other : CommandName) (items : List 
 
 -- That of words.
 
+abbrev position_of : Outcome → ℕ
+position_of (Usage fault) = fault.position
+position_of other = 0
+
 pub same_position : (position other : ℕ) → Usage (record { position = position }) ≡ Usage (record { position = other }) → position ≡ other
-same_position position other ends = cc ends
+same_position position other ends = ap position_of ends
 
 pub misused_answers : (words : List (List ℕ)) (moment : Moment) (fault : UsageFault) → IsMisplaced words fault.position → (plan : Plan) → answer_of plan ≡ misused fault.position
     → (files : Files) → EachAnswer (replies.Plan plan) (Answers words files moment)

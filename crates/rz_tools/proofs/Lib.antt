@@ -13,7 +13,7 @@ pub mod ListedAll
 pub mod Again
 pub mod OfFiles
 pub mod Commands
-pub mod Listed
+pub mod ListReply
 pub mod Typing
 pub mod Showing
 pub mod ShownAgain

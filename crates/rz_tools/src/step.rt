@@ -27,7 +27,7 @@ use rz_pre_tokens::TokenStore;
 use rz_set::ResSet;
 use rz_stmt::{Span, Stmt, all_tokens_are_statements, next_statement, one_cutting, parse};
 use rz_tools_resource::{resource_of, resource_of_items};
-use rz_tools_values::Setting;
+use rz_tools_values::{Around, Setting};
 use rz_tools_work::{Work, declare_type, list_step, number_tool_words, put};
 use std::alloc::Global;
 
@@ -113,22 +113,27 @@ fn step_at<F: Folder>(
     ensures reads { OnlyReads F.Folder folder.old folder.new (IsReadFault result) }
 {
     let mark = tokens.at(span.start).mark;
+    let around = Around {
+        paths,
+        mark,
+        setting,
+    };
     match statement_at(alloc, tokens, span) {
         Ok(stmt) => match done_by(setting.tool, stmt) {
             Stmt::Empty => Ok(()),
             Stmt::Raw(raw) => {
-                let made = resource_of(alloc, folder, paths, raw, mark, setting);
+                let made = resource_of(alloc, folder, around, raw);
                 put_made(made, mark, setting, &mut work.resources)
             }
             Stmt::List(stmt) => {
                 let resources = &mut work.resources;
-                let ended = list_step(alloc, folder, paths, &stmt, mark, setting, resources);
+                let ended = list_step(alloc, folder, around, &stmt, resources);
                 drop(stmt);
                 ended
             }
             Stmt::Compile(stmt) => {
                 let types = &work.types;
-                let made = resource_of_items(alloc, folder, paths, stmt, mark, setting, types);
+                let made = resource_of_items(alloc, folder, around, stmt, types);
                 put_made(made, mark, setting, &mut work.resources)
             }
             Stmt::Declare(stmt) => halted(declare_type(alloc, stmt, mark, setting, work)),

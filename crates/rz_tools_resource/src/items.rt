@@ -62,10 +62,8 @@ fn read_items<F: Folder>(
 {
     let mut made = Items::new(alloc);
     for item in items.into_vec() {
-        match read_item(alloc, folder, paths, item, mark, known) {
-            Ok(item) => made.push(item)?,
-            Err(halt) => return Err(halt),
-        }
+        let item = read_item(alloc, folder, paths, item, mark, known)?;
+        made.push(item)?;
     }
     Ok(made)
 }
@@ -88,19 +86,17 @@ fn read_item<F: Folder>(
 {
     match item {
         Item::Number(expr, place) => Ok(Item::Number(expr, place)),
-        Item::Text(texts, place) => match read_texts(alloc, folder, paths, texts, mark, known) {
-            Ok(texts) => Ok(Item::Text(texts, place)),
-            Err(halt) => Err(halt),
-        },
-        Item::List(items, place) => match read_items(alloc, folder, paths, items, mark, known) {
-            Ok(items) => Ok(Item::List(items, place)),
-            Err(halt) => Err(halt),
-        },
+        Item::Text(texts, place) => {
+            let texts = read_texts(alloc, folder, paths, texts, mark, known)?;
+            Ok(Item::Text(texts, place))
+        }
+        Item::List(items, place) => {
+            let items = read_items(alloc, folder, paths, items, mark, known)?;
+            Ok(Item::List(items, place))
+        }
         Item::Named(name, items, place) => {
-            match read_items(alloc, folder, paths, items, mark, known) {
-                Ok(items) => Ok(Item::Named(name, items, place)),
-                Err(halt) => Err(halt),
-            }
+            let items = read_items(alloc, folder, paths, items, mark, known)?;
+            Ok(Item::Named(name, items, place))
         }
     }
 }

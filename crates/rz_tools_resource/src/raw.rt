@@ -9,7 +9,7 @@ ghost use Rattle.rz_folder_paths.specs.Names.{LooksFor};
 ghost use Rattle.rz_tools_values.specs.Asked.{TextsAsk};
 ghost use Rattle.rz_folder.specs.OnlyReads.{OnlyReads};
 ghost use Rattle.rz_core.specs.Stop.{IsReadFault, OnRefusal, Yields};
-ghost use Rattle.rz_tools_values.specs.Around.{around};
+ghost use Rattle.rz_tools_values.specs.Around.{around as among};
 ghost use Rattle.rz_tools_values.specs.Texts.{texts_given, texts_read};
 ghost use Rattle.rz_tools_resource.specs.Raw.{contents_read, resource_of, with_text};
 
@@ -17,7 +17,7 @@ use rz_core::{Bytes, Facts, Fault, FileNames, Halt, Mark, Resource};
 use rz_folder::Folder;
 use rz_stmt_data::RawStmt;
 use rz_tools_values::{
-    Setting, bytes_halted, contents_of, facts_of, fileless_texts_stay, names_file, read_texts,
+    Around, bytes_halted, contents_of, facts_of, fileless_texts_stay, names_file, read_texts,
     with_bytes,
 };
 use rz_types_fields::Texts;
@@ -29,22 +29,21 @@ use std::alloc::Global;
 pub fn resource_of<F: Folder>(
     alloc: Global,
     folder: &mut F,
-    paths: &FileNames,
+    around: Around<'_>,
     raw: RawStmt,
-    mark: Mark,
-    setting: Setting,
 ) -> Result<Resource, Halt<Fault>>
-    requires { MayRead F.Folder folder.old (LooksFor paths.now (TextsAsk (raw_of raw).texts)) }
-    ensures resource { IfSome (F.files folder.old) (λ files. Yields result (λ answer. answer ≡ resource_of (around setting paths.now files) mark (raw_of raw))) }
+    requires { MayRead F.Folder folder.old (LooksFor around.paths.now (TextsAsk (raw_of raw).texts)) }
+    ensures resource { IfSome (F.files folder.old) (λ files. Yields result (λ answer. answer
+        ≡ resource_of (among around.entry.setting around.entry.paths.now files) around.entry.mark (raw_of raw))) }
     ensures named { IfOk result (λ resource. length resource.name < 256) }
-    ensures nameable { (files : ℕ) → mark.file < files → OnRefusal result (IsNameable files) }
+    ensures nameable { (files : ℕ) → around.entry.mark.file < files → OnRefusal result (IsNameable files) }
     ensures reads { OnlyReads F.Folder folder.old folder.new (IsReadFault result) }
 {
     let RawStmt { kind, head, texts } = raw;
-    let said = facts_of(alloc, kind, &head, mark, setting);
+    let said = facts_of(alloc, kind, &head, around.mark, around.setting);
     drop(head);
     match said {
-        Ok(known) => with_text(alloc, folder, paths, known, texts, mark),
+        Ok(known) => with_text(alloc, folder, around.paths, known, texts, around.mark),
         Err(stop) => {
             drop(texts);
             Err(Halt::from(stop))
@@ -68,10 +67,8 @@ fn with_text<F: Folder>(
     ensures nameable { (files : ℕ) → mark.file < files → OnRefusal result (IsNameable files) }
     ensures reads { OnlyReads F.Folder folder.old folder.new (IsReadFault result) }
 {
-    match contents_read(alloc, folder, paths, texts, mark, &known) {
-        Ok(bytes) => Ok(with_bytes(known, bytes)),
-        Err(halt) => Err(halt),
-    }
+    let bytes = contents_read(alloc, folder, paths, texts, mark, &known)?;
+    Ok(with_bytes(known, bytes))
 }
 
 /// The contents that a text is, with what the files give that it names.
@@ -89,10 +86,8 @@ fn contents_read<F: Folder>(
     ensures nameable { (files : ℕ) → mark.file < files → OnRefusal result (IsNameable files) }
     ensures reads { OnlyReads F.Folder folder.old folder.new (IsReadFault result) }
 {
-    match with_files(alloc, folder, paths, texts, mark, known) {
-        Ok(texts) => bytes_halted(contents_of(alloc, &texts, mark, known)),
-        Err(halt) => Err(halt),
-    }
+    let texts = with_files(alloc, folder, paths, texts, mark, known)?;
+    bytes_halted(contents_of(alloc, &texts, mark, known))
 }
 
 /// The same text as `read_texts` gives; one that names no file is given back as it is, and no memory is taken.

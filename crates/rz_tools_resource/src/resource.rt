@@ -12,7 +12,7 @@ ghost use Rattle.rz_stmt_items.specs.Item.{plain_items};
 ghost use Rattle.rz_stmt_items.specs.Places.{AreItemsWithin};
 ghost use Rattle.rz_layout.specs.Compiled.{is_compile_fault};
 ghost use Rattle.rz_layout.specs.Fault.{refusal_of};
-ghost use Rattle.rz_tools_values.specs.Around.{around};
+ghost use Rattle.rz_tools_values.specs.Around.{around as among};
 ghost use Rattle.rz_tools_resource.specs.Resource.{no_type, row_fault, AreBytes, AreItemBytes, AreReadBytes, IsResource, IsSpelled};
 ghost use Rattle.rz_types_fields.specs.Row.{IsRow};
 ghost use Rattle.rz_types_table.specs.Table.{found};
@@ -20,11 +20,11 @@ ghost use Rattle.rz_types.specs.Template.{template_of};
 ghost use Rattle.rz_types_table.specs.TypeTable.{table_of};
 
 use crate::items::with_files;
-use rz_core::{Bytes, Facts, Fault, FileNames, Halt, Kept, Mark, Resource, Stop};
+use rz_core::{Bytes, Facts, Fault, Halt, Kept, Mark, Resource, Stop};
 use rz_folder::Folder;
 use rz_layout::{LayFault, compile};
 use rz_stmt_items::{CompileStmt, Items, match_items};
-use rz_tools_values::{Setting, facts_of, with_bytes};
+use rz_tools_values::{Around, facts_of, with_bytes};
 use rz_types::Template;
 use rz_types_fields::Row;
 use rz_types_table::TypeTable;
@@ -37,46 +37,43 @@ use std::alloc::Global;
 pub fn resource_of_items<F: Folder>(
     alloc: Global,
     folder: &mut F,
-    paths: &FileNames,
+    around: Around<'_>,
     stmt: CompileStmt,
-    mark: Mark,
-    setting: Setting,
     types: &TypeTable,
 ) -> Result<Resource, Halt<Fault>>
-    requires { MayRead F.Folder folder.old (LooksFor paths.now (ItemsAsk (compile_of stmt).items)) }
-    ensures resource { IfSome (F.files folder.old) (λ files. Yields result (IsResource (around setting paths.now files) mark (table_of types.now) (compile_of stmt))) }
+    requires { MayRead F.Folder folder.old (LooksFor around.paths.now (ItemsAsk (compile_of stmt).items)) }
+    ensures resource { IfSome (F.files folder.old) (λ files. Yields result
+        (IsResource (among around.entry.setting around.entry.paths.now files) around.entry.mark (table_of types.now) (compile_of stmt))) }
     ensures named { IfOk result (λ resource. length resource.name < 256) }
-    ensures nameable { (files : ℕ) → mark.file < files → AreItemsWithin files (plain_items stmt.items) → OnRefusal result (IsNameable files) }
+    ensures nameable { (files : ℕ) → around.entry.mark.file < files → AreItemsWithin files (plain_items stmt.items) → OnRefusal result (IsNameable files) }
     ensures reads { OnlyReads F.Folder folder.old folder.new (IsReadFault result) }
 {
     let CompileStmt { kind, head, items } = stmt;
-    let said = facts_of(alloc, kind, &head, mark, setting);
+    let said = facts_of(alloc, kind, &head, around.mark, around.setting);
     drop(head);
     let known = said?;
-    match bytes_of(alloc, folder, paths, items, mark, &known, types) {
-        Ok(bytes) => Ok(with_bytes(known, bytes)),
-        Err(halt) => Err(halt),
-    }
+    let bytes = bytes_of(alloc, folder, around, items, &known, types)?;
+    Ok(with_bytes(known, bytes))
 }
 
 /// The bytes of items under the fields that are declared for the resource.
 fn bytes_of<F: Folder>(
     alloc: Global,
     folder: &mut F,
-    paths: &FileNames,
+    around: Around<'_>,
     items: Items,
-    mark: Mark,
     known: &Facts,
     types: &TypeTable,
 ) -> Result<Bytes, Halt<Fault>>
-    requires { MayRead F.Folder folder.old (LooksFor paths.now (ItemsAsk (plain_items items))) }
-    ensures bytes { IfSome (F.files folder.old) (λ files. Yields result (AreBytes paths.now files mark (table_of types.now) (plain_items items) known.now)) }
-    ensures nameable { (files : ℕ) → mark.file < files → AreItemsWithin files (plain_items items) → OnRefusal result (IsNameable files) }
+    requires { MayRead F.Folder folder.old (LooksFor around.paths.now (ItemsAsk (plain_items items))) }
+    ensures bytes { IfSome (F.files folder.old) (λ files. Yields result
+        (AreBytes around.entry.paths.now files around.entry.mark (table_of types.now) (plain_items items) known.now)) }
+    ensures nameable { (files : ℕ) → around.entry.mark.file < files → AreItemsWithin files (plain_items items) → OnRefusal result (IsNameable files) }
     ensures reads { OnlyReads F.Folder folder.old folder.new (IsReadFault result) }
 {
     match template_for(types, known) {
-        Some(template) => bytes_read(alloc, folder, paths, items, mark, known, template),
-        None => Err(Halt::Refused(no_type(known, mark))),
+        Some(template) => bytes_read(alloc, folder, around, items, known, template),
+        None => Err(Halt::Refused(no_type(known, around.mark))),
     }
 }
 
@@ -92,21 +89,19 @@ fn template_for<'a>(types: &'a TypeTable, known: &Facts) -> Option<&'a Template>
 fn bytes_read<F: Folder>(
     alloc: Global,
     folder: &mut F,
-    paths: &FileNames,
+    around: Around<'_>,
     items: Items,
-    mark: Mark,
     known: &Facts,
     template: &Template,
 ) -> Result<Bytes, Halt<Fault>>
-    requires { MayRead F.Folder folder.old (LooksFor paths.now (ItemsAsk (plain_items items))) }
-    ensures bytes { IfSome (F.files folder.old) (λ files. Yields result (AreReadBytes paths.now files mark known.now (plain_items items) (template_of template.now))) }
-    ensures nameable { (files : ℕ) → mark.file < files → AreItemsWithin files (plain_items items) → OnRefusal result (IsNameable files) }
+    requires { MayRead F.Folder folder.old (LooksFor around.paths.now (ItemsAsk (plain_items items))) }
+    ensures bytes { IfSome (F.files folder.old) (λ files. Yields result
+        (AreReadBytes around.entry.paths.now files around.entry.mark known.now (plain_items items) (template_of template.now))) }
+    ensures nameable { (files : ℕ) → around.entry.mark.file < files → AreItemsWithin files (plain_items items) → OnRefusal result (IsNameable files) }
     ensures reads { OnlyReads F.Folder folder.old folder.new (IsReadFault result) }
 {
-    match with_files(alloc, folder, paths, items, mark, known) {
-        Ok(items) => Ok(bytes_under(alloc, &items, mark, known, template)?),
-        Err(halt) => Err(halt),
-    }
+    let items = with_files(alloc, folder, around.paths, items, around.mark, known)?;
+    Ok(bytes_under(alloc, &items, around.mark, known, template)?)
 }
 
 /// The bytes of items under the fields of a template: those of the row that they fit.
@@ -120,10 +115,8 @@ fn bytes_under(
     ensures bytes { Meets result (AreItemBytes mark known.now (plain_items items.now) (template_of template.now)) }
     ensures nameable { (files : ℕ) → mark.file < files → AreItemsWithin files (plain_items items.now) → OnFault result (IsNameable files) }
 {
-    match match_items(alloc, template, items, mark, known) {
-        Ok(row) => bytes_of_row(alloc, &row, mark, known, template),
-        Err(stop) => Err(stop),
-    }
+    let row = match_items(alloc, template, items, mark, known)?;
+    bytes_of_row(alloc, &row, mark, known, template)
 }
 
 /// The bytes that a row spells.

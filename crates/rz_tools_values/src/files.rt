@@ -63,10 +63,8 @@ pub fn file_of_name<F: Folder>(
     ensures nameable { (files : ℕ) → mark.file < files → OnRefusal result (IsNameable files) }
     ensures reads { OnlyReads F.Folder folder.old folder.new (IsReadFault result) }
 {
-    match file_named(alloc, folder, paths, name, mark) {
-        Ok(bytes) => file_told(alloc, bytes, mark),
-        Err(halt) => Err(halt),
-    }
+    let bytes = file_named(alloc, folder, paths, name, mark)?;
+    file_told(alloc, bytes, mark)
 }
 
 /// The file in these bytes, read in the form that they tell.

@@ -6,9 +6,11 @@
 //! `rz_types_fields`, `rz_types`, `rz_stmt_data`, `rz_fork`, `rz_bridge`, `rz_bridge_files` and `rz_set`,
 //! and on `bitflags` for attributes.
 //! A new part of a header changes `head`, and `renaming` of `rz_tools_work`; a new part of a string that names a file is a
-//! case of `texts`; what holds for all statements is `Setting`.
+//! case of `texts`; what holds for all statements is `Setting`, and
+//! what is the same for all that one statement does is `Around`.
 #![tactic(auto)]
 
+mod around;
 mod chosen;
 mod contents;
 mod files;
@@ -19,6 +21,7 @@ mod named;
 mod setting;
 mod texts;
 
+pub use around::Around;
 pub use chosen::{chosen_in_fork, chosen_in_set, id_said, sought_by};
 pub use contents::{contents_of, short_bytes, with_bytes};
 pub use files::{bytes_halted, file_named, file_of_name};

@@ -44,10 +44,8 @@ pub fn read_texts<F: Folder>(
 {
     let mut made = Texts::new(alloc);
     for part in texts.into_vec() {
-        match read_part(alloc, folder, paths, part, mark, known) {
-            Ok(part) => made.push(part)?,
-            Err(halt) => return Err(halt),
-        }
+        let part = read_part(alloc, folder, paths, part, mark, known)?;
+        made.push(part)?;
     }
     Ok(made)
 }
@@ -75,26 +73,20 @@ fn read_part<F: Folder>(
         TextPart::TimeFact => Ok(TextPart::TimeFact),
         TextPart::VersionFact => Ok(TextPart::VersionFact),
         TextPart::FileBytes(name) => {
-            match file_named(alloc, folder, paths, name.as_slice(), mark) {
-                Ok(bytes) => Ok(TextPart::Plain(bytes)),
-                Err(halt) => Err(halt),
-            }
+            let bytes = file_named(alloc, folder, paths, name.as_slice(), mark)?;
+            Ok(TextPart::Plain(bytes))
         }
         TextPart::FileResource(asked) => {
             let name = asked.file.as_slice();
-            match resource_named(
-                alloc, folder, paths, name, asked.kind, &asked.key, mark, known,
-            ) {
-                Ok(bytes) => Ok(TextPart::Plain(bytes)),
-                Err(halt) => Err(halt),
-            }
+            let file = Sought { paths, name, mark };
+            let bytes = resource_named(alloc, folder, file, asked.kind, &asked.key, known);
+            drop(asked);
+            Ok(TextPart::Plain(bytes?))
         }
         TextPart::Format(format) => {
             let format = Box::into_inner(format);
-            match read_arguments(alloc, folder, paths, format.arguments, mark, known) {
-                Ok(arguments) => Ok(format_of(alloc, format.text, arguments)?),
-                Err(halt) => Err(halt),
-            }
+            let arguments = read_arguments(alloc, folder, paths, format.arguments, mark, known)?;
+            Ok(format_of(alloc, format.text, arguments)?)
         }
     }
 }
@@ -125,10 +117,8 @@ fn read_arguments<F: Folder>(
 {
     let mut made = FormatArgs::new(alloc);
     for argument in arguments.into_vec() {
-        match read_argument(alloc, folder, paths, argument, mark, known) {
-            Ok(argument) => made.push(argument)?,
-            Err(halt) => return Err(halt),
-        }
+        let argument = read_argument(alloc, folder, paths, argument, mark, known)?;
+        made.push(argument)?;
     }
     Ok(made)
 }
@@ -151,55 +141,59 @@ fn read_argument<F: Folder>(
 {
     match argument {
         FormatArg::Number(expr) => Ok(FormatArg::Number(expr)),
-        FormatArg::Text(texts) => match read_texts(alloc, folder, paths, texts, mark, known) {
-            Ok(texts) => Ok(FormatArg::Text(texts)),
-            Err(halt) => Err(halt),
-        },
+        FormatArg::Text(texts) => {
+            let texts = read_texts(alloc, folder, paths, texts, mark, known)?;
+            Ok(FormatArg::Text(texts))
+        }
     }
+}
+
+/// A file that a text names.
+#[derive(Clone, Copy)]
+struct Sought<'a> {
+    /// The paths after which it is looked for.
+    paths: &'a FileNames,
+    /// Its name in Mac Roman.
+    name: &'a [u8],
+    /// The line that names it.
+    mark: Mark,
 }
 
 /// The bytes of the resource of a file that is asked for.
 fn resource_named<F: Folder>(
     alloc: Global,
     folder: &mut F,
-    paths: &FileNames,
-    name: &[u8],
+    file: Sought<'_>,
     kind: OsType,
     key: &ResKey,
-    mark: Mark,
     known: &Facts,
 ) -> Result<Bytes, Halt<Fault>>
-    requires { MayRead F.Folder folder.old (IsOneOf (names_of paths.now (utf8_name name.now))) }
-    ensures read { IfSome (F.files folder.old) (λ files.
-        Yields result (λ answer. answer ≡ resource_named paths.now files mark known.now name.now kind (plain_key key.now))) }
-    ensures nameable { (files : ℕ) → mark.file < files → OnRefusal result (IsNameable files) }
+    requires { MayRead F.Folder folder.old (IsOneOf (names_of file.paths.now (utf8_name file.name.now))) }
+    ensures read { IfSome (F.files folder.old) (λ files. Yields result (λ answer. answer
+        ≡ resource_named file.entry.paths.now files file.entry.mark known.now file.entry.name.now kind (plain_key key.now))) }
+    ensures nameable { (files : ℕ) → file.entry.mark.file < files → OnRefusal result (IsNameable files) }
     ensures reads { OnlyReads F.Folder folder.old folder.new (IsReadFault result) }
 {
-    match key_said(alloc, key, mark, known) {
-        Ok(pick) => resource_bytes(alloc, folder, paths, name, kind, &pick, mark),
-        Err(stop) => Err(Halt::from(stop)),
-    }
+    let pick = key_said(alloc, key, file.mark, known)?;
+    resource_bytes(alloc, folder, file, kind, &pick)
 }
 
 /// The bytes of the resource of a file that a pick by id or name chooses.
 fn resource_bytes<F: Folder>(
     alloc: Global,
     folder: &mut F,
-    paths: &FileNames,
-    name: &[u8],
+    file: Sought<'_>,
     kind: OsType,
     pick: &Pick,
-    mark: Mark,
 ) -> Result<Bytes, Halt<Fault>>
-    requires { MayRead F.Folder folder.old (IsOneOf (names_of paths.now (utf8_name name.now))) }
-    ensures read { IfSome (F.files folder.old) (λ files. Yields result (λ answer. answer ≡ resource_bytes paths.now files mark name.now kind pick.now)) }
-    ensures nameable { (files : ℕ) → mark.file < files → OnRefusal result (IsNameable files) }
+    requires { MayRead F.Folder folder.old (IsOneOf (names_of file.paths.now (utf8_name file.name.now))) }
+    ensures read { IfSome (F.files folder.old) (λ files. Yields result (λ answer. answer
+        ≡ resource_bytes file.entry.paths.now files file.entry.mark file.entry.name.now kind pick.now)) }
+    ensures nameable { (files : ℕ) → file.entry.mark.file < files → OnRefusal result (IsNameable files) }
     ensures reads { OnlyReads F.Folder folder.old folder.new (IsReadFault result) }
 {
-    match file_of_name(alloc, folder, paths, name, mark) {
-        Ok(file) => bytes_halted(bytes_in(alloc, file.res_fork.as_slice(), kind, pick, mark)),
-        Err(halt) => Err(halt),
-    }
+    let told = file_of_name(alloc, folder, file.paths, file.name, file.mark)?;
+    bytes_halted(bytes_in(alloc, told.res_fork.as_slice(), kind, pick, file.mark))
 }
 
 /// The bytes of the resource of a fork that a pick by id or name chooses.
@@ -242,10 +236,8 @@ fn bytes_chosen(
     ensures bytes { Gives (bytes_chosen mark kind pick.now fork.now.list) result }
     ensures nameable { (files : ℕ) → mark.file < files → OnFault result (IsNameable files) }
 {
-    match chosen_in_fork(alloc, fork, kind, pick, mark) {
-        Ok(one) => Ok(bytes_of_one(alloc, &one)?),
-        Err(stop) => Err(stop),
-    }
+    let one = chosen_in_fork(alloc, fork, kind, pick, mark)?;
+    Ok(bytes_of_one(alloc, &one)?)
 }
 
 /// A copy of the bytes of a resource that is lent, or none.

@@ -35,10 +35,8 @@ pub fn change_resources(
     ensures changed { Meets (left resources.new result) (λ answer. answer ≡ list_changing setting mark resources.old (change_of stmt.now)) }
     ensures nameable { (files : ℕ) → mark.file < files → OnFault result (IsNameable files) }
 {
-    match change_said(alloc, stmt, mark, setting, resources) {
-        Ok(said) => change_chosen(alloc, stmt.kind, &said, mark, setting, resources),
-        Err(stop) => Err(stop),
-    }
+    let said = change_said(alloc, stmt, mark, setting, resources)?;
+    change_chosen(alloc, stmt.kind, &said, mark, setting, resources)
 }
 
 /// The pick of a `change` statement, and what the resources become that it chooses.
@@ -55,10 +53,8 @@ fn change_said(
     ensures nameable { (files : ℕ) → mark.file < files → OnFault result (IsNameable files) }
 {
     let pick = pick_to_change(alloc, stmt.kind, &stmt.pick, mark, setting)?;
-    let one = match chosen_in_set(alloc, list, stmt.kind, &pick, mark) {
-        Ok(one) => lent_of(one),
-        Err(stop) => return Err(stop),
-    };
+    let one = chosen_in_set(alloc, list, stmt.kind, &pick, mark)?;
+    let one = lent_of(one);
     let head = new_head(alloc, stmt.new_kind, &one, &stmt.head, mark, setting)?;
     Ok(Renamed { pick, head })
 }
@@ -96,10 +92,8 @@ pub fn delete_resources(
     ensures deleted { Meets (left resources.new result) (λ answer. answer ≡ list_deleting setting mark resources.old (delete_of stmt.now)) }
     ensures nameable { (files : ℕ) → mark.file < files → OnFault result (IsNameable files) }
 {
-    match pick_to_change(alloc, stmt.kind, &stmt.pick, mark, setting) {
-        Ok(pick) => delete_picked(alloc, stmt.kind, &pick, mark, setting, resources),
-        Err(stop) => Err(stop),
-    }
+    let pick = pick_to_change(alloc, stmt.kind, &stmt.pick, mark, setting)?;
+    delete_picked(alloc, stmt.kind, &pick, mark, setting, resources)
 }
 
 /// Takes the resources of a type out that a pick chooses.

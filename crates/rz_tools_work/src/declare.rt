@@ -40,14 +40,8 @@ pub fn declare_type(
     ensures nameable { (files : ℕ) → mark.file < files → OnFault result (IsNameable files) }
 {
     let DeclareStmt { kind, bounds, made } = declare;
-    let scope = match scope_of(bounds, mark) {
-        Ok(scope) => scope,
-        Err(stop) => return Err(stop),
-    };
-    let template = match template_of(alloc, made, &work.types, mark) {
-        Ok(template) => template,
-        Err(stop) => return Err(stop),
-    };
+    let scope = scope_of(bounds, mark)?;
+    let template = template_of(alloc, made, &work.types, mark)?;
     let again = match work.types.declare(kind, scope, template) {
         Ok(again) => again,
         Err(_) => return Err(Stop::NoMemory),

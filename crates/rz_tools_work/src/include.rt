@@ -9,7 +9,7 @@ ghost use Rattle.rz_folder.specs.OnlyReads.{OnlyReads};
 ghost use Rattle.rz_stmt_lists.specs.Include.{include_of, part_of};
 ghost use Rattle.rz_set.specs.After.{HasShortName};
 ghost use Rattle.rz_set.specs.ResSet.{AreNamed};
-ghost use Rattle.rz_tools_values.specs.Around.{around};
+ghost use Rattle.rz_tools_values.specs.Around.{around as among};
 ghost use Rattle.rz_tools_work.specs.Include.{all_of, asked_by, asked_for, fork_included, included, list_including, list_with_asked};
 
 use crate::lent::include_lent;
@@ -18,12 +18,12 @@ use crate::putting::on_line;
 use crate::read::halted;
 use crate::renaming::new_head;
 use rz_bridge_files::admit_fork;
-use rz_core::{Fault, FileNames, Halt, Kept, Mark, NoMemory, OsType, Stop};
+use rz_core::{Fault, Halt, Kept, Mark, NoMemory, OsType, Stop};
 use rz_folder::Folder;
 use rz_fork::ForkView;
 use rz_set::{Choice, Head, Pick, ResSet};
 use rz_stmt_lists::{IncludePart, IncludeStmt};
-use rz_tools_values::{Setting, chosen_in_fork, file_of_name, sought_by};
+use rz_tools_values::{Around, Setting, chosen_in_fork, file_of_name, sought_by};
 use std::alloc::Global;
 
 /// What an `include` statement asks for.
@@ -48,25 +48,33 @@ pub struct Asked {
 pub fn include_resources<F: Folder>(
     alloc: Global,
     folder: &mut F,
-    paths: &FileNames,
+    around: Around<'_>,
     stmt: &IncludeStmt,
-    mark: Mark,
-    setting: Setting,
     resources: &mut ResSet,
 ) -> Result<(), Halt<Fault>>
-    requires { MayRead F.Folder folder.old (IsOneOf (names_of paths.now (utf8_name (include_of stmt.now).file))) }
+    requires { MayRead F.Folder folder.old (IsOneOf (names_of around.paths.now (utf8_name (include_of stmt.now).file))) }
     ensures included { IfSome (F.files folder.old) (λ files.
-        Yields (left resources.new result) (λ answer. answer ≡ list_including (around setting paths.now files) mark resources.old (include_of stmt.now))) }
-    ensures nameable { (files : ℕ) → mark.file < files → OnRefusal result (IsNameable files) }
+        Yields (left resources.new result) (λ answer. answer
+        ≡ list_including (among around.entry.setting around.entry.paths.now files) around.entry.mark resources.old (include_of stmt.now))) }
+    ensures nameable { (files : ℕ) → around.entry.mark.file < files → OnRefusal result (IsNameable files) }
     ensures reads { OnlyReads F.Folder folder.old folder.new (IsReadFault result) }
 {
-    match file_of_name(alloc, folder, paths, stmt.file.as_slice(), mark) {
-        Ok(file) => {
-            let fork = file.res_fork.as_slice();
-            halted(include_fork(alloc, fork, &stmt.part, mark, setting, resources))
-        }
-        Err(halt) => Err(halt),
-    }
+    let file = file_of_name(
+        alloc,
+        folder,
+        around.paths,
+        stmt.file.as_slice(),
+        around.mark,
+    )?;
+    let fork = file.res_fork.as_slice();
+    halted(include_fork(
+        alloc,
+        fork,
+        &stmt.part,
+        around.mark,
+        around.setting,
+        resources,
+    ))
 }
 
 /// Puts the resources that a part means of the fork in these bytes into the list. No other is copied.
@@ -101,10 +109,8 @@ fn include_part(
     ensures included { Meets (left resources.new result) (λ answer. answer ≡ included setting mark resources.old (part_of part.now) source.now.list) }
     ensures nameable { (files : ℕ) → mark.file < files → OnFault result (IsNameable files) }
 {
-    match asked_by(alloc, source, part, mark, setting) {
-        Ok(asked) => include_asked(alloc, source, asked, mark, setting, resources),
-        Err(stop) => Err(stop),
-    }
+    let asked = asked_by(alloc, source, part, mark, setting)?;
+    include_asked(alloc, source, asked, mark, setting, resources)
 }
 
 /// Puts the resources that are asked for of a fork into the list.
@@ -158,14 +164,8 @@ fn asked_by(
         }
         IncludePart::Renamed(kind, pick, new_kind, head) => {
             let pick = pick_said(alloc, *kind, pick, mark, setting)?;
-            let one = match chosen_in_fork(alloc, source, *kind, &pick, mark) {
-                Ok(one) => one,
-                Err(stop) => return Err(stop),
-            };
-            let head = match new_head(alloc, *new_kind, &one, head, mark, setting) {
-                Ok(head) => head,
-                Err(stop) => return Err(stop),
-            };
+            let one = chosen_in_fork(alloc, source, *kind, &pick, mark)?;
+            let head = new_head(alloc, *new_kind, &one, head, mark, setting)?;
             Ok(asked_for(alloc, *kind, pick, Some(head))?)
         }
     }

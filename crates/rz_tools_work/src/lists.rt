@@ -8,17 +8,17 @@ ghost use Rattle.rz_tools_work.specs.Asked.{ListAsks};
 ghost use Rattle.rz_folder.specs.OnlyReads.{OnlyReads};
 ghost use Rattle.rz_stmt_lists.specs.Lists.{list_of};
 ghost use Rattle.rz_core.specs.Stop.{IsReadFault, OnRefusal, left, Yields};
-ghost use Rattle.rz_tools_values.specs.Around.{around};
+ghost use Rattle.rz_tools_values.specs.Around.{around as among};
 ghost use Rattle.rz_tools_work.specs.Lists.{list_after};
 
 use crate::change::{change_resources, delete_resources};
 use crate::include::include_resources;
 use crate::read::{halted, read_resource};
-use rz_core::{Fault, FileNames, Halt, Mark};
+use rz_core::{Fault, Halt};
 use rz_folder::Folder;
 use rz_set::ResSet;
 use rz_stmt_lists::ListStmt;
-use rz_tools_values::Setting;
+use rz_tools_values::Around;
 use std::alloc::Global;
 
 /// Does what an `include`, `read`, `change` or `delete` statement on this line says, or answers with its first fault. What each statement is tested for,
@@ -38,26 +38,25 @@ use std::alloc::Global;
 pub fn list_step<F: Folder>(
     alloc: Global,
     folder: &mut F,
-    paths: &FileNames,
+    around: Around<'_>,
     stmt: &ListStmt,
-    mark: Mark,
-    setting: Setting,
     resources: &mut ResSet,
 ) -> Result<(), Halt<Fault>>
-    requires { MayRead F.Folder folder.old (LooksFor paths.now (ListAsks (list_of stmt.now))) }
+    requires { MayRead F.Folder folder.old (LooksFor around.paths.now (ListAsks (list_of stmt.now))) }
     ensures stepped { IfSome (F.files folder.old) (λ files.
-        Yields (left resources.new result) (λ answer. answer ≡ list_after (around setting paths.now files) mark resources.old (list_of stmt.now))) }
-    ensures nameable { (files : ℕ) → mark.file < files → OnRefusal result (IsNameable files) }
+        Yields (left resources.new result) (λ answer. answer
+        ≡ list_after (among around.entry.setting around.entry.paths.now files) around.entry.mark resources.old (list_of stmt.now))) }
+    ensures nameable { (files : ℕ) → around.entry.mark.file < files → OnRefusal result (IsNameable files) }
     ensures reads { OnlyReads F.Folder folder.old folder.new (IsReadFault result) }
 {
     match stmt {
-        ListStmt::Include(stmt) => {
-            include_resources(alloc, folder, paths, stmt, mark, setting, resources)
+        ListStmt::Include(stmt) => include_resources(alloc, folder, around, stmt, resources),
+        ListStmt::Read(stmt) => read_resource(alloc, folder, around, stmt, resources),
+        ListStmt::Change(stmt) => {
+            halted(change_resources(alloc, stmt, around.mark, around.setting, resources))
         }
-        ListStmt::Read(stmt) => {
-            read_resource(alloc, folder, paths, stmt, mark, setting, resources)
+        ListStmt::Delete(stmt) => {
+            halted(delete_resources(alloc, stmt, around.mark, around.setting, resources))
         }
-        ListStmt::Change(stmt) => halted(change_resources(alloc, stmt, mark, setting, resources)),
-        ListStmt::Delete(stmt) => halted(delete_resources(alloc, stmt, mark, setting, resources)),
     }
 }

@@ -7,7 +7,7 @@ ghost use Rattle.rz_folder_paths.specs.Names.{names_of, utf8_name};
 ghost use Rattle.rz_folder.specs.OnlyReads.{OnlyReads};
 ghost use Rattle.rz_stmt_lists.specs.Read.{read_of};
 ghost use Rattle.rz_core.specs.Stop.{IsReadFault, OnRefusal, Yields, halted, left};
-ghost use Rattle.rz_tools_values.specs.Around.{around};
+ghost use Rattle.rz_tools_values.specs.Around.{around as among};
 ghost use Rattle.rz_tools_values.specs.Contents.{short_bytes};
 ghost use Rattle.rz_tools_values.specs.Files.{file_named};
 ghost use Rattle.rz_tools_work.specs.Read.{contents_named, list_reading, resource_read, with_file};
@@ -17,7 +17,7 @@ use rz_core::{Bytes, Facts, Fault, FileNames, Halt, Mark, Resource, Stop};
 use rz_folder::Folder;
 use rz_set::ResSet;
 use rz_stmt_lists::ReadStmt;
-use rz_tools_values::{Setting, facts_of, file_named, short_bytes, with_bytes};
+use rz_tools_values::{Around, facts_of, file_named, short_bytes, with_bytes};
 use std::alloc::Global;
 
 /// Does what a `read` statement on this line says: the whole file, as it is, becomes a resource with this head, and is put
@@ -27,43 +27,44 @@ use std::alloc::Global;
 pub fn read_resource<F: Folder>(
     alloc: Global,
     folder: &mut F,
-    paths: &FileNames,
+    around: Around<'_>,
     stmt: &ReadStmt,
-    mark: Mark,
-    setting: Setting,
     resources: &mut ResSet,
 ) -> Result<(), Halt<Fault>>
-    requires { MayRead F.Folder folder.old (IsOneOf (names_of paths.now (utf8_name (read_of stmt.now).file))) }
+    requires { MayRead F.Folder folder.old (IsOneOf (names_of around.paths.now (utf8_name (read_of stmt.now).file))) }
     ensures read { IfSome (F.files folder.old) (λ files.
-        Yields (left resources.new result) (λ answer. answer ≡ list_reading (around setting paths.now files) mark resources.old (read_of stmt.now))) }
-    ensures nameable { (files : ℕ) → mark.file < files → OnRefusal result (IsNameable files) }
+        Yields (left resources.new result) (λ answer. answer
+        ≡ list_reading (among around.entry.setting around.entry.paths.now files) around.entry.mark resources.old (read_of stmt.now))) }
+    ensures nameable { (files : ℕ) → around.entry.mark.file < files → OnRefusal result (IsNameable files) }
     ensures reads { OnlyReads F.Folder folder.old folder.new (IsReadFault result) }
 {
-    match resource_read(alloc, folder, paths, stmt, mark, setting) {
-        Ok(resource) => halted(put(resources, resource, setting.over, mark)),
-        Err(halt) => Err(halt),
-    }
+    let resource = resource_read(alloc, folder, around, stmt)?;
+    halted(put(resources, resource, around.setting.over, around.mark))
 }
 
 /// The resource that a `read` statement on this line makes.
 fn resource_read<F: Folder>(
     alloc: Global,
     folder: &mut F,
-    paths: &FileNames,
+    around: Around<'_>,
     stmt: &ReadStmt,
-    mark: Mark,
-    setting: Setting,
 ) -> Result<Resource, Halt<Fault>>
-    requires { MayRead F.Folder folder.old (IsOneOf (names_of paths.now (utf8_name (read_of stmt.now).file))) }
-    ensures read { IfSome (F.files folder.old) (λ files. Yields result (λ answer. answer ≡ resource_read (around setting paths.now files) mark (read_of stmt.now))) }
+    requires { MayRead F.Folder folder.old (IsOneOf (names_of around.paths.now (utf8_name (read_of stmt.now).file))) }
+    ensures read { IfSome (F.files folder.old) (λ files. Yields result (λ answer. answer
+        ≡ resource_read (among around.entry.setting around.entry.paths.now files) around.entry.mark (read_of stmt.now))) }
     ensures named { IfOk result (λ resource. length resource.name < 256) }
-    ensures nameable { (files : ℕ) → mark.file < files → OnRefusal result (IsNameable files) }
+    ensures nameable { (files : ℕ) → around.entry.mark.file < files → OnRefusal result (IsNameable files) }
     ensures reads { OnlyReads F.Folder folder.old folder.new (IsReadFault result) }
 {
-    match facts_of(alloc, stmt.kind, &stmt.head, mark, setting) {
-        Ok(known) => with_file(alloc, folder, paths, known, stmt.file.as_slice(), mark),
-        Err(stop) => Err(Halt::from(stop)),
-    }
+    let known = facts_of(alloc, stmt.kind, &stmt.head, around.mark, around.setting)?;
+    with_file(
+        alloc,
+        folder,
+        around.paths,
+        known,
+        stmt.file.as_slice(),
+        around.mark,
+    )
 }
 
 /// The resource of which this is known, with the contents of a file.
@@ -82,10 +83,8 @@ fn with_file<F: Folder>(
     ensures nameable { (files : ℕ) → mark.file < files → OnRefusal result (IsNameable files) }
     ensures reads { OnlyReads F.Folder folder.old folder.new (IsReadFault result) }
 {
-    match contents_named(alloc, folder, paths, name, mark) {
-        Ok(bytes) => Ok(with_bytes(known, bytes)),
-        Err(halt) => Err(halt),
-    }
+    let bytes = contents_named(alloc, folder, paths, name, mark)?;
+    Ok(with_bytes(known, bytes))
 }
 
 /// The contents of a file, as many as a resource may have: 301.
@@ -101,10 +100,8 @@ fn contents_named<F: Folder>(
     ensures nameable { (files : ℕ) → mark.file < files → OnRefusal result (IsNameable files) }
     ensures reads { OnlyReads F.Folder folder.old folder.new (IsReadFault result) }
 {
-    match file_named(alloc, folder, paths, name, mark) {
-        Ok(bytes) => short_contents(bytes, mark),
-        Err(halt) => Err(halt),
-    }
+    let bytes = file_named(alloc, folder, paths, name, mark)?;
+    short_contents(bytes, mark)
 }
 
 /// Contents, as many as a resource may have: 301.

@@ -165,8 +165,6 @@ fn new_attributes(
     if attributes.is_empty() {
         return Ok(None);
     }
-    match bits_of(alloc, attributes, mark, known) {
-        Ok(attr) => Ok(Some(attr)),
-        Err(stop) => Err(stop),
-    }
+    let attr = bits_of(alloc, attributes, mark, known)?;
+    Ok(Some(attr))
 }

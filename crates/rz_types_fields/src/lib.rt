@@ -26,11 +26,13 @@ mod names;
 mod notes;
 mod place;
 mod range;
+mod solve;
 mod stored;
 mod symbol_list;
 mod text;
 mod tree;
 mod value;
+mod width;
 
 pub use expressions::{expressions_of, format_expressions, text_expressions};
 pub use field::{
@@ -38,14 +40,13 @@ pub use field::{
     TextField, TextForm, takes_value,
 };
 pub use hints::{CaseHints, switch_of};
-pub use keys::{CaseKey, case_keys, fixed_width, fixed_widths, key_bits, sized_bytes, text_width};
-pub use name_key::{
-    Standing, declares, gives_key, is_label, is_predefined, is_same_key, standing_of, states,
-};
+pub use keys::{CaseKey, case_keys, key_bits};
+pub use name_key::{declares, gives_key, is_label, is_predefined, is_same_key, states};
 pub use names::{InRow, Note, note_front, note_rows};
 pub use notes::{NamesEnv, Notes, is_met, value_noted};
 pub use place::{TextPlace, may_say, may_stand};
 pub use range::{fits_number, may_be_size, own_width};
+pub use solve::{Standing, standing_of};
 pub use stored::{is_too_long, stored_number};
 pub use symbol_list::Symbols;
 pub use text::{
@@ -56,3 +57,4 @@ pub use value::{
     constant_value, fact_of, is_field_expression, is_fixed_expression, is_item_expression,
     is_size_expression, number_of, symbol_number_of,
 };
+pub use width::{fixed_width, fixed_widths, sized_bytes, text_width};

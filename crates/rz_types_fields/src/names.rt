@@ -1,16 +1,15 @@
 //! Notes of what is known of names: the numbers of rows, the places of labels, and the names that a body hides. They stand in a
 //! list, in `notes`, of which the newest that speaks of a name counts.
 
-ghost use Rattle.std.specs.Prelude.{◌≡◌, false, OnOk, if◌then◌else◌};
+ghost use Rattle.std.specs.Prelude.{◌≡◌, OnOk, if◌then◌else◌};
 ghost use Rattle.std.specs.Str.{str_to_ascii_lowercase};
 ghost use Rattle.rz_expr.specs.Environment.{place_in_key};
 ghost use Rattle.rz_expr.specs.NameKey.{key_of};
 ghost use Rattle.rz_types_fields.specs.Field.{plain_array, plain_body, plain_field};
-ghost use Rattle.rz_types_fields.specs.Front.{stated_by, stated_in, stated_value};
+ghost use Rattle.rz_types_fields.specs.Front.{stated_by, stated_in};
 ghost use Rattle.rz_types_fields.specs.Known.{said, speaks, which_of, Adds, AreRowsNoted, Hides, IsFront, Tells};
-ghost use Rattle.rz_types_fields.specs.Passed.{declares, gives_count, gives_key};
+ghost use Rattle.rz_types_fields.specs.Passed.{declares, gives_key};
 ghost use Rattle.rz_types_fields.specs.RowLabels.{is_row, label_count, label_index, labels_count, row_number, row_value};
-ghost use Rattle.rz_types_fields.specs.Solve.{is_same_key};
 
 use crate::name_key::{counts_rows, gives_rows, is_label, is_same_key, stands_at};
 use crate::notes::Notes;
@@ -146,33 +145,20 @@ fn hide_field<'a>(field: &'a Field, notes: &mut Notes<'a>) -> Result<(), NoMemor
     ensures { OnOk result (Hides (gives_key (plain_field field.now)) notes.old.items notes.new.items) }
 {
     match field {
-        Field::Array(array) => hide_array(array, notes),
-        Field::Label(name) => hide(Key::Place(name), notes),
-        _ => Ok(()),
+        Field::Array(array) => hide_array(array, notes)?,
+        Field::Label(name) => notes.push(Note::Hidden(Key::Place(name)))?,
+        _ => {}
     }
+    Ok(())
 }
 
 fn hide_array<'a>(array: &'a ArrayField, notes: &mut Notes<'a>) -> Result<(), NoMemory>
     ensures { OnOk result (Hides (gives_key (plain_array array.now)) notes.old.items notes.new.items) }
 {
-    hide_count(&array.name, notes)?;
-    notes.push(Note::Coming(array.row.as_slice()))?;
-    Ok(())
-}
-
-fn hide_count<'a>(name: &'a Option<Word>, notes: &mut Notes<'a>) -> Result<(), NoMemory>
-    ensures { OnOk result (Hides (gives_count name.now) notes.old.items notes.new.items) }
-{
-    match name {
-        Some(name) => hide(Key::Count(name), notes),
-        None => Ok(()),
+    if let Some(name) = &array.name {
+        notes.push(Note::Hidden(Key::Count(name)))?;
     }
-}
-
-fn hide<'a>(key: Key<'a>, notes: &mut Notes<'a>) -> Result<(), NoMemory>
-    ensures { OnOk result (Hides (is_same_key (key_of key.entry)) notes.old.items notes.new.items) }
-{
-    notes.push(Note::Hidden(key))?;
+    notes.push(Note::Coming(array.row.as_slice()))?;
     Ok(())
 }
 
@@ -190,23 +176,12 @@ fn tell_counts<'a>(fields: &'a [Field], notes: &mut Notes<'a>) -> Result<(), NoM
 fn tell_count<'a>(field: &'a Field, notes: &mut Notes<'a>) -> Result<(), NoMemory>
     ensures { OnOk result (Tells (stated_by (plain_field field.now)) notes.old.items notes.new.items) }
 {
-    match field {
-        Field::Array(array) => tell_stated(&array.name, array.count, notes),
-        _ => Ok(()),
-    }
-}
-
-fn tell_stated<'a>(
-    name: &'a Option<Word>,
-    count: Option<i32>,
-    notes: &mut Notes<'a>,
-) -> Result<(), NoMemory>
-    ensures { OnOk result (Tells (stated_value name.now count) notes.old.items notes.new.items) }
-{
-    let (Some(name), Some(count)) = (name, count) else {
+    let Field::Array(array) = field else {
         return Ok(());
     };
-    notes.push(Note::Told(name, i64::from(count)))?;
+    if let (Some(name), Some(count)) = (&array.name, array.count) {
+        notes.push(Note::Told(name, i64::from(count)))?;
+    }
     Ok(())
 }
 
@@ -220,18 +195,10 @@ pub fn note_rows<'a>(
 ) -> Result<(), NoMemory>
     ensures { OnOk result (AreRowsNoted (plain_body row.now) count places.items notes.old.items notes.new.items) }
 {
-    if !are_noted(row, count) {
-        return Ok(());
+    if count == 0 || labels_count(row) > 0 {
+        notes.push(Note::Rows(row, count, places))?;
     }
-    notes.push(Note::Rows(row, count, places))?;
     Ok(())
-}
-
-/// Whether so many rows are noted: they have labels, or there are none of them, whose fields aren't looked through.
-fn are_noted(row: &[Field], count: u64) -> bool
-    ensures { result ≡ false → labels_count (plain_body row.now) ≡ 0 }
-{
-    count == 0 || labels_count(row) > 0
 }
 
 /// How many labels stand directly in a body.
@@ -248,10 +215,7 @@ fn labels_count(row: &[Field]) -> u64
 fn label_count(field: &Field) -> u64
     ensures { result ≡ label_count (plain_field field.now) }
 {
-    match field {
-        Field::Label(_) => 1,
-        _ => 0,
-    }
+    u64::from(matches!(field, Field::Label(_)))
 }
 
 /// How many labels stand directly in a body before the first of this name.

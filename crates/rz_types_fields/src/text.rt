@@ -125,6 +125,9 @@ pub fn text_seen<E: Env>(
     ensures value { Gives (bytes_seen place facts.now (E.view env.now) (plain_parts texts.now)) result }
     ensures nameable { (files : ℕ) → place.file < files → OnFault result (IsNameable files) }
 {
+    if let [TextPart::Plain(bytes)] = texts.as_slice() {
+        return Ok(Bytes::of(alloc, bytes.as_slice())?);
+    }
     let mut bytes = Bytes::new(alloc);
     for part in texts.as_slice() {
         append_part(alloc, part, place, facts, env, &mut bytes)?;

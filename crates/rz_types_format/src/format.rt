@@ -23,9 +23,9 @@ pub type Arguments = Listing<Argument>;
 /// What `$$Format` gives of this text and these arguments: the text, in which each conversion stands for the next
 /// argument. `%d` is a number in decimal, with a minus sign where it is negative; `%u`, `%x` and `%o` are the number
 /// modulo 2^32 in decimal, in lower-case hexadecimal and in octal, without leading zeros; `%c` is the byte of a number
-/// from 0 to 255; `%s` is a text; `%%` is a percent sign, and takes no argument. `None` where an argument is missing, is
-/// left over, or is of another kind than its conversion takes, where another byte stands after a percent sign, or none.
-/// (MPW Rez.)
+/// from 0 to 255; `%s` is a text; `%%` is a percent sign, and takes no argument. `None` where an argument is missing,
+/// is left over, or is of another kind than its conversion takes, where another byte stands after a percent sign, or
+/// none. (MPW Rez.)
 pub fn formatted(
     alloc: Global,
     text: &[u8],

@@ -132,7 +132,7 @@ fn is_key(field: &Field) -> bool
     }
 }
 
-/// The width of a field, where that is the same in every row. The fields of an array without rows aren't looked through.
+/// The width of a field, where it is the same in every row. The fields of an array without rows aren't looked through.
 #[cycle(before)]
 fn width_before(field: &Field) -> Option<u64>
     ensures { IsFound (fixed_width (plain_field field.now)) result }

@@ -1,5 +1,5 @@
-//! Words: what a word of the language may be. `role_of`, `keyword_of` and `attribute_word` give exactly their definitions,
-//! and a law says that each word of the tables is read as what it is, in whatever case.
+//! Words: what a word of the language may be. `role_of`, `keyword_of` and `attribute_word` give exactly their
+//! definitions, and a law says that each word of the tables is read as what it is, in whatever case.
 //! It rests on `rz_core`.
 //! Reserved words are one table (`keyword`), the words of attributes another (`attribute`), which `rz_stmt_data` reads
 //! and `rz_show_lines` writes, and the names of `$$` functions a third (`words`). A new word changes its table, the

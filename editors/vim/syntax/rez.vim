@@ -1,6 +1,6 @@
 " Vim syntax file
 " Language: Rez, the resource description language of the classic Macintosh, as rezkit reads it
-" The words are those of the language's tables; tools/editors.py looks that none is missing.
+" The words are those of the language's tables; tools/check/editors.py looks that none is missing.
 
 if exists("b:current_syntax")
   finish

@@ -1,4 +1,5 @@
-//! Resources of a set come under a head. What is left is in `specs/Change`, and the fates of resources in `specs/Fates`.
+//! Resources of a set come under a head. What is left is in `specs/Change`, and the fates of resources in
+//! `specs/Fates`.
 
 ghost use Rattle.std.specs.Prelude.{◌≡◌, true, filter, map, Some, IfOk, OnOk, OnErr};
 ghost use Rattle.std.specs.List.{flat_map};
@@ -26,8 +27,8 @@ impl ResSet {
     /// protected resource, or one by which a protected resource would be taken out, if `over` isn't set. The
     /// refusal names the first of these in the order of the changes, a chosen one before the one that is taken
     /// out for it. After a refusal, and where memory is refused, the set is unchanged. A resource that a pick by id
-    /// chooses is found by one look-up, and one that keeps its type and id is changed where it stands; else the call goes
-    /// over the set a few times, and takes constant time on average for each resource.
+    /// chooses is found by one look-up, and one that keeps its type and id is changed where it stands; else the call
+    /// goes over the set a few times, and takes constant time on average for each resource.
     pub fn change(
         &mut self,
         kind: OsType,
@@ -133,8 +134,8 @@ impl ResSet {
         come_under(one, head);
     }
 
-    /// Changes the wanted resources by a look at each resource of the set, into a new map. Where memory is refused the set
-    /// is unchanged.
+    /// Changes the wanted resources by a look at each resource of the set, into a new map. Where memory is refused the
+    /// set is unchanged.
     fn change_all(&mut self, wanted: Wanted, head: &Head) -> Result<(), NoMemory>
         requires name { HasShortName (Some head.now) }
         requires id { IsForOne (is_wanted wanted) self.old head.now.id }

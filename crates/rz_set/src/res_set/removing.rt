@@ -14,8 +14,8 @@ use rz_core::{OsType, Resource, Stop};
 impl ResSet {
     /// Takes the chosen resources out; the others stay in order. A pick by id or name that chooses none is
     /// refused, and so is one that chooses a protected resource, if `over` isn't set. After a refusal the set
-    /// is unchanged. It takes no memory. By id, one look-up finds the resource, and those after it close up; by name, it is
-    /// looked for first; else the call goes over the set twice.
+    /// is unchanged. It takes no memory. By id, one look-up finds the resource, and those after it close up; by name,
+    /// it is looked for first; else the call goes over the set twice.
     pub fn remove(&mut self, kind: OsType, pick: &Pick, over: bool) -> Result<(), Stop<SetFault>>
         ensures { Leaves self.old (after_remove kind pick.now over self.old) result self.new }
     {

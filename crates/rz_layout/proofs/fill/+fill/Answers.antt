@@ -2,8 +2,8 @@ use Rattle.std.proofs.Common.{◌≡◌, ◌∷◌, ◌++◌, ℕ, arith, List, 
 use Rattle.std.specs.List.{AllByRecursion}
 use Rattle.rz_core.specs.Stop.{Gives, fault_seen, left}
 use Rattle.rz_layout.specs.Fault.{refusal_of}
-use Rattle.rz_layout.specs.Laid.{filled_by, IsWithin}
-use Rattle.rz_layout.specs.Late.{number_held, numbers_in, numbers_of}
+use Rattle.rz_layout.specs.Laid.{IsWithin}
+use Rattle.rz_layout.specs.Late.{numbers_in, numbers_of}
 use Rattle.rz_layout.specs.declared.late.Late.{Late}
 use Rattle.rz_layout.specs.declared.late.Late.TheVariants as lates
 use Rattle.rz_layout.specs.declared.late.Late.TheViews.{size-Late, sized-Inside}

@@ -156,17 +156,17 @@ to_show-requires-clause-good g c = c.list_strings-made.ensures.good
 pub to_show-requires-clause-bad : goal.to_show-requires-clause-bad
 to_show-requires-clause-bad g c = c.list_strings-made.ensures.bad
 
-pub to_write-plan-in-Restring-requires-clause-good : goal.to_write-plan-in-Restring-requires-clause-good
-to_write-plan-in-Restring-requires-clause-good g c = c.restring_fork-made.ensures.good
+pub to_write-plan-requires-in-Restring-clause-good : goal.to_write-plan-requires-in-Restring-clause-good
+to_write-plan-requires-in-Restring-clause-good g c = c.restring_fork-made.ensures.good
 
-pub to_write-plan-in-Restring-requires-clause-bad : goal.to_write-plan-in-Restring-requires-clause-bad
-to_write-plan-in-Restring-requires-clause-bad g c = c.restring_fork-made.ensures.bad
+pub to_write-plan-requires-in-Restring-clause-bad : goal.to_write-plan-requires-in-Restring-clause-bad
+to_write-plan-requires-in-Restring-clause-bad g c = c.restring_fork-made.ensures.bad
 
-pub to_show-in-Sample-requires-clause-good : goal.to_show-in-Sample-requires-clause-good
-to_show-in-Sample-requires-clause-good g c = c.sampled-made.ensures.good
+pub to_show-requires-in-Sample-clause-good : goal.to_show-requires-in-Sample-clause-good
+to_show-requires-in-Sample-clause-good g c = c.sampled-made.ensures.good
 
-pub to_show-in-Sample-requires-clause-bad : goal.to_show-in-Sample-requires-clause-bad
-to_show-in-Sample-requires-clause-bad g c = c.sampled-made.ensures.bad
+pub to_show-requires-in-Sample-clause-bad : goal.to_show-requires-in-Sample-clause-bad
+to_show-requires-in-Sample-clause-bad g c = c.sampled-made.ensures.bad
 
 -- A sample.
 

@@ -8,10 +8,11 @@ use Rattle.rz_tools.specs.Asked.{DeRezAsks, TypesAsk}
 use Rattle.rz_tools.specs.DeRez.{HasText}
 use Rattle.rz_tools.specs.Held.{compiled_of, derez, ShowsText}
 use Rattle.rz_tools.specs.Types.{TypesAre}
+use Rattle.rz_tools.specs.declared.reply.ForkShown.{ForkShown}
 use Rattle.rz_tools.proofs.derez.read_and_show.Goals as goal
 
-pub compile_types-requires-clause-may : goal.compile_types-requires-clause-may
-compile_types-requires-clause-may g c =
+pub compile_types-compiled-requires-clause-may : goal.compile_types-compiled-requires-clause-may
+compile_types-compiled-requires-clause-may g c =
     let asked = derez c.args.words in
     may_read_fewer g.F.Folder (DeRezAsks asked) c.requires.may (TypesAsk asked.types) (λ files told name is. inl is)
 
@@ -60,7 +61,7 @@ pub returns : goal.returns
 returns g c =
     let asked = derez c.args.words in
     let made = c.in-Ok.made in
-    let fork = record { text = record { fork = made.bytes; only = c.args.words.only; skip = c.args.words.skip; known = c.in_ok-known.known }; said = made.said } in
+    let fork : ForkShown = record { text = record { fork = made.bytes; only = c.args.words.only; skip = c.args.words.skip; known = c.in_ok-known.known }; said = made.said } in
     finds_as g.F.Folder (Ok fork)
     (after_types g.F.Folder asked.from asked.file (TypesAre c.args.moment asked.types) (λ files compiled. ShowsText (HasText c.args.moment asked files compiled)) (Ok fork)
     c.in_ok-compiled.ensures

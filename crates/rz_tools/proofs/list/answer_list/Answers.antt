@@ -4,7 +4,7 @@ use Rattle.rz_folder_paths.proofs.Present.{halt_placed}
 use Rattle.rz_tools_answer.specs.Warning.{AreWarnings}
 use Rattle.rz_tools_output.specs.Det.{det}
 use Rattle.rz_tools.proofs.Commands.{plan_replies}
-use Rattle.rz_tools.proofs.Listed.{list_replies, list_stopped}
+use Rattle.rz_tools.proofs.ListReply.{list_replies, list_stopped}
 use Rattle.rz_tools.proofs.list.answer_list.Goals as goal
 
 pub say_stop-requires-clause-fault : goal.say_stop-requires-clause-fault

@@ -68,8 +68,8 @@ read_base-requires g c =
     (may_ask_after g.F.Folder Rez asked.files asked.paths asked.defs (RezAsksAfter asked) c.in_ok-program.program c.in_ok-program.ensures.reads c.in_ok-program.ensures.answered c.requires.may
     asked.target.name (inr (inl (appends, refl))))
 
-pub unsaid-in-Err-read_base-requires : goal.unsaid-in-Err-read_base-requires
-unsaid-in-Err-read_base-requires g c = halt_placed Base (List ℕ) (length c.in_ok-program.program.files) c.in-Err-read_base.halt c.in-Err-read_base.ensures.bad
+pub unsaid-requires-in-Err-read_base : goal.unsaid-requires-in-Err-read_base
+unsaid-requires-in-Err-read_base g c = halt_placed Base (List ℕ) (length c.in_ok-program.program.files) c.in-Err-read_base.halt c.in-Err-read_base.ensures.bad
 
 pub compile_program-requires-clause-may : goal.compile_program-requires-clause-may
 compile_program-requires-clause-may g c =

@@ -1,5 +1,7 @@
 use Rattle.std.proofs.Common.{ℕ, List, Ok, Err, subst, sym}
-use Rattle.rz_tools.specs.Held.{making_with}
+use Rattle.std.specs.String.{string_bytes}
+use Rattle.rz_tools.specs.DeRez.{Shows}
+use Rattle.rz_tools.specs.Held.{derez, making_with}
 use Rattle.rz_tools.specs.Sample.{ShowsSample}
 use Rattle.rz_tools.proofs.SampleSteps.{end_sayable, end_unread, ended_made, never_fails, same_end, shows_so, two_files}
 use Rattle.rz_tools.proofs.sample.show_fork.Goals as goal
@@ -17,10 +19,11 @@ returns-clause-made c =
 
 pub returns-in_err-shown-clause-made : goal.returns-in_err-shown-clause-made
 returns-in_err-shown-clause-made c =
-    ended_made (ShowsSample c.args.moment c.args.fork.now) c.in_err-shown.field-0.0 c.from_residual-in_err-shown.result c.from_residual-in_err-shown.ensures.1
+    ended_made c.in_err-shown.field-0.0 (ShowsSample c.args.moment c.args.fork.now) c.from_residual-in_err-shown.result c.from_residual-in_err-shown.ensures.1
     (shows_so c.args.moment _ _ _ _ c.in_ok-derez_words.ensures.asked
     (two_files _ _ _ _ _ _ _ _ _ c.new-shelf.ensures.files c.as_slice.ensures c.in_ok-hold.ensures c.types.ensures c.in_ok-hold-2.ensures) (Err c.in_err-shown.field-0.0)
-    (same_end _ _ _ _ c.in_err-shown.field-0.0 c.in_err-shown.ensures.answered))
+    (same_end c.in_ok-derez_words.field-0.from (string_bytes c.in_ok-derez_words.field-0.file) (Shows c.args.moment (derez c.in_ok-derez_words.field-0)) c.hold-2.new.shelf.files
+    c.in_err-shown.field-0.0 c.in_err-shown.ensures.answered))
 
 pub returns-in_err-shown-clause-bad : goal.returns-in_err-shown-clause-bad
 returns-in_err-shown-clause-bad c = end_sayable c.in_err-shown.field-0.0 c.from_residual-in_err-shown.result c.from_residual-in_err-shown.ensures.1 c.in_err-shown.ensures.bad

@@ -1,4 +1,5 @@
 use Rattle.std.proofs.Common.{◌≡◌, List, [], ◌∷◌, ◌++◌, Ok, Err, sym, ap, subst, ◌∙◌, append_assoc, arith}
+use Rattle.std.proofs.lemmas.Result.{err_from_is_err_and}
 use Rattle.std.proofs.lemmas.List.{map-append, nil_from_length}
 use Rattle.rz_folder.proofs.Allowed.{may_read_after}
 use Rattle.rz_folder.proofs.Reading.{reads_on}
@@ -55,34 +56,35 @@ pub read_items-loop-item-preserved : goal.read_items-loop-item-preserved
 read_items-loop-item-preserved g t c =
     let loop = c.loop-item in
     let rest = c.next.new.self.rest.items in
-    let grown = ap plain_items c.in_ok-push-in-Ok.ensures.ok ∙ map-append plain_item loop.made (c.in-Ok.item ∷ []) in record {
+    let grown = ap plain_items c.in_ok-push.ensures.ok ∙ map-append plain_item loop.made (c.in_ok-item.item ∷ []) in record {
       leads = λ files told.
           one_made c.args.paths.now files c.args.mark c.args.known.now (plain_items c.args.items) (plain_items loop.made) (plain_items rest) (plain_items c.push.new.self)
-          (plain_item c.in-Some.item) (plain_item c.in-Ok.item)
+          (plain_item c.in-Some.item) (plain_item c.in_ok-item.item)
           (subst (λ (l : List Item). Leads c.args.paths.now files c.args.mark c.args.known.now (plain_items c.args.items) (plain_items loop.made) (plain_items l)) c.in-Some.ensures.steps.0
           (loop.invariant.leads files told))
           (at_some (g.F.Folder.files loop.folder) files (loop.invariant.reads.unchanged ∙ told)
-          (λ files. Ok (plain_item c.in-Ok.item) ≡ item_read c.args.paths.now files c.args.mark c.args.known.now (plain_item c.in-Some.item)) c.in-Ok.ensures.read)
+          (λ files. Ok (plain_item c.in_ok-item.item) ≡ item_read c.args.paths.now files c.args.mark c.args.known.now (plain_item c.in-Some.item)) c.in_ok-item.ensures.read)
           grown;
       within = λ files within.
           let both = loop.invariant.within files within in
           let left = subst (λ (l : List Item). AreItemsWithin files (plain_items l)) c.in-Some.ensures.steps.0 both.1 in (
-            subst (AreItemsWithin files) (sym grown) (within_more files (plain_items loop.made) (plain_item c.in-Ok.item) both.0 (c.in-Ok.ensures.within files left.0)),
+            subst (AreItemsWithin files) (sym grown) (within_more files (plain_items loop.made) (plain_item c.in_ok-item.item) both.0 (c.in_ok-item.ensures.within files left.0)),
             left.1,
           );
-      reads = reads_on g.F.Folder _ _ _ _ _ ⊥ loop.invariant.reads c.in-Ok.ensures.reads (λ never. absurd never);
+      reads = reads_on g.F.Folder _ _ _ _ _ ⊥ loop.invariant.reads c.in_ok-item.ensures.reads (λ never. absurd never);
       rest = loop.invariant.rest ∙ ap (λ (l : List Item). loop.yielded ++ l) c.in-Some.ensures.steps.0 ∙ sym (append_assoc loop.yielded (c.in-Some.item ∷ []) rest);
     }
 
-pub read_items-returns-in-Err-clause-read : goal.read_items-returns-in-Err-clause-read
-read_items-returns-in-Err-clause-read g t c = if_some (g.F.Folder.files c.args.folder.now) _ (λ files told.
-    halt_so c.in-Err.halt (λ answer. item_given answer ≡ item_read c.args.paths.now files c.args.mark c.args.known.now (plain_item c.in-Some.item))
+pub read_items-returns-in_err-item-clause-read : goal.read_items-returns-in_err-item-clause-read
+read_items-returns-in_err-item-clause-read g t c = if_some (g.F.Folder.files c.args.folder.now) _ (λ files told.
+    let p = err_from_is_err_and c.from_residual.result c.from_residual.ensures.1 in
+    rw (p.1, p.2) (halt_so c.in_err-item.field-0.0 (λ answer. item_given answer ≡ item_read c.args.paths.now files c.args.mark c.args.known.now (plain_item c.in-Some.item))
     (λ answer. items_given answer ≡ items_read c.args.paths.now files c.args.mark c.args.known.now (plain_items c.args.items))
     (λ fault gives. one_fault c.args.paths.now files c.args.mark c.args.known.now (plain_items c.args.items) (plain_items c.loop-item.made) (plain_items c.next.new.self.rest.items)
     (plain_item c.in-Some.item) fault
     (subst (λ (l : List Item). Leads c.args.paths.now files c.args.mark c.args.known.now (plain_items c.args.items) (plain_items c.loop-item.made) (plain_items l)) c.in-Some.ensures.steps.0
     (c.loop-item.invariant.leads files told)) gives)
-    (at_some (g.F.Folder.files c.loop-item.folder) files (c.loop-item.invariant.reads.unchanged ∙ told) _ c.in-Err.ensures.read))
+    (at_some (g.F.Folder.files c.loop-item.folder) files (c.loop-item.invariant.reads.unchanged ∙ told) _ c.in_err-item.ensures.read)))
 
 pub read_items-returns-clause-read : goal.read_items-returns-clause-read
 read_items-returns-clause-read g t c = if_some (g.F.Folder.files c.args.folder.now) _ (λ files told.
@@ -93,36 +95,38 @@ read_items-returns-clause-read g t c = if_some (g.F.Folder.files c.args.folder.n
 pub read_items-returns-clause-within : goal.read_items-returns-clause-within
 read_items-returns-clause-within g t c files within = (c.loop-item.invariant.within files within).0
 
-pub read_item-returns-in-Ok-read_items-clause-read : goal.read_item-returns-in-Ok-read_items-clause-read
-read_item-returns-in-Ok-read_items-clause-read g t c = if_some (g.F.Folder.files c.args.folder.now) _ (λ files told.
-    list_read c.args.paths.now files c.args.mark c.args.known.now c.args.item c.in-List.items c.in-List.place c.in-List.is (Ok c.in-Ok-read_items.items)
+pub read_item-returns-in_ok-items-in-List-clause-read : goal.read_item-returns-in_ok-items-in-List-clause-read
+read_item-returns-in_ok-items-in-List-clause-read g t c = if_some (g.F.Folder.files c.args.folder.now) _ (λ files told.
+    list_read c.args.paths.now files c.args.mark c.args.known.now c.args.item c.in-List.items c.in-List.place c.in-List.is (Ok c.in_ok-items-in-List.items)
     (at_some (g.F.Folder.files c.args.folder.now) files told
-    (λ files. items_given (Ok c.in-Ok-read_items.items) ≡ items_read c.args.paths.now files c.args.mark c.args.known.now (plain_items c.in-List.items)) c.in-Ok-read_items.ensures.read))
+    (λ files. items_given (Ok c.in_ok-items-in-List.items) ≡ items_read c.args.paths.now files c.args.mark c.args.known.now (plain_items c.in-List.items)) c.in_ok-items-in-List.ensures.read))
 
-pub read_item-returns-in-Ok-read_items-clause-within : goal.read_item-returns-in-Ok-read_items-clause-within
-read_item-returns-in-Ok-read_items-clause-within g t c files within =
-    list_within files c.args.item c.in-List.items c.in-Ok-read_items.items c.in-List.place c.in-List.is (c.in-Ok-read_items.ensures.within files) within
+pub read_item-returns-in_ok-items-in-List-clause-within : goal.read_item-returns-in_ok-items-in-List-clause-within
+read_item-returns-in_ok-items-in-List-clause-within g t c files within =
+    list_within files c.args.item c.in-List.items c.in_ok-items-in-List.items c.in-List.place c.in-List.is (c.in_ok-items-in-List.ensures.within files) within
 
-pub read_item-returns-in-Err-read_items-clause-read : goal.read_item-returns-in-Err-read_items-clause-read
-read_item-returns-in-Err-read_items-clause-read g t c = if_some (g.F.Folder.files c.args.folder.now) _ (λ files told.
-    halt_so c.in-Err-read_items.halt (λ answer. items_given answer ≡ items_read c.args.paths.now files c.args.mark c.args.known.now (plain_items c.in-List.items))
+pub read_item-returns-in_err-items-in-List-clause-read : goal.read_item-returns-in_err-items-in-List-clause-read
+read_item-returns-in_err-items-in-List-clause-read g t c = if_some (g.F.Folder.files c.args.folder.now) _ (λ files told.
+    let p = err_from_is_err_and c.from_residual-in_err-items-in-List.result c.from_residual-in_err-items-in-List.ensures.1 in
+    rw (p.1, p.2) (halt_so c.in_err-items-in-List.field-0.0 (λ answer. items_given answer ≡ items_read c.args.paths.now files c.args.mark c.args.known.now (plain_items c.in-List.items))
     (λ answer. item_given answer ≡ item_read c.args.paths.now files c.args.mark c.args.known.now (plain_item c.args.item))
     (λ fault gives. list_read c.args.paths.now files c.args.mark c.args.known.now c.args.item c.in-List.items c.in-List.place c.in-List.is (Err fault) gives)
-    (at_some (g.F.Folder.files c.args.folder.now) files told _ c.in-Err-read_items.ensures.read))
+    (at_some (g.F.Folder.files c.args.folder.now) files told _ c.in_err-items-in-List.ensures.read)))
 
-pub read_item-returns-in-Ok-read_items-2-clause-read : goal.read_item-returns-in-Ok-read_items-2-clause-read
-read_item-returns-in-Ok-read_items-2-clause-read g t c = if_some (g.F.Folder.files c.args.folder.now) _ (λ files told.
-    named_read c.args.paths.now files c.args.mark c.args.known.now c.args.item c.in-Named.name c.in-Named.items c.in-Named.place c.in-Named.is (Ok c.in-Ok-read_items-2.items)
+pub read_item-returns-in_ok-items-in-Named-clause-read : goal.read_item-returns-in_ok-items-in-Named-clause-read
+read_item-returns-in_ok-items-in-Named-clause-read g t c = if_some (g.F.Folder.files c.args.folder.now) _ (λ files told.
+    named_read c.args.paths.now files c.args.mark c.args.known.now c.args.item c.in-Named.name c.in-Named.items c.in-Named.place c.in-Named.is (Ok c.in_ok-items-in-Named.items)
     (at_some (g.F.Folder.files c.args.folder.now) files told
-    (λ files. items_given (Ok c.in-Ok-read_items-2.items) ≡ items_read c.args.paths.now files c.args.mark c.args.known.now (plain_items c.in-Named.items)) c.in-Ok-read_items-2.ensures.read))
+    (λ files. items_given (Ok c.in_ok-items-in-Named.items) ≡ items_read c.args.paths.now files c.args.mark c.args.known.now (plain_items c.in-Named.items)) c.in_ok-items-in-Named.ensures.read))
 
-pub read_item-returns-in-Ok-read_items-2-clause-within : goal.read_item-returns-in-Ok-read_items-2-clause-within
-read_item-returns-in-Ok-read_items-2-clause-within g t c files within =
-    named_within files c.args.item c.in-Named.name c.in-Named.items c.in-Ok-read_items-2.items c.in-Named.place c.in-Named.is (c.in-Ok-read_items-2.ensures.within files) within
+pub read_item-returns-in_ok-items-in-Named-clause-within : goal.read_item-returns-in_ok-items-in-Named-clause-within
+read_item-returns-in_ok-items-in-Named-clause-within g t c files within =
+    named_within files c.args.item c.in-Named.name c.in-Named.items c.in_ok-items-in-Named.items c.in-Named.place c.in-Named.is (c.in_ok-items-in-Named.ensures.within files) within
 
-pub read_item-returns-in-Err-read_items-2-clause-read : goal.read_item-returns-in-Err-read_items-2-clause-read
-read_item-returns-in-Err-read_items-2-clause-read g t c = if_some (g.F.Folder.files c.args.folder.now) _ (λ files told.
-    halt_so c.in-Err-read_items-2.halt (λ answer. items_given answer ≡ items_read c.args.paths.now files c.args.mark c.args.known.now (plain_items c.in-Named.items))
+pub read_item-returns-in_err-items-in-Named-clause-read : goal.read_item-returns-in_err-items-in-Named-clause-read
+read_item-returns-in_err-items-in-Named-clause-read g t c = if_some (g.F.Folder.files c.args.folder.now) _ (λ files told.
+    let p = err_from_is_err_and c.from_residual-in_err-items-in-Named.result c.from_residual-in_err-items-in-Named.ensures.1 in
+    rw (p.1, p.2) (halt_so c.in_err-items-in-Named.field-0.0 (λ answer. items_given answer ≡ items_read c.args.paths.now files c.args.mark c.args.known.now (plain_items c.in-Named.items))
     (λ answer. item_given answer ≡ item_read c.args.paths.now files c.args.mark c.args.known.now (plain_item c.args.item))
     (λ fault gives. named_read c.args.paths.now files c.args.mark c.args.known.now c.args.item c.in-Named.name c.in-Named.items c.in-Named.place c.in-Named.is (Err fault) gives)
-    (at_some (g.F.Folder.files c.args.folder.now) files told _ c.in-Err-read_items-2.ensures.read))
+    (at_some (g.F.Folder.files c.args.folder.now) files told _ c.in_err-items-in-Named.ensures.read)))

@@ -11,7 +11,7 @@ use Rattle.rz_tools_resource.proofs.resource.bytes_of.Goals as goal
 
 pub returns-in-Some-clause-bytes : goal.returns-in-Some-clause-bytes
 returns-in-Some-clause-bytes g c = IfSome_then (g.F.Folder.files c.args.folder.now) c.bytes_read.ensures.bytes (λ files yields.
-    then_yields (λ answer. answer ≡ fields_for c.args.mark (table_of c.args.types.now) c.args.known.now)
-    (AreReadBytes c.args.paths.now files c.args.mark c.args.known.now (plain_items c.args.items))
-    (template_of c.in-Some.template.now) (ap (λ (o : Option PlainBody). ok_or o (no_type c.args.mark c.args.known.now)) c.in-Some.ensures)
+    then_yields (λ answer. answer ≡ fields_for c.args.around.mark (table_of c.args.types.now) c.args.known.now)
+    (AreReadBytes c.args.around.paths.now files c.args.around.mark c.args.known.now (plain_items c.args.items))
+    (template_of c.in-Some.template.now) (ap (λ (o : Option PlainBody). ok_or o (no_type c.args.around.mark c.args.known.now)) c.in-Some.ensures)
     c.bytes_read.result yields)

@@ -2,6 +2,7 @@ use Rattle.std.proofs.Common.{◌≡◌, List, [], ◌∷◌, ◌++◌, map, sym
 use denote.Param.Weighed.{most}
 use Rattle.std.proofs.lemmas.List.{map-append, nil_from_length}
 use Rattle.std.proofs.lemmas.Option.{IfSome_then}
+use Rattle.std.proofs.lemmas.Result.{err_from_is_err_and}
 use Rattle.rz_core.proofs.SoFar.{so_far}
 use Rattle.rz_types_fields.specs.Text.{argument_and, arguments_of, plain_argument, plain_arguments, plain_part, plain_parts}
 use Rattle.rz_types_fields.specs.declared.text.FileResource.{FileResource}
@@ -41,8 +42,8 @@ read_part-file_named-requires g t c =
     may_look g.F.Folder c.args.paths.now (PartAsks (plain_part c.args.part)) c.requires c.as_slice.result.now
     (file_asked c.args.part c.as_slice.result.now c.in-FileBytes.name c.in-FileBytes.is c.as_slice.ensures)
 
-pub read_part-resource_named-requires : goal.read_part-resource_named-requires
-read_part-resource_named-requires g t c =
+pub read_part-resource_named-bytes-requires : goal.read_part-resource_named-bytes-requires
+read_part-resource_named-bytes-requires g t c =
     may_look g.F.Folder c.args.paths.now (PartAsks (plain_part c.args.part)) c.requires c.as_slice-name.result.now
     (resource_asked c.args.part c.as_slice-name.result.now c.in-FileResource.asked c.in-FileResource.is
     (c.as_slice-name.ensures ∙ ap (λ (asked : FileResource). (out-FileResource asked).file) c.deref.ensures))
@@ -69,13 +70,14 @@ read_arguments-read_argument-requires g t c =
     (argument_asks loop.yielded c.in-Some.argument c.next.new.self.rest.items own asks)) in
     λ κs below. (let within = argument_within loop.yielded c.next.new.self.rest.items c.args.arguments c.in-Some.argument arguments in omega (arith, c.decreases, within), (below, may))
 
-pub read_argument-returns-in-Ok-clause-read : goal.read_argument-returns-in-Ok-clause-read
-read_argument-returns-in-Ok-clause-read g t c = IfSome_then (g.F.Folder.files c.args.folder.now) c.in-Ok.ensures.read (λ files yields.
-    text_so c.args.paths.now files c.args.mark c.args.known.now c.args.argument c.in-Text.texts c.in-Text.is c.in-Ok.texts yields)
+pub read_argument-returns-in_ok-texts-in-Text-clause-read : goal.read_argument-returns-in_ok-texts-in-Text-clause-read
+read_argument-returns-in_ok-texts-in-Text-clause-read g t c = IfSome_then (g.F.Folder.files c.args.folder.now) c.in_ok-texts-in-Text.ensures.read (λ files yields.
+    text_so c.args.paths.now files c.args.mark c.args.known.now c.args.argument c.in-Text.texts c.in-Text.is c.in_ok-texts-in-Text.texts yields)
 
-pub read_argument-returns-in-Err-clause-read : goal.read_argument-returns-in-Err-clause-read
-read_argument-returns-in-Err-clause-read g t c = IfSome_then (g.F.Folder.files c.args.folder.now) c.in-Err.ensures.read (λ files yields.
-    text_halts c.args.paths.now files c.args.mark c.args.known.now c.args.argument c.in-Text.texts c.in-Text.is c.in-Err.halt yields)
+pub read_argument-returns-in_err-texts-in-Text-clause-read : goal.read_argument-returns-in_err-texts-in-Text-clause-read
+read_argument-returns-in_err-texts-in-Text-clause-read g t c = IfSome_then (g.F.Folder.files c.args.folder.now) c.in_err-texts-in-Text.ensures.read (λ files yields.
+    let p = err_from_is_err_and c.from_residual.result c.from_residual.ensures.1 in
+    rw (p.1, p.2) (text_halts c.args.paths.now files c.args.mark c.args.known.now c.args.argument c.in-Text.texts c.in-Text.is c.in_err-texts-in-Text.field-0.0 yields))
 
 pub read_arguments-loop-argument-preserved : goal.read_arguments-loop-argument-preserved
 read_arguments-loop-argument-preserved g t c =
@@ -87,11 +89,11 @@ read_arguments-loop-argument-preserved g t c =
           (arguments_read c.args.paths.now files c.args.mark c.args.known.now (arguments_of (plain_arguments rest)))
           (loop.invariant.read files told ∙ ap (λ (l : List FormatArg). so_far argument_and (plain_arguments loop.made)
           (arguments_read c.args.paths.now files c.args.mark c.args.known.now (arguments_of (plain_arguments l)))) c.in-Some.ensures.steps.0)
-          c.in-Ok.argument (plain_arguments c.push.new.self)
-          (at_some _ files (loop.invariant.reads.unchanged ∙ told) _ c.in-Ok.ensures.read)
-          (ap (map plain_argument) c.in_ok-push-in-Ok.ensures.ok ∙ map-append plain_argument loop.made (c.in-Ok.argument ∷ []));
+          c.in_ok-argument.argument (plain_arguments c.push.new.self)
+          (at_some _ files (loop.invariant.reads.unchanged ∙ told) _ c.in_ok-argument.ensures.read)
+          (ap (map plain_argument) c.in_ok-push.ensures.ok ∙ map-append plain_argument loop.made (c.in_ok-argument.argument ∷ []));
       rest = loop.invariant.rest ∙ ap (λ (l : List FormatArg). loop.yielded ++ l) c.in-Some.ensures.steps.0 ∙ sym (append_assoc loop.yielded (c.in-Some.argument ∷ []) rest);
-      reads = reads_on g.F.Folder _ _ _ _ _ ⊥ loop.invariant.reads c.in-Ok.ensures.reads (λ never. absurd never);
+      reads = reads_on g.F.Folder _ _ _ _ _ ⊥ loop.invariant.reads c.in_ok-argument.ensures.reads (λ never. absurd never);
     }
 
 pub read_arguments-returns-clause-read : goal.read_arguments-returns-clause-read
@@ -111,11 +113,11 @@ read_texts-loop-part-preserved g t c =
           (texts_read c.args.paths.now files c.args.mark c.args.known.now (plain_parts rest))
           (loop.invariant.read files told ∙ ap (λ (l : List TextPart). so_far (λ part parts. part ∷ parts) (plain_parts loop.made)
           (texts_read c.args.paths.now files c.args.mark c.args.known.now (plain_parts l))) c.in-Some.ensures.steps.0)
-          c.in-Ok.part (plain_parts c.push.new.self)
-          (at_some _ files (loop.invariant.reads.unchanged ∙ told) _ c.in-Ok.ensures.read)
-          (ap (map plain_part) c.in_ok-push-in-Ok.ensures.ok ∙ map-append plain_part loop.made (c.in-Ok.part ∷ []));
+          c.in_ok-part.part (plain_parts c.push.new.self)
+          (at_some _ files (loop.invariant.reads.unchanged ∙ told) _ c.in_ok-part.ensures.read)
+          (ap (map plain_part) c.in_ok-push.ensures.ok ∙ map-append plain_part loop.made (c.in_ok-part.part ∷ []));
       rest = loop.invariant.rest ∙ ap (λ (l : List TextPart). loop.yielded ++ l) c.in-Some.ensures.steps.0 ∙ sym (append_assoc loop.yielded (c.in-Some.part ∷ []) rest);
-      reads = reads_on g.F.Folder _ _ _ _ _ ⊥ loop.invariant.reads c.in-Ok.ensures.reads (λ never. absurd never);
+      reads = reads_on g.F.Folder _ _ _ _ _ ⊥ loop.invariant.reads c.in_ok-part.ensures.reads (λ never. absurd never);
     }
 
 pub read_texts-returns-clause-read : goal.read_texts-returns-clause-read

@@ -9,4 +9,4 @@ use Rattle.rz_tools_work.proofs.change.change_said.Goals as goal
 pub returns-clause-id : goal.returns-clause-id
 returns-clause-id c =
     may_have_id c.args.setting c.args.mark c.args.stmt.now.kind c.args.stmt.now.new_kind c.in_ok-pick.pick c.args.list.now (lent_one c.lent_of-one.result)
-    (option_map head_of c.args.stmt.now.head) c.in_ok-head.head (c.in-Ok.ensures.chosen ∙ ap (λ (one : Option Resource). Ok one) (sym c.lent_of-one.ensures)) c.in_ok-head.ensures.head
+    (option_map head_of c.args.stmt.now.head) c.in_ok-head.head (c.in_ok-one.ensures.chosen ∙ ap (λ (one : Option Resource). Ok one) (sym c.lent_of-one.ensures)) c.in_ok-head.ensures.head

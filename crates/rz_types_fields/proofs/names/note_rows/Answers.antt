@@ -1,4 +1,4 @@
-use Rattle.std.proofs.Common.{◌≡◌, Bool, [], refl, sym, ap}
+use Rattle.std.proofs.Common.{rules, ◌≡◌, Bool, [], sym, ap}
 use Rattle.std.specs.Prelude.{◌||◌, if◌then◌else◌}
 use Rattle.std.proofs.lemmas.List.{append-nil}
 use Rattle.rz_types_fields.specs.Field.{plain_body}
@@ -6,10 +6,10 @@ use Rattle.rz_types_fields.specs.RowLabels.{labels_count, row_value}
 use Rattle.rz_types_fields.proofs.RowKeys.{no_labels}
 use Rattle.rz_types_fields.proofs.names.note_rows.Goals as goal
 
-pub returns-then-not-are_noted : goal.returns-then-not-are_noted
-returns-then-not-are_noted c =
+pub returns-else-labels_count-gt0 : goal.returns-else-labels_count-gt0
+returns-else-labels_count-gt0 c =
     let row = plain_body c.args.row.now in
-    let none : labels_count row ≡ 0 = c.if-not-are_noted.ensures refl in
+    let none : labels_count row ≡ 0 = search rules in
     record {
       more = [];
       grew = sym (append-nil c.args.notes.now.items);

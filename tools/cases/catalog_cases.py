@@ -1,0 +1,695 @@
+#!/usr/bin/env python3
+"""Writes catalog.cases: catalogues of texts by `strings`, and texts put back by `restring`.
+
+    python3 tools/cases/catalog_cases.py [--check]
+
+What comes is told by catalogues.py, a second reading of docs/LANGUAGE.md. Beside it stand by hand each line of `err`,
+the bytes of resources by rows that are known from elsewhere, the stored form of each text, and the texts of each row.
+With --check nothing is written, and the status is 1 where the file would change.
+"""
+import itertools
+import sys
+
+import top  # noqa: F401
+from casefile import Book
+from model.case_lines import spelled
+from model.catalogues import entry_text, message, restring, strings
+from model.faults import Refused
+from model.fork import admitted, fork_of, image
+from model.fork_shapes import each, held, laid, named, reference
+from model.forms import MAGICS, File, form_of, single, written
+from model.case_reader import read_cases
+
+BOOK = Book("catalog.cases", "Catalogues of texts by `strings`, and texts put back by `restring`.",
+            "Written by tools/cases/catalog_cases.py, by the second reading of tools/model/catalogues.py.")
+NAMED = set()
+LIST = "type 'STR#' { integer = $$CountOf(Strings); array Strings { pstring; }; };\n"
+
+
+def resource(kind, ident, content, name="", attr=0):
+    """A resource of bytes, or of hexadecimal digits."""
+    held = bytes.fromhex(content) if isinstance(content, str) else content
+    return kind.encode("mac_roman"), ident, name.encode("mac_roman"), attr, held
+
+
+def texts_of(*texts):
+    """The bytes of a list of strings."""
+    return len(texts).to_bytes(2, "big") + b"".join(bytes([len(text)]) + text for text in texts)
+
+
+TWO = resource("STR#", 128, texts_of(b"A", b"BC"))
+FORK = image([TWO])
+
+
+def case(name, words, files, keys=(), **more):
+    assert name not in NAMED, name
+    NAMED.add(name)
+    BOOK.case(name, words, list(files.items()), keys, **more)
+
+
+def told(command, words, files, moment):
+    """What the second reading tells: what comes, and no line, or nothing and the line of the fault."""
+    plain = {name: held.encode() if isinstance(held, str) else held for name, held in files.items()}
+    asked = [word for word in words.split()[1:]]
+    try:
+        return command(asked, plain, moment), ""
+    except Refused as fault:
+        return None, message(fault, asked[1])
+
+
+def files_of(fork, catalogue, types, more):
+    files = {"f": fork if isinstance(fork, bytes) else image(fork)}
+    files.update({"c": catalogue} if catalogue is not None else {})
+    files.update({"t.r": types} if types is not None else {})
+    return {**files, **(more or {})}
+
+
+def says(err, warned):
+    return warned + ("rezkit: %s\n" % err if err else "")
+
+
+def listed(name, types, fork, text=None, words="strings f t.r", err="", more=None, moment=0, warned=""):
+    """A case of `strings`; the text may stand by hand."""
+    files = files_of(fork, None, types, more)
+    came, line = told(strings, words, files, moment)
+    assert line == err and (text is None or came == text), (name, line, came)
+    keys = ["moment %d" % moment] * bool(moment)
+    case("listed: " + name, words, files, keys, status=2 if err else 0, out=came or "", err=says(err, warned))
+
+
+def put(name, types, fork, catalogue, gives=None, words="restring f c t.r -o x", err="", more=None, moment=0, warned=""):
+    """A case of `restring`; the bytes of the first resource that changes, or of all by their types and ids, may stand by hand."""
+    files = files_of(fork, catalogue, types, more)
+    came, line = told(restring, words, files, moment)
+    assert line == err, (name, line, err)
+    keys = ["moment %d" % moment] * bool(moment)
+    if err:
+        target = words.split()[words.split().index("-o") + 1] if "-o" in words.split() else "Rez.Out"
+        gone = [target] * (target not in files)
+        return case(name, words, files, keys, status=2, gone=gone, err=says(err, warned))
+    if gives is not None:
+        before, after = (admitted(each)[0] for each in (files["f"], came[1]))
+        changed = [new[4] for old, new in zip(before, after) if old != new]
+        assert [each.hex() for each in changed] == [bytes.fromhex(each).hex() for each in ([gives] if isinstance(gives, str) else gives)], (name, changed)
+    return case(name, words, files, keys, leaves=[came] if files.get(came[0]) != came[1] else [], err=says("", warned))
+
+
+def entry(kind, ident, leaf, text):
+    return entry_text(kind.encode("mac_roman"), ident, leaf, text)
+
+
+# Rows that are known from elsewhere.
+
+ENDS = "type 'Ends' { integer = (e - s) / 8; s: hex string; e: integer; };\n"
+SIZE = "type 'Size' { n: integer; s: string[$$Word(n)]; };\n"
+HALF = "type 'Half' { byte = (e - s) / 16; s: array a { pstring; }; e: array b { pstring; }; };\n"
+APP_TYPES = """type 'STR#' { integer = $$CountOf(Strings); array Strings { pstring; }; };
+type 'vers' { hex byte; hex byte;
+    hex byte development = 0x20, alpha = 0x40, beta = 0x60, release = 0x80;
+    hex byte; integer; pstring; pstring; };
+type 'MENU' { integer; fill word[2]; integer = 0; fill word;
+    unsigned hex longint allEnabled = 0xFFFFFFFF; pstring;
+    array { pstring; byte noIcon; char noKey = "\\0x00"; char noMark = "\\0x00"; byte plain; };
+    byte = 0; };
+type 'ALRT' { rect; integer; unsigned hex integer; };
+type 'DITL' { integer = $$CountOf(Parts) - 1;
+    wide array Parts { fill long; rect;
+        switch {
+        case Button: boolean enabled, disabled; key bitstring[7] = 4; pstring;
+        case UserItem: boolean enabled, disabled; key bitstring[7] = 0; fill byte;
+        };
+        align word; }; };
+"""
+APP = [resource("vers", 1, "010080000000 03312E30 0A312E302053616D706C65", attr=0x20),
+       resource("MENU", 128, "0080 00000000 0000 0000 FFFFFFFF 0446696C65 0451756974 00 51 00 00 00"),
+       resource("ALRT", 128, "0028 0028 008C 0154 0080 5555"),
+       resource("DITL", 128, "0000 00000000 003C00DC00500122 04 024F4B"),
+       resource("STR#", 128, "0001 08556E7469746C6564"),
+       resource("ICN#", 128, bytes.fromhex("FFFFFFFF" + "80000001" * 30 + "FFFFFFFF" + "FFFFFFFF" * 32))]
+APP_TEXT = """'vers' 1 0
+    "1.0";
+'vers' 1 1
+    "1.0 Sample";
+'MENU' 128 0
+    "File";
+'MENU' 128 1
+    "Quit";
+'DITL' 128 0
+    "OK";
+'STR#' 128 0
+    "Untitled";
+"""
+
+
+def rows():
+    BOOK.say("Rows with their own bytes.")
+    listed("a list of two strings", LIST, [TWO], "'STR#' 128 0\n    \"A\";\n'STR#' 128 1\n    \"BC\";\n")
+    put("a longer string in a list", LIST, [TWO], "'STR#' 128 0 \"Hello\";", "0002 0548656C6C6F 024243")
+    ends = [resource("Ends", 128, "0002 0102 0005")]
+    listed("a hex string is written as a text", ENDS, ends, "'Ends' 128 0\n    \"\\0x01\\0x02\";\n")
+    put("a length that is solved again", ENDS, ends, "'Ends' 128 0 \"\\0x01\\0x02\\0x03\";", "0003 010203 0005")
+    size = [resource("Size", 128, "0003 616263")]
+    for text, kept in [("abcd", 464), ("abc\\0x00", 464)]:
+        put("a size in a free number: %s" % text, SIZE, size, "'Size' 128 0 \"%s\";" % text,
+            err="c:1: error %d TextRefused: 'Size' 128" % kept)
+    put("a size in a free number: as long", SIZE, size, "'Size' 128 0 \"xyz\";", "0003 78797A")
+    put("a size in a free number: shorter", SIZE, size, "'Size' 128 0 \"x\";", "0003 780000")
+    put("a leaf that isn't there", SIZE, size, "'Size' 128 1 \"abc\";", err="c:1: error 462 NoLeaf: 'Size' 128")
+    put("an entry twice", SIZE, size, "'Size' 128 0 \"abc\";\n'Size' 128 0 \"abc\";", err="c:2: error 463 EntryTwice: 'Size' 128")
+    put("an entry without its leaf", SIZE, size, "'Size' 128 \"abc\";", err="c:1: error 461 BadEntry")
+    half = [resource("Half", 1, "02 00 00 0161 017A")]
+    listed("two arrays, of which a place tells the end of the first", HALF, half)
+    put("equal texts in other rows", HALF, half, "'Half' 1 2 \"\";", err="c:1: error 464 TextRefused: 'Half' 1")
+    put("other texts in the same rows", HALF, half, "'Half' 1 2 \"bcd\";", "03 00 00 03626364 017A")
+
+
+def application():
+    BOOK.say("An application, whose texts go out and come back to the same 777 bytes.")
+    fork = image(APP)
+    assert len(fork) == 777 and fork[:16].hex() == "00000100000002730000017300000096"
+    listed("an application", APP_TYPES, fork, APP_TEXT)
+    assert told(restring, "restring f c t.r", {"f": fork, "c": APP_TEXT, "t.r": APP_TYPES}, 0) == (("Rez.Out", fork), "")
+    put("an application's own texts", APP_TYPES, fork, APP_TEXT, [])
+    put("an application over itself", APP_TYPES, fork, APP_TEXT, [], words="restring f c t.r -o f")
+    french = APP_TEXT.replace("File", "Fichier").replace("Quit", "Quitter").replace("Untitled", "Sans titre")
+    put("an application in French", APP_TYPES, fork, french,
+        ["0080 00000000 0000 0000 FFFFFFFF 0746696368696572 0751756974746572 00 51 00 00 00", "0001 0A53616E73207469747265"])
+    put("a button with a text of another length", APP_TYPES, fork, "'DITL' 128 0 \"Yes\";", "0000 00000000 003C00DC00500122 04 03596573 00")
+    put("a button that is filled up", APP_TYPES, fork, "'DITL' 128 0 \"No\";'STR#' 128 0 \"\";",
+        ["0000 00000000 003C00DC00500122 04 024E6F", "0001 00"])
+
+
+# Texts of each form: how each is stored by hand, or nothing where it doesn't fit.
+
+def sized(size, text, most=None):
+    return text.ljust(size, b"\0") if len(text) <= (size if most is None else most) else None
+
+
+FORMS = {
+    "pstring": lambda text: bytes([len(text)]) + text if len(text) < 256 else None,
+    "wstring": lambda text: len(text).to_bytes(2, "big") + text if len(text) < 65536 else None,
+    "cstring": lambda text: None if b"\0" in text else text + b"\0",
+    "string": lambda text: text,
+    "string[4]": lambda text: None if text[-1:] == b"\0" else sized(4, text),
+    "pstring[4]": lambda text: sized(4, text) and bytes([len(text)]) + sized(4, text),
+    "wstring[4]": lambda text: sized(4, text) and bytes([0, len(text)]) + sized(4, text),
+    "cstring[4]": lambda text: None if b"\0" in text else sized(4, text, 3),
+}
+SHORT = (b"", b"a", b"abc", b"abcd", b"abcde", b"a\0b", b"ab\0", b"\0", b'\xFF\x80\r"\\\'')
+
+
+def one_text(form, number, text):
+    """Cases of one text in the place of another, between two bytes."""
+    types = "type 'Text' { byte; %s; byte; };\n" % form
+    stored = FORMS[form.replace("hex ", "")]
+    old, new = stored(b"old"), stored(text)
+    given = entry("Text", 1, 0, text)
+    name = "%s, text %d" % (form, number)
+    if new is None:
+        put(name, types, [resource("Text", 1, b"\1" + old + b"\2")], given, err="c:1: error 464 TextRefused: 'Text' 1")
+    elif text == b"old":
+        put(name, types, [resource("Text", 1, b"\1" + old + b"\2")], given, [])
+    else:
+        put(name, types, [resource("Text", 1, b"\1" + old + b"\2")], given, (b"\1" + new + b"\2").hex())
+        listed(name, types, [resource("Text", 1, b"\1" + new + b"\2")], given)
+
+
+def texts():
+    BOOK.say("Texts of each form and size.")
+    for form in FORMS:
+        for number, text in enumerate(SHORT):
+            one_text(form, number, text)
+    for form in ("hex pstring", "hex string", "hex cstring[4]"):
+        for number, text in enumerate(SHORT[:5]):
+            one_text(form, number, text)
+    BOOK.say("Pieces of 64 bytes.")
+    for length in (63, 64, 65, 127, 128, 129, 255):
+        text = bytes(97 + k % 26 for k in range(length))
+        listed("a text of %d bytes" % length, LIST, [resource("STR#", 0, texts_of(text))])
+        put("a text of %d bytes" % length, LIST, [resource("STR#", -1, texts_of(b""))], entry("STR#", -1, 0, text), texts_of(text).hex())
+    put("a text of 256 bytes", LIST, [resource("STR#", -1, texts_of(b"", b""))], entry("STR#", -1, 1, bytes([97]) * 256),
+        err="c:1: error 464 TextRefused: 'STR#' -1")
+
+
+def long_texts():
+    BOOK.say("Texts at the limits of their forms.")
+    big = {"pstring": (255, 256), "wstring": (65535, 65536), "pstring[255]": (255, 256), "string[300]": (300, 301),
+           "cstring[300]": (299, 300)}
+    for form, (fits, over) in big.items():
+        types = "type 'Text' { %s; };\n" % form
+        head = {"pstring": 1, "pstring[255]": 1, "wstring": 2}.get(form, 0)
+        size = {"string[300]": 300, "cstring[300]": 300, "pstring[255]": 255}.get(form)
+        for length, err in ((fits, ""), (over, "c:1: error 464 TextRefused: 'Text' 1")):
+            stored = b"" if err else (length.to_bytes(head, "big") if head else b"") + (b"A" * length).ljust(size or length, b"\0")
+            long_case("%s, %d bytes" % (form, length), types, image([resource("Text", 1, bytes(head + (size or 0)))]),
+                      b"'Text' 1 0 \"" + b"A" * length + b"\";", image([resource("Text", 1, stored)]), err)
+
+
+def long_case(name, types, fork, catalogue, after, err):
+    """A case whose bytes are spelled by their runs."""
+    came, line = told(restring, "restring f c t.r", {"f": fork, "c": catalogue, "t.r": types}, 0)
+    assert line == (err or "") and (came is None or came[1] == after), (name, line)
+    keys = ["file bytes f"] + spelled(fork) + ["file bytes c"] + spelled(catalogue)
+    keys += [] if err else ["leaves bytes Rez.Out"] + spelled(after)
+    case(name, "restring f c t.r", {"t.r": types}, keys, status=2 if err else 0, gone=["Rez.Out"] if err else [], err=says(err, ""))
+
+
+# Rows: the fields of a type, its bytes, and its texts by hand.
+
+SHAPES = {
+    "a counted list": ("integer = $$CountOf(a); array a { pstring; };", "0003 0141 00 024243", ["A", "", "BC"]),
+    "a menu": ("integer; integer = 0; pstring; array { pstring; byte; }; byte = 0;",
+               "0080 0000 0446696C65 044F70656E4F 045175697451 00", ["File", "Open", "Quit"]),
+    "a fixed number of rows": ("array [2] { cstring; byte; }; byte;", "6100 05 6200 06 07", ["a", "b"]),
+    "rows up to the end": ("byte; array { wstring; };", "01 000161 0000 00026263", ["a", "", "bc"]),
+    "rows within rows": ("byte = $$CountOf(a); array a { pstring; byte = $$CountOf(b); array b { pstring; byte; }; };",
+                         "02 0161 02 0162 01 0163 02 0164 01 0165 03", list("abcde")),
+    "cases": ("integer = $$CountOf(a) - 1; array a { switch { case One: key byte = 1; pstring; case None: key byte = 0; byte; "
+              "case Two: key byte = 2; cstring; pstring; }; align word; };", "0003 01 0161 00 00 09 02 6200 0163 00 01 00", ["a", "b", "c", ""]),
+    "a case of rows": ("switch { case Rows: key byte = 7; byte = $$CountOf(a); array a { pstring; }; case Text: key byte = 8; pstring; }; pstring;",
+                       "07 02 0161 0162 0163", list("abc")),
+    "numbers and points between": ("point; pstring; rect; cstring; boolean; bitstring[7]; string[2]; char;",
+                                   "00010002 0161 0001000200030004 6200 85 6300 41", list("abc")),
+    "a length in front": ("integer = (e - s) / 8; s: string; e: integer;", "0002 6162 0005", ["ab"]),
+    "a length of more": ("longint = (e - s) / 8; s: pstring; cstring; e: byte;", "00000004 0161 6200 09", ["a", "b"]),
+    "two places in front": ("integer = one / 8; integer = two / 8; one: pstring; two: pstring;", "0004 0006 0161 0162", ["a", "b"]),
+    "a length of rows": ("byte = (e - s) / 8; s: array a { pstring; byte; }; e: byte;", "06 0161 01 0162 02 09", ["a", "b"]),
+    "a length in each row": ("byte = $$CountOf(a); array a { byte = (e - s) / 8; s: string; e: byte; };", "02 02 6162 07 01 63 08",
+                             ["ab", "c"]),
+    "a place behind": ("pstring; e: integer = e / 8; cstring;", "0161 0002 6200", ["a", "b"]),
+    "a length behind": ("s: cstring; e: byte = (e - s) / 8; pstring;", "616200 03 0163", ["ab", "c"]),
+    "aligns behind": ("pstring; align word; cstring; align long; byte;", "0161 6200 09", ["a", "b"]),
+    "a length before an align": ("byte = (e - s) / 8; s: pstring; align long; e: byte;", "03 0161 00 07", ["a"]),
+    "a size by a number": ("n: byte; s: pstring[$$Byte(n)]; cstring;", "04 03616263 00 6400", ["abc", "d"]),
+    "a fixed text": ("pstring = \"abc\"; pstring; cstring = \"d\";", "03616263 0165 6400", ["e"]),
+    "facts": ("integer = $$ID; pstring = $$Name; longint = $$Type; cstring;", "0001 00 54657374 6100", ["a"]),
+    "twelve strings": ("integer = $$CountOf(a); array a { pstring; };", "000C" + "0178" * 12, ["x"] * 12),
+    "no texts": ("integer; byte;", "0001 02", []),
+    "no rows": ("integer = $$CountOf(a); array a { pstring; };", "0000", []),
+}
+LONGER = {"a size by a number": {0: "abcd"}}
+
+
+def catalogue_of(texts):
+    return "".join(entry("Test", 1, leaf, text.encode()) for leaf, text in enumerate(texts))
+
+
+def shapes():
+    BOOK.say("Texts in rows, in cases, and behind what is counted and measured: each alone, and all.")
+    for name, (fields, digits, own) in SHAPES.items():
+        types, fork = "type 'Test' { %s };\n" % fields, [resource("Test", 1, digits)]
+        listed(name, types, fork, catalogue_of(own))
+        put("%s: its own texts" % name, types, fork, catalogue_of(own), [])
+        for leaf in range(min(len(own), 5)):
+            new = LONGER.get(name, {}).get(leaf, "longer")
+            fits = not (name == "numbers and points between" and leaf == 2)
+            err = "" if fits else "c:1: error 464 TextRefused: 'Test' 1"
+            put("%s: text %d" % (name, leaf), types, fork, entry("Test", 1, leaf, new.encode()), err=err)
+            if fits:
+                after = [one for one in admitted(told(restring, "restring f c t.r",
+                                                      files_of(fork, entry("Test", 1, leaf, new.encode()), types, {}), 0)[0][1])[0]]
+                listed("%s: text %d changed" % (name, leaf), types, after, catalogue_of(own[:leaf] + [new] + own[leaf + 1:]))
+        put("%s: a text behind its last" % name, types, fork, entry("Test", 1, len(own), b""), err="c:1: error 462 NoLeaf: 'Test' 1")
+        if len(own) > 1:
+            put("%s: all of its texts empty" % name, types, fork, catalogue_of([""] * len(own)))
+
+
+# Entries, one after the other.
+
+STOCK = [resource("STR#", 128, texts_of(b"one", b"two")), resource("STR#", 129, texts_of(b"three"), attr=8),
+         resource("Bare", 1, "0102"), resource("STR#", 130, "0005 0161"), resource("Size", 1, "0003 616263"), resource("Size", -2, "0001 61")]
+ENTRIES = {
+    "one": ("'STR#' 128 0 \"x\";", None), "two": ("'STR#' 128 1 \"y\";", None),
+    "protected": ("'STR#' 129 0 \"z\";", "219 Protected: 'STR#' 129"), "missing": ("'STR#' 5 0 \"\";", "462 NoLeaf: 'STR#' 5"),
+    "another type": ("'Size' 128 0 \"\";", "462 NoLeaf: 'Size' 128"), "untyped": ("'Bare' 1 0 \"\";", "462 NoLeaf: 'Bare' 1"),
+    "no row": ("'STR#' 130 0 \"\";", "462 NoLeaf: 'STR#' 130"), "too high": ("'STR#' 128 2 \"\";", "462 NoLeaf: 'STR#' 128"),
+    "too long": ("'Size' 1 0 \"abcdef\";",
+                 "464 TextRefused: 'Size' 1"), "also too long": ("'Size' -2 0 \"ab\";", "464 TextRefused: 'Size' -2"),
+}
+
+
+def answer(names, over):
+    """The line of these entries, by hand: the first that is refused, and 464 only behind all others, in the order of the list."""
+    faults, late = [], []
+    for at, name in enumerate(names):
+        says_ = ENTRIES[name][1]
+        if name in names[:at]:
+            key = says_.split(": ")[1] if says_ else "'STR#' 128"
+            says_ = says_ if says_ and says_[:3] in ("462", "219") and not (over and says_[:3] == "219") else "463 EntryTwice: " + key
+        if says_ and says_[:3] == "464":
+            late.append((name != "too long", at, says_))
+        elif says_ and not (over and says_[:3] == "219"):
+            faults.append((at, says_))
+    if faults:
+        return "c:%d: error %s" % (faults[0][0] + 1, faults[0][1])
+    return "c:%d: error %s" % (min(late)[1] + 1, min(late)[2]) if late else ""
+
+
+def orders():
+    BOOK.say("Entries in any order, twice, for what isn't there, and for texts that don't fit.")
+    types = LIST + SIZE
+    put("no entries", types, STOCK, "", [])
+    put("no entries but a comment", types, STOCK, "// nothing\n/* at all */\n", [])
+    for names in [(each,) for each in ENTRIES] + list(itertools.product([each for each in ENTRIES if each != "another type"], repeat=2)):
+        put("entries: " + ", ".join(names), types, STOCK, "\n".join(ENTRIES[each][0] for each in names), err=answer(names, False))
+    for names in itertools.product(("protected", "one", "missing", "too long"), repeat=2):
+        if "protected" in names:
+            put("-ov: " + ", ".join(names), types, STOCK, "\n".join(ENTRIES[each][0] for each in names),
+                words="restring f c t.r -o x -ov", err=answer(names, True))
+    threes = [("too long", "missing", "protected"), ("protected", "missing", "too long"), ("one", "one", "missing"),
+              ("one", "missing", "one"),
+              ("also too long", "one", "too long"), ("two", "one", "too long"), ("too long", "too long", "missing"), ("two", "protected", "two")]
+    for names in threes:
+        put("three: " + ", ".join(names), types, STOCK, "\n".join(ENTRIES[each][0] for each in names), err=answer(names, False))
+    put("entries from the back", types, STOCK, "'STR#' 128 1 \"2\"; 'STR#' 128 0 \"1\";", texts_of(b"1", b"2").hex())
+    put("464 has the line of the first entry of its resource", types, [resource("STR#", 1, texts_of(b"", b"", b""))],
+        "'STR#' 1 2 \"a\";\n'STR#' 1 0 \"%s\";\n'STR#' 1 1 \"b\";" % ("x" * 256), err="c:1: error 464 TextRefused: 'STR#' 1")
+    put("a protected resource stays without an entry", types, STOCK, ENTRIES["one"][0], texts_of(b"x", b"two").hex())
+    put("a protected resource without a text may be there", types, [resource("Bare", 1, "00", attr=8), TWO], "'STR#' 128 0 \"\";",
+        texts_of(b"", b"BC").hex())
+
+
+# A catalogue as tokens.
+
+TOKENS = ["'STR#'", "-", "5", "0", '"a"', '"b"', ";"]
+FIVE = [resource("STR#", -5, texts_of(b"A", b"BC")), resource("STR#", 5, texts_of(b"D"))]
+BAD = "c:1: error 461 BadEntry"
+
+
+def tokens():
+    BOOK.say("A catalogue that is cut at each token, and one with other tokens.")
+    for count in range(len(TOKENS) + 1):
+        err = "" if count in (0, len(TOKENS)) else BAD
+        put("cut: %d tokens" % count, LIST, FIVE, " ".join(TOKENS[:count]), err=err)
+        put("cut behind an entry: %d tokens" % count, LIST, FIVE, "'STR#' 5 0 \"E\";\n" + "\n".join(TOKENS[:count]),
+            err=err and "c:2: error 461 BadEntry")
+    for at in range(len(TOKENS)):
+        err = "" if at in (1, 4, 5) else BAD
+        put("left out: token %d" % at, LIST, FIVE, " ".join(TOKENS[:at] + TOKENS[at + 1:]), err=err)
+        put("twice: token %d" % at, LIST, FIVE, " ".join(TOKENS[:at + 1] + TOKENS[at:]), err="" if at in (4, 5) else BAD)
+    for at, other in [(0, "'STR'"), (0, '"STR#"'), (0, "STR"), (0, "'S'"), (1, "+"), (1, "~"), (2, "'a'"), (2, "(5)"), (3, "+0"), (3, "-0"),
+                      (3, "'0'"), (4, "'a'"), (5, ","), (5, "b"), (5, "$$Name"), (6, ","), (6, ":"), (6, ";;"), (6, "; ; ;")]:
+        given = TOKENS[:at] + [other] + TOKENS[at + 1:]
+        put("token %d is %s" % (at, other), LIST, FIVE, " ".join(given), err=BAD)
+
+
+def numbers():
+    BOOK.say("Ids and leaves.")
+    ends = [resource("STR#", -32768, texts_of(b"A")), resource("STR#", 32767, texts_of(b"B")), resource("STR#", 0, texts_of(b"C"))]
+    for text, err in [("32767", ""), ("-32768", ""), ("- 32768", ""), ("-0", ""), ("0", ""), ("0x7FFF", ""), ("$7fff", ""), ("077777", ""),
+                      ("0b0", ""), ("-0x8000", ""), ("32768", BAD), ("-32769",
+                                                                     BAD), ("4294967295", BAD), ("65535", BAD), ("-4294967295", BAD),
+                      ("4294967296", 'c:1: error 110 BadNumber: "4294967296"'), ("00", ""), ("08", 'c:1: error 110 BadNumber: "08"'),
+                      ("1", "c:1: error 462 NoLeaf: 'STR#' 1"), ("-1", "c:1: error 462 NoLeaf: 'STR#' -1")]:
+        put("the id %s" % text, LIST, ends, "'STR#' %s 0 \"x\";" % text, err=err)
+    for text, err in [("1", ""), ("0x1", ""), ("$1", ""), ("2", "c:1: error 462 NoLeaf: 'STR#' 128"),
+                      ("4294967295", "c:1: error 462 NoLeaf: 'STR#' 128"),
+                      ("4294967297", 'c:1: error 110 BadNumber: "4294967297"')]:
+        put("the leaf %s" % text, LIST, [TWO], "'STR#' 128 %s \"x\";" % text, err=err)
+    put("types by their bytes", LIST.replace("STR#", "str#") + LIST, [TWO], "'str#' 128 0 \"\";", err="c:1: error 462 NoLeaf: 'str#' 128")
+    odd = "type 'a\\'\\0xFF\\\\' { cstring; };\n"
+    listed("a type that isn't ASCII", odd, [(b"a'\xFF\\", 1, b"", 0, b"x\0")])
+    put("a type that isn't ASCII", odd, [(b"a'\xFF\\", 1, b"", 0, b"x\0")], "'a\\'\\0xFF\\\\' 1 0 \"yz\";", "797A00")
+
+
+LINES = {
+    "all on one line": ("'STR#' 128 0 \"x\"; 'STR#' 128 1 \"y\";", ""), "no blanks": ("'STR#'128 0\"x\";'STR#'128 1\"y\";", ""),
+    "each token on a line": ("'STR#'\n128\n0\n\"x\"\n;\n", ""), "tabs": (b"\t'STR#'\t128\v0\f\"x\"\t;", ""),
+    "a comment to the line's end": ("'STR#' 128 // the first\n0 \"x\"; // done", ""), "a comment": ("'STR#' /* a\nb */ 128 0 \"x\";", ""),
+    "a comment that never ends": ("'STR#' 128 0 \"x\";\n /* oh", "c:2: error 107 OpenComment"),
+    "a comment that never ends on a line with more": ("'STR#' 128 0 \"x\"; @ /* oh", "c:1: error 107 OpenComment"),
+    "a wrong token before a comment that never ends": ("@\n/* oh", "c:1: error 111 BadCharacter: 64"),
+    "joined lines": ("'STR#' 128 0 \"x\\\ny\"; \\\n'STR#' 128 2 \"\";", "c:1: error 462 NoLeaf: 'STR#' 128"),
+    "a joined text": ("'STR#' 128 0 \"x\\\ny\";",
+                      ""), "texts of several lines": ("'STR#' 128 0\n    \"x\"\n    \"y\"\n    $\"7A 00\";", ""),
+    "a hex text": ("'STR#' 128 0 $\"00 FF\" \"a\" $\"\";", ""), "an odd hex text": ("\n'STR#' 128 0 $\"0\";", "c:2: error 113 BadHex"),
+    "a text that doesn't end": ("'STR#' 128 0\n\"x",
+                                "c:2: error 108 OpenString"), "a type that doesn't end": ("'STR# 128 0 \"x\";", "c:1: error 108 OpenString"),
+    "a wrong escape": ("'STR#' 128 0 \"\\q\";", 'c:1: error 109 BadEscape: "\\"\\\\q\\""'),
+    "escapes": ("'STR#' 128 0 \"\\t\\n\\r\\b\\v\\f\\?\\\\\\\"\\'\\0x41\\0d066\\0b01000011\\104\\$45\";", ""),
+    "a literal of five bytes": ("'STRS#' 128 0 \"x\";",
+                                'c:1: error 110 BadNumber: "\'STRS#\'"'), "an empty literal": ("'' 128 0 \"x\";", 'c:1: error 110 BadNumber: "\'\'"'),
+    "a directive": ("#define a 1\n'STR#' 128 0 \"x\";",
+                    "c:1: error 111 BadCharacter: 35"), "a control byte": ("'STR#' 128 0 \"x\";\n\1", "c:2: error 111 BadCharacter: 1"),
+    "a long word": ("'STR#' 128 0 \"x\";\n" + "w" * 256,
+                    "c:2: error 115 WordTooLong: 256"), "a word of 255 bytes": ("w" * 255, "c:1: error 461 BadEntry"),
+    "a word": ("data 'STR#' (128) { };",
+               "c:1: error 461 BadEntry"), "a sign": ("}", "c:1: error 461 BadEntry"), "a semicolon": ("\n;", "c:2: error 461 BadEntry"),
+    "a fault of tokens before an entry that is none": (";\n\n@", "c:3: error 111 BadCharacter: 64"),
+    "the second entry is none": ("'STR#' 128 0 \"x\";\n\n'STR#' 128 1;", "c:3: error 461 BadEntry"),
+    "the line of the first token": ("'STR#'\n128 9\n\"x\";", "c:1: error 462 NoLeaf: 'STR#' 128"),
+    "the line of the second entry": ("'STR#' 128 0\n\"x\"; 'STR#'\n 128 9 \"\";", "c:2: error 462 NoLeaf: 'STR#' 128"),
+}
+
+
+def lines():
+    BOOK.say("Lines, comments, texts and wrong tokens of a catalogue.")
+    for name, (text, err) in LINES.items():
+        put("lines: " + name, LIST, [TWO], text, err=err)
+    own = "'STR#' 128 0\n    \"new\";\n\n'STR#' 128 1\n    \"text\"\n    \"s\";\n'STR#' 9 0 \"\";\n"
+    for name, ending in (("CR", b"\r"), ("CR LF", b"\r\n"), ("LF", b"\n"), ("LF CR", b"\n\r")):
+        line = 12 if name == "LF CR" else 7  # the CR and the LF of an empty line are one end
+        put("line ends: %s" % name, LIST, [TWO], own.encode().replace(b"\n", ending), err="c:%d: error 462 NoLeaf: 'STR#' 9" % line)
+        put("line ends: %s, done" % name, LIST, [TWO], own.encode().replace(b"\n", ending)[:-len(b"'STR#' 9 0 \"\";" + ending)],
+            texts_of(b"new", b"texts").hex())
+    mark = b"\xEF\xBB\xBF"
+    cafe = "'STR#' 128 0 \"caf\u00e9 \u20ac\";\n"
+    put("UTF-8 with a mark", LIST, [TWO], mark + cafe.encode(), texts_of(b"caf\x8E \xDB", b"BC").hex())
+    put("UTF-8 without a mark", LIST, [TWO], cafe.encode(), texts_of("caf\u00e9 \u20ac".encode(), b"BC").hex())
+    put("Mac Roman", LIST, [TWO], cafe.encode("mac_roman"), texts_of(b"caf\x8E \xDB", b"BC").hex())
+    put("a mark alone", LIST, [TWO], mark, [])
+    put("two marks", LIST, [TWO], mark + mark, err="c:1: error 102 BadText: 3")
+    put("a letter that Mac Roman lacks", LIST, [TWO], mark + "'STR#' 128 0 \"\u0416\";".encode(), err="c:1: error 102 BadText: 17")
+    put("a letter of UTF-8 that is cut", LIST, [TWO], mark + cafe.encode()[:-4] + b"\";", err="c:1: error 102 BadText: 23")
+    put("a letter that Mac Roman lacks before a cut one", LIST, [TWO], mark + "\n\u0416".encode() + b"\xC3",
+        err="c:1: error 102 BadText: 4")
+    put("102 before a wrong token", LIST, [TWO], mark + b"@\xFF", err="c:1: error 102 BadText: 4")
+    put("a letter of Mac Roman outside texts", LIST, [TWO], b"\x8E", err="c:1: error 111 BadCharacter: 142")
+    put("a literal of bytes of Mac Roman", LIST, [TWO], mark + "'\u00e9\u00e9\u00e9\u00e9' 1 0 \"\";".encode(),
+        err="c:1: error 462 NoLeaf: '\\0x8E\\0x8E\\0x8E\\0x8E' 1")
+
+
+# Files of each form.
+
+FULL = File(name=b"File", kind=b"TEXT", creator=b"ttxt", flags=0x8123, vertical=-2, horizontal=3, folder=-4, extra=bytes(range(1, 17)),
+            locked=True, created=3000000000, modified=3000000001, data=b"data fork")
+OTHERS = ("raw", "double", "single", "macbin", "hqx")
+HELLO = "'STR#' 128 0 \"Hello\";"
+
+
+def wrong_form(form, data):
+    """What a file is refused with, read as one of another form; nothing where it is read."""
+    try:
+        strings(["f", "t.r", "-from", form], {"f": data, "t.r": LIST.encode()})
+        return ""
+    except Refused as fault:
+        return message(fault)
+
+
+def forms():
+    BOOK.say("Files of each form, as they are found and as they are named.")
+    for form in OTHERS:
+        file = written(form, FULL.but(res=FORK))
+        assert form_of(file) == form
+        listed("found: " + form, LIST, file)
+        put("found: " + form, LIST, file, HELLO)
+        put("found, 1 day later: " + form, LIST, file, HELLO, moment=86400)
+        for other in OTHERS:
+            err = wrong_form(other, file)
+            assert (err == "") == (form == other), (form, other, err)
+            listed("%s as %s" % (form, other), LIST, file, words="strings f t.r -from " + other, err=err)
+            put("%s as %s" % (form, other), LIST, file, HELLO, words="restring f c t.r -from %s -o x" % other, err=err)
+    put("the last -from counts", LIST, FORK, HELLO, words="restring f c -from hqx t.r -from raw -o x")
+    bare = single(File(name=b"", res=FORK))
+    put("a file without a name takes that of the output", LIST, bare, HELLO, words="restring f c t.r -o new/caf\u00e9")
+    put("a file without a name, and no name that fits", LIST, bare, HELLO, words="restring f c t.r -o new/\u0416x",
+        err="error 425 BadName: 2")
+    put("a file without a date takes that of the run", LIST, bare, HELLO, moment=978307200)
+    put("AppleDouble: the header alone is written", LIST, written("double", FULL.but(res=FORK)), HELLO, words="restring f c t.r -o ._new",
+        more={"f.data": b"its data fork", "new": b"another"})
+    put("attributes of the map, and reserved bytes", LIST, image([TWO], 0x1234 & ~0x80, b"kept"), HELLO)
+    put("names and attributes", LIST, [resource("STR#", 128, texts_of(b"A", b"BC"), "a name", 0x76), resource("x   ", 1, "", "n", 0xF7)],
+        HELLO)
+    put("a fork of no bytes", LIST, b"", "")
+    put("a fork without resources", LIST, [], "")
+    listed("a fork of no bytes", LIST, b"", "")
+    listed("a fork without resources", LIST, [], "")
+    listed("no type files", None, [TWO], "", words="strings f")
+    put("no type files", None, [TWO], "", [], words="restring f c")
+    put("no type files, and an entry", None, [TWO], HELLO, words="restring f c", err="c:1: error 462 NoLeaf: 'STR#' 128")
+
+
+def outputs():
+    BOOK.say("What is written, and over what.")
+    put("Rez.Out", LIST, [TWO], HELLO, words="restring f c t.r")
+    put("over the fork", LIST, [TWO], HELLO, words="restring f c t.r -o f")
+    put("over the catalogue", LIST, [TWO], HELLO, words="restring f c t.r -o c")
+    put("over a type file", LIST, [TWO], HELLO, words="restring f c t.r -o t.r")
+    put("over another file", LIST, [TWO], HELLO, words="restring -o x f c t.r", more={"x": b"old"})
+    put("into a new folder", LIST, [TWO], HELLO, words="restring f c t.r -o a/b/x")
+    put("the last output counts", LIST, [TWO], HELLO, words="restring f -o y c t.r -o x")
+    put("a refusal leaves the output", LIST, [TWO], "'STR#' 128 9 \"\";", words="restring f c t.r -o x", more={"x": b"old"},
+        err="c:1: error 462 NoLeaf: 'STR#' 128")
+    put("the fork is the catalogue", LIST, [TWO], None, words="restring f f t.r -o x", err="f:1: error 111 BadCharacter: 0")
+    put("the catalogue is in a folder", LIST, [TWO], None, words="restring f d/c t.r -o x", more={"d/c": "'STR#' 128 9 \"\";"},
+        err="d/c:1: error 462 NoLeaf: 'STR#' 128")
+
+
+# Type files.
+
+def types():
+    BOOK.say("Type files: declarations again.")
+    pair = LIST + "type 'STR#' (128) { string; };\n"
+    warned = "rezkit: t.r:2: warning 240 Redeclared: 'STR#' 0\n"
+    again = LIST + "type 'STR#' { string; };\n"
+    listed("a declaration for one id", pair, [TWO, resource("STR#", 1, texts_of(b"x"))])
+    listed("a declaration again", again, [TWO], warned=warned)
+    listed("a declaration again with -rd", again, [TWO], words="strings f t.r -rd")
+    put("a declaration again", again, [TWO], HELLO, "48656C6C6F", warned=warned)
+    put("a declaration again with -rd", again, [TWO], HELLO, "48656C6C6F", words="restring f c t.r -o x -rd")
+    put("a warning before the line of a fault", again, [TWO], "@", warned=warned, err="c:1: error 111 BadCharacter: 64")
+
+
+def macros():
+    BOOK.say("Type files: macros, paths, and several of them.")
+    button = "type 'Case' { switch { case Button: key byte = 1; pstring; }; };\n"
+    held = [resource("Case", 1, "01 0161")]
+    for name, text in (("", button), (" that is a macro", button + "#define Button 3\n")):
+        listed("a case" + name, text, held, "'Case' 1 0\n    \"a\";\n")
+        put("a case" + name, text, held, "'Case' 1 0 \"bc\";", "01 026263")
+    case("a case that is a macro: derez shows data", "derez f t.r", {"f": image(held), "t.r": button + "#define Button 3\n"},
+         out='data \'Case\' (1) {\n    $"0101 61"\n};\n\n')
+    form = "type 'STR#' { integer = $$CountOf(a); array a { FORM; }; };\n"
+    listed("-d", form, [TWO], words="strings f t.r -d FORM=pstring")
+    put("-d", form, [TWO], HELLO, words="restring f c t.r -d FORM=pstring -o x")
+    put("-d and -u", LIST, [TWO], HELLO, words="restring f c t.r -d pstring2=byte -u pstring2 -o x")
+    put("macros don't stand in catalogues", LIST, [TWO], "'STR#' A 0 \"\";", words="restring f c t.r -d A=128 -o x", err=BAD)
+    included = {"t.r": "#include \"more.r\"\n", "p/more.r": LIST}
+    listed("-i", None, [TWO], words="strings f t.r -i p", more=included)
+    put("-i", None, [TWO], HELLO, words="restring f c t.r -i p -o x", more=included)
+    put("-i, and a fault of the catalogue", None, [TWO], "\n@", words="restring f c t.r -i p -o x", more=included,
+        err="c:2: error 111 BadCharacter: 64")
+    put("two type files", None, [resource("Size", 1, "0001 61"), TWO], HELLO, words="restring f c a.r b.r -o x",
+        more={"a.r": LIST, "b.r": SIZE})
+    put("two type files, the second again", None, [TWO], HELLO, words="restring f c a.r b.r -o x", more={"a.r": LIST, "b.r": LIST},
+        warned="rezkit: b.r:1: warning 240 Redeclared: 'STR#' 0\n")
+    put("statements of type files do nothing", LIST + "data 'STR#' (128) { \"a\" };\ndelete 'STR#';\n", [TWO], HELLO)
+    for word in ("strings", "restring"):
+        given = ("type 'STR#' {\n#if derez\npstring;\n#endif\n};\n")
+        case("%s reads type files as derez does" % word, word + (" f t.r" if word == "strings" else " f c t.r -o x"),
+             {"f": image([resource("STR#", 1, "0161")]), "t.r": given, **({"c": "'STR#' 1 0 \"b\";"} if word == "restring" else {})},
+             **({"out": "'STR#' 1 0\n    \"a\";\n"} if word == "strings" else {"leaves": [("x", image([resource("STR#", 1, "0162")]))]}))
+    date = "type 'Date' { pstring = $$Date; pstring; };\n"
+    listed("the date of the run", date, [resource("Date", 1, b"\x0A1970-01-02\1a")], moment=86400)
+    listed("the date of another run", date, [resource("Date", 1, b"\x0A1970-01-02\1a")], "")
+    put("the date of the run", date, [resource("Date", 1, b"\x0A1970-01-02\1a")], "'Date' 1 0 \"b\";", moment=86400)
+
+
+# The order of refusals: of each two the first is told.
+
+FORK_FAULTS = [
+    ("a missing fork", None, 'error 101 MissingFile: "f"'), ("a form that is broken", MAGICS["single"].to_bytes(4, "big") + bytes(4),
+                                                             "error 421 ShortHeader: 8"),
+    ("a fork that is broken", bytes(15), "error 401 ShortHeader: 0 15"), ("a fork that is read only", image([TWO], 0x80), "error 220 ReadOnlyMap: 128")]
+TEXT_FAULTS = [
+    ("no catalogue", None, 'error 101 MissingFile: "c"'), ("a catalogue that is no text", b"\xEF\xBB\xBF\xFF", "c:1: error 102 BadText: 3"),
+    ("a wrong token", ";\n@", "c:2: error 111 BadCharacter: 64"), ("no entry", "'STR#' 9 9 \"\";\n;", "c:2: error 461 BadEntry"),
+    ("no leaf", "'STR#' 128 0 \"%s\";'STR#' 9 9 \"\";" % ("x" * 256), "c:1: error 462 NoLeaf: 'STR#' 9"),
+    ("a text that doesn't fit", "'STR#' 128 0 \"%s\";" % ("x" * 256), "c:1: error 464 TextRefused: 'STR#' 128")]
+TYPE_FAULTS = [("a wrong token of a type file", "@", "t.r:1: error 111 BadCharacter: 64"),
+               ("a wrong statement of a type file", "type;", "t.r:1: error 201 Syntax")]
+
+
+def without(files):
+    return {name: held for name, held in files.items() if held is not None}
+
+
+def refusals():
+    BOOK.say("Of two refusals the first is told.")
+    for (name, text, err), (fault, fork, _) in itertools.product(TYPE_FAULTS, FORK_FAULTS[:3] + [("a fork", FORK, "")]):
+        for word in ("strings f t.r", "restring f c t.r -o x"):
+            files = without({"f": fork, "t.r": text, "c": None if fork is None else "@"})
+            case("%s: %s, and %s" % (word.split()[0], name, fault), word, files, status=2, gone=["x"] * (word[0] == "r"),
+                 err="rezkit: %s\n" % err)
+    for name, fork, err in FORK_FAULTS:
+        files = without({"f": fork, "t.r": LIST})
+        if err[6:9] != "220":
+            case("strings: " + name, "strings f t.r", files, status=2, err="rezkit: %s\n" % err)
+        for fault, text, _ in TEXT_FAULTS + [("a catalogue", HELLO, "")]:
+            both = without({**files, "c": text})
+            assert fork is None or told(restring, "restring f c t.r -o x", both, 0)[1] == err
+            case("%s, and %s" % (name, fault), "restring f c t.r -o x", both, status=2, gone=["x"], err="rezkit: %s\n" % err)
+    listed("a fork that is read only", LIST, image([TWO], 0x80))
+    for name, text, err in TEXT_FAULTS:
+        put(name, LIST, [TWO], text, err=err)
+        put(name + ", and a file without a name that fits", LIST, single(File(name=b"", res=FORK)), text,
+            words="restring f c t.r -o \u0416", err=err)
+
+
+def big():
+    BOOK.say("Resources and forks at their limits.")
+    long = fork_of([resource("Long", 1, bytes(16777213))])
+    put_read_only = int.from_bytes(long[4:8], "big") + 23
+    for name, fork in [("a long resource", long), ("a long resource in a fork that is read only",
+                                                   long[:put_read_only] + b"\x80" + long[put_read_only + 1:])]:
+        listed(name, LIST, fork, err="error 301 ResourceTooLong: 16777213")
+        put(name, LIST, fork, None, err="error 301 ResourceTooLong: 16777213")
+    most = image([resource("Long", 1, bytes(16777200)), resource("STR ", 1, "0161")])
+    limit("a data area that is too long", most, "'STR ' 1 0 \"%s\";" % ("a" * 8), "error 302 DataFull: 16777217")
+    data = single(FULL.but(data=bytes(33554433), res=image([resource("STR ", 1, "0161")])))
+    limit("a data fork that is too long", data, "'STR ' 1 0 \"b\";", "error 428 ForkTooLong: 33554433")
+    limit("a text that doesn't fit before a data fork that is too long", data, "'STR ' 1 0 \"%s\";" % ("b" * 256),
+          "c:1: error 464 TextRefused: 'STR ' 1")
+
+
+def shared():
+    BOOK.say("Forks whose resources share bytes and names, which are too many to be written.")
+    for name, count, at_name, err in [("a map that is too long", 5460, 0xFFFF, "303 MapFull: 65558"),
+                                      ("names that are too long", 300, 0, "304 NamesFull: 76800")]:
+        names = [] if at_name else [b"n" * 255]
+        fork = laid(*each(("Many", [reference(ident, 0, at_name) for ident in range(count)])), held(b""), named(*names))
+        assert told(restring, "restring f c", {"f": fork, "c": ""}, 0)[1] == "error " + err
+        counted = "0000..%04X:%04X0000000000000000" % (count - 1, at_name)
+        at = fork.rindex(b"Many") + 8
+        keys = ["file bytes f"] + spelled(fork[:at]) + ["| " + counted] + spelled(fork[at + 12 * count:])
+        assert read_cases("\n".join(["case %s" % name, "status 0"] + keys))[0].files["f"] == fork
+        for catalogue, line in (("", "error " + err), ("'Many' 0 0 \"\";", "c:1: error 462 NoLeaf: 'Many' 0")):
+            case("%s: %d bytes of a catalogue" % (name, len(catalogue)), "restring f c -o x", {"c": catalogue}, keys, status=2, gone=["x"],
+                 err="rezkit: %s\n" % line)
+
+
+TEMPLATE = resource("TMPL", 128, "05436F756E74 4F434E54 012A 4C535443 0454657874 50535452 012A 4C535445", "STR#")
+BROKEN = resource("TMPL", 128, "0141 4F434E54 0142 44425954", "STR#")
+
+
+def templates():
+    BOOK.say("Types that a file of templates declares.")
+    files, own = {"f": FORK, "T": image([TEMPLATE])}, entry("STR#", 128, 0, b"A") + entry("STR#", 128, 1, b"BC")
+    changed = {**files, "c": HELLO}
+    after = image([resource("STR#", 128, texts_of(b"Hello", b"BC"))])
+    case("templates: listed", "strings f -tmpl T", files, out=own)
+    case("templates: put", "restring f c -tmpl T -o x", changed, leaves=[("x", after)])
+    again = "type 'STR#' { integer; pstring; cstring; };\n"
+    warned = "rezkit: t.r:1: warning 240 Redeclared: 'STR#' 0\n"
+    case("templates: declared again", "restring f c t.r -tmpl T -o x", {**changed, "t.r": again}, status=2, gone=["x"],
+         err=warned + "rezkit: c:1: error 462 NoLeaf: 'STR#' 128\n")
+    case("templates: declared again with -rd", "strings f t.r -tmpl T -rd", {**files, "t.r": again})
+    case("templates: no file", "strings f -tmpl U", files, status=2, err='rezkit: error 101 MissingFile: "U"\n')
+    case("templates: one that is broken, before a missing fork", "restring g c -tmpl T -o x", {**changed, "T": image([BROKEN])}, status=2,
+         gone=["x"], err="rezkit: error 454 CountUnpaired: 128 12\n")
+    case("templates: a wrong statement, and a missing fork", "restring g c t.r -tmpl T -o x", {**changed, "t.r": "type;"}, status=2,
+         gone=["x"],
+         err="rezkit: t.r:1: error 201 Syntax\n")
+
+
+def limit(name, fork, catalogue, err):
+    put(name, "type 'STR ' { pstring; };\n", fork, catalogue, err=err)
+
+
+PARTS = (rows, application, texts, long_texts, shapes, orders, tokens, numbers, lines, forms, outputs, types, macros, templates, refusals,
+         shared, big)
+
+if __name__ == "__main__":
+    for part in PARTS:
+        part()
+    sys.exit(0 if BOOK.finish() else 1)

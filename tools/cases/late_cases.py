@@ -1,0 +1,365 @@
+#!/usr/bin/env python3
+"""Writes late.cases: numbers that are computed after all others, and what reads bits.
+
+    python3 tools/cases/late_cases.py [--check]
+
+A type stands here as a list of fields, and labels.py writes its text and lays its rows. What label_spelling.py says of
+the bytes must be the same. Where bytes or the line on `err` stand here, they are written by hand, and are compared with
+what labels.py says. With --check nothing is written, and the status is 1 where a file would change.
+"""
+import sys
+
+import top  # noqa: F401
+from label_book import Cases, FUNCTIONS, KINDS, WRONG
+from model.label_types import (Align, Array, Fill, Format, Label, Switch, at, bits_at, byte, byte_at, field_bits, integer, key,
+                         long_at, longint, num, number, points, rows_of, text, word_at)
+
+LATE = Cases("late.cases", "late_cases.py", "Numbers that are computed after all others, what reads bits, and the order of refusals.",
+    "late_read.cases")
+
+
+# Bits.
+
+def reading():
+    LATE.say("What reads bits: widths, and where they begin and end.")
+    row = LATE.row
+    eight = [Label("a"), longint(), longint(), Label("m")]
+    values = [0x01234567, -1985229329]  # 89ABCDEF
+    for width in (-2147483648, -1, 0, 33, 64, 2147483647):
+        row("%d bits" % width, eight + [longint(bits_at("a", number(0), number(width)))], values, "213 LaterData: %d" % width)
+    for width, wanted in [(1, "00000000"), (2, "00000000"), (7, "00000000"), (8, "00000001"), (9, "00000002"), (16, "00000123"),
+        (31, "0091A2B3"), (32, "01234567")]:
+        row("%d bits" % width, eight + [longint(bits_at("a", number(0), number(width)))], values, "01234567 89ABCDEF " + wanted)
+    for start, width, wanted in [(4, 8, "00000012"), (28, 8, "00000078"), (31, 1, "00000001"), (32, 32, "89ABCDEF"),
+        (63, 1, "00000001"), (1, 31, "01234567"), (33, 31, "09ABCDEF")]:
+        row("%d bits from %d" % (width, start), eight + [longint(bits_at("a", number(start), number(width)))], values,
+            "01234567 89ABCDEF " + wanted)
+    for start, width, wanted in [(-8, 8, "000000EF"), (-1, 1, "00000001"), (-64, 32, "01234567"), (-32, 32, "89ABCDEF"),
+        (-36, 8, "00000078"), (-64, 1, "00000000")]:
+        row("%d bits from %d before a label" % (width, -start), eight + [longint(bits_at("m", number(start), number(width)))],
+            values, "01234567 89ABCDEF " + wanted)
+    for start, width, end in [(-65, 1, 0), (-65, 32, 31), (-72, 8, 0), (-2147483647, 32, -2147483551), (0, 1, 65), (0, 32, 96),
+        (-31, 32, 65), (1, 8, 73), (2147483647, 32, 2147483743)]:
+        row("%d bits %d behind a label, which aren't there" % (width, start),
+            eight + [longint(bits_at("m", number(start), number(width)))], values, "213 LaterData: %d" % end)
+    row("bits up to the place of the number", [Label("a"), field_bits(3), field_bits(5, bits_at("a", number(0), number(3)))], [5],
+        "A5")
+    row("bits of which the last is the number's first", [Label("a"), field_bits(3),
+        field_bits(5, bits_at("a", number(0), number(4)))], [5], "213 LaterData: 4")
+    row("a byte over bounds of bytes", [Label("a"), field_bits(4), Label("b"), byte(), field_bits(4), byte(byte_at("b"))],
+        [1, 0x23, 4], "1234 23")
+    row("a long of which the first bit is set", [Label("a"), longint(), longint(long_at("a"))], [-2], "FFFFFFFE FFFFFFFE")
+    row("a long of which the first bit is set, in an integer", [Label("a"), longint(), integer(long_at("a"))], [-2],
+        "FFFFFFFE FFFE")
+    row("a word of which the first bit is set, in an integer", [Label("a"), integer(), integer(word_at("a"))], [-2], "FFFE FFFE")
+    row("a word is never negative", [Label("a"), integer(), longint(word_at("a") + 1)], [-1], "FFFF 00010000")
+    row("a byte is never negative", [Label("a"), byte(), integer(byte_at("a") - 256)], [-1], "FF FFFF")
+    row("the start is computed", [Label("a"), byte(), byte(), byte(), byte(bits_at("a", byte_at("a") * 8, number(8)))], [2, 5, 6],
+        "020506 06")
+    row("the width is computed", [Label("a"), byte(), byte(), byte(bits_at("a", number(8), byte_at("a")))], [4, 0x5F], "045F 05")
+    row("start and width from places", [Label("a"), byte(), Label("b"), byte(), Label("c"),
+        byte(bits_at("a", at("b"), at("c") - at("b")))], [1, 7], "0107 07")
+    row("the fault of the start before that of the width", [Label("a"), byte(), byte(bits_at("a", number(1) / 0, number(1) << 32))],
+        [1], "211 ZeroDivisor")
+    row("the fault in the width", [Label("a"), byte(), byte(bits_at("a", number(99), number(1) << 32))], [1], "215 BadShift: 32")
+    row("the width before the place of the bits", [Label("a"), byte(), byte(bits_at("a", number(99), number(33)))], [1],
+        "213 LaterData: 33")
+    row("bits in the start that aren't there", [Label("a"), byte(), byte(bits_at("a", long_at("a"), number(33)))], [1],
+        "213 LaterData: 32")
+    row("bits of zeros in a fill", [Label("a"), Fill("word", None), byte(byte_at("a"))], [], "0000 00")
+    row("bits of an align", [byte(), Label("a"), Align("long"), byte(byte_at("a"))], [255], "FF000000 00")
+    row("bits of a point", [Label("a"), points(count=2), integer(bits_at("a", number(16), number(16)))], [(1, -2)],
+        "0001 FFFE FFFE")
+    row("a number of a point reads the one before it", [Label("a"), points(7, word_at("a"))], [], "0007 0007")
+    row("a number of a rectangle reads those before it", [Label("a"), points(7, word_at("a") + 1,
+        bits_at("a", number(16), number(16)) + 1, word_at("a"))], [], "0007 0008 0009 0007")
+    row("a number of a point reads itself", [Label("a"), points(word_at("a"), 1)], [], "213 LaterData: 16")
+    row("bits of a string", [Label("a"), text("string"), integer(word_at("a"))], [b"AB"], '"AB" 4142')
+    row("bits of the length of a string", [Label("a"), text("pstring"), byte(byte_at("a"))], [b"ABC"], '03 "ABC" 03')
+    row("bits of rows", [Label("a"), Array(None, None, [byte()]), integer(word_at("a"))], [[[1], [2], [3]]], "010203 0102")
+    row("bits of rows that aren't there", [Label("a"), Array(None, None, [byte()]), integer(word_at("a"))], [[[1]]],
+        "213 LaterData: 16")
+    row("bits of a key", [Label("a"), Switch([("A", [key("byte", 7)]), ("B", [key("byte", 9)])]), byte(byte_at("a"))], [("B", [])],
+        "09 09")
+    row("a row reads the row before it", [Label("a"), Array(None, None, [byte(), byte(byte_at("a"))])], [[[5], [6]]], "0505 0605")
+    row("a number as it grows", [Label("a"), Array("r", None, [byte(), byte(bits_at("a", rows_of("r") * 8 - 8, number(8)))])],
+        [[[5], [6]]], "213 LaterData: 16")
+    for which, function in FUNCTIONS:
+        row("%s at its own place" % which, [Label("a"), longint(function("a"))], [],
+            "213 LaterData: %d" % ({"a byte": 8, "a word": 16, "a long": 32}.get(which) or int(which.split()[0])))
+        row("%s at the end of all" % which, [byte(), longint(function("e")), Label("e")], [1],
+            "213 LaterData: %d" % (40 + ({"a byte": 8, "a word": 16, "a long": 32}.get(which) or int(which.split()[0]))))
+        row("%s from zero bits" % which, [Label("a"), longint(), longint(function("a"))], [0], "00000000 00000000")
+        row("%s from one bits" % which, [Label("a"), longint(), longint(function("a"))], [-1])
+
+
+# Late numbers.
+
+def lateness():
+    LATE.say("Late numbers of each type.")
+    row = LATE.row
+    for form, fits in [("boolean", (0, 1)), ("byte", (-128, 255)), ("char", (0, 255)), ("integer", (-32768, 65535)),
+        ("bitstring[1]", (-1, 1)), ("bitstring[5]", (-16, 31)),
+                       ("bitstring[31]", (-2 ** 30, 2 ** 31 - 1))]:
+        for value, what in [(fits[0], "least"), (fits[1], "most"), (fits[0] - 1, "one below the least"),
+            (fits[1] + 1, "one above the most")]:
+            if -2 ** 31 <= value < 2 ** 31:
+                row("a late %s of the %s" % (form, what), [num(form, at("e") * 0 + value), byte(), Label("e")], [1],
+                    None if fits[0] <= value <= fits[1] else "207 OutOfRange: %d" % value)
+    for form in ("longint", "bitstring[32]"):
+        for value in (-2 ** 31, -1, 2 ** 31 - 1):
+            row("a late %s of %d" % (form, value), [num(form, (at("e") - at("e")) + value), Label("e")], [])
+    row("a late number of a point", [points(at("e"), 5), Label("e")], [], "0020 0005")
+    row("both numbers of a point late", [points(at("e"), at("e") + 1), Label("e")], [], "0020 0021")
+    row("late numbers of a rectangle", [points(at("e"), 1, at("a"), 2), Label("a"), byte(), Label("e")], [9],
+        "0048 0001 0040 0002 09")
+    row("a late number of a point that is out of range", [points(5, at("e") << 16), Label("e")], [], "207 OutOfRange: 2097152")
+    row("a number of a point reads a late one before it", [Label("a"), points(at("e"), word_at("a") + 1), Label("e")], [],
+        "0020 0021")
+    LATE.say("Late because bits of a late number are read.")
+    row("a late number that reads a late one", [Label("a"), byte(at("e")), byte(byte_at("a") + 1), Label("e")], [], "10 11")
+    row("late numbers that read each the one before it", [Label("a"), byte(at("e")), Label("b"), byte(byte_at("a") + 1), Label("c"),
+        byte(byte_at("b") + 1), Label("d"), byte(byte_at("c") + 1), Label("e")],
+        [], "20 21 22 23")
+    row("the last bit of a late number", [Label("a"), field_bits(3, at("e") & 7 | 1),
+        field_bits(5, bits_at("a", number(2), number(1))), byte(), Label("e")], [255], "21 FF")
+    row("the first bit of a late number", [field_bits(3, 5), Label("a"), field_bits(5, at("e")),
+        byte(bits_at("a", number(-3), number(4))), Label("e")], [], "B0 0B")
+    row("bits directly before a late number", [field_bits(3, 5), Label("a"), field_bits(5, at("e")),
+        text("string", bits_at("a", number(-3), number(3))), Label("e")], [b"abcdef"],
+        "207 OutOfRange: 48")
+    row("bits directly before a late number in a size", [field_bits(3, 5), Label("a"), field_bits(5, at("e") & 31),
+        text("string", bits_at("a", number(-3), number(3))), Label("e")], [b"abcdef"],
+        'B0 "abcde"')
+    row("bits directly behind a late number in a size", [Label("a"), field_bits(5, at("e") & 31), field_bits(3, 2),
+        text("string", bits_at("a", number(5), number(3))), Label("e")], [b"abcdef"],
+        'C2 "ab"')
+    row("a bit of a late number in a size", [Label("a"), field_bits(5, at("e") & 31), field_bits(3, 2),
+        text("string", bits_at("a", number(4), number(4))), Label("e")], [b"abcdef"], "214 SizeLater: 3")
+    row("a late number between two others in a size", [Label("a"), byte(1), byte(at("e")), byte(2),
+        text("string", bits_at("a", number(0), number(24))), Label("e")], [b"a"], "214 SizeLater: 4")
+    row("all bits of a late number in a size", [Label("a"), byte(at("e")), text("string", byte_at("a")), Label("e")], [b"a"],
+        "214 SizeLater: 2")
+    row("a number that doesn't name a label, of late bits and others", [Label("a"), byte(at("e")), byte(2), integer(word_at("a")),
+        Label("e")], [], "2002 2002")
+    row("a size of a number that is late by its bits", [Label("a"), byte(at("e")), Label("b"), byte(byte_at("a")),
+        text("string", byte_at("b")), Label("e")], [b"a"], "214 SizeLater: 4")
+    row("a number that isn't late beside one that is", [Label("a"), byte(at("e")), Label("b"), byte(3),
+        text("string", byte_at("b")), Label("e")], [b"abcd"], '28 03 "abc"')
+    row("late bits that a product with 0 hides", [Label("a"), byte(at("e")), text("string", byte_at("a") * 0), Label("e")], [b"a"],
+        "214 SizeLater: 2")
+    row("a label that a product with 0 hides", [text("string", at("e") * 0), Label("e")], [b"a"], "214 SizeLater: 0")
+    row("a late number of no label", [byte(at("e") * 0 + 7), Label("e")], [], "07")
+    row("late bits in the start", [Label("a"), byte(at("e")), byte(7), byte(bits_at("a", byte_at("a") - 16, number(8))),
+        Label("e")], [], "18 07 07")
+    row("late bits in the width", [Label("a"), byte(at("e") / 3), byte(7), byte(bits_at("a", number(8), byte_at("a"))), Label("e")],
+        [], "08 07 07")
+    row("late bits in the start, and bits that aren't there", [Label("a"), byte(at("e")), byte(7),
+        byte(bits_at("a", byte_at("a"), number(8))), Label("e")], [], "213 LaterData: 32")
+    row("late bits in the width, and a width that can't be", [Label("a"), byte(at("e") + 16), byte(7),
+        byte(bits_at("a", number(8), byte_at("a"))), Label("e")], [], "213 LaterData: 40")
+    row("a late number read at a label that stands later", [byte(bits_at("e", number(-8), number(8))), Label("e")], [],
+        "213 LaterData: 8")
+    row("bits before a label that stands later", [byte(), byte(bits_at("e", number(-16), number(8))), Label("e")], [7], "07 07")
+    row("bits before a label that stands later, in a size", [byte(), text("string", bits_at("e", number(-8), number(8))),
+        Label("e")], [1, b"a"], "214 SizeLater: 1")
+    row("a late number reads a later one", [Label("a"), byte(byte_at("b")), Label("b"), byte(at("e")), Label("e")], [],
+        "213 LaterData: 16")
+    row("places around late numbers are as wide", [integer(at("a")), Label("a"), longint(at("b")), Label("b"),
+        field_bits(3, at("c") & 7), Label("c")], [], "0010 00000030 60")
+
+
+def late_rows():
+    LATE.say("Late numbers in rows and in cases.")
+    row = LATE.row
+    lines = [[[1], [2], [3]]]
+    row("a late number in each row", [Array(None, None, [byte(), integer(at("e"))]), Label("e")], lines, "01 0048 02 0048 03 0048")
+    row("late numbers in rows of rows", [Array(None, None, [Array(None, None, [byte(at("e")), byte()]), byte(at("e") + 1)]),
+        Label("e")], [[[[[1], [2]]], [[]], [[[3]]]]],
+        "48014802 49 49 4803 49")
+    row("late numbers in rows of rows of rows", [Array("a", None, [Array("b", None,
+        [Array("c", None, [byte(at("e") + rows_of("c")), byte()]),
+        byte(rows_of("b"))]), byte(at("e") + rows_of("a"))]), Label("e")],
+        [[[[[[[1], [2]]], [[]]]]]], "3A01 3A02 02 02 39")
+    row("the number of rows of its own row in a late number", [Array(None, None,
+        [byte(at("e") + rows_of("in")), Array("in", None, [byte()])]), Label("e")], [[[[[1], [2]]], [[]], [[[3]]]]],
+        "32 0102 30 31 03")
+    row("the number of rows of the row around in a late number", [Array(None, None,
+        [Array("in", None, [byte(at("e") + rows_of("in")), byte()])]), Label("e")], [[[[[1], [2]]], [[[3]]]]],
+        "3201 3202 3103")
+    row("late numbers in rows that read the row before", [Label("a"), Array("r", None,
+        [byte(), byte(bits_at("a", number(0), number(8)) + at("e"))]), Label("e")], lines, "0131 0231 0331")
+    row("a late number in each row that reads a late one before the rows",
+        [Label("a"), byte(at("e")), Array(None, None, [byte(), byte(byte_at("a"))]), Label("e")], lines, "38 0138 0238 0338")
+    row("numbers in rows that read late ones in rows", [Label("a"), Array(None, None, [byte(at("e")), byte()]),
+        byte(bits_at("a", number(16), number(8)) + 1), Label("e")], lines, "3801 3802 3803 39")
+    row("a size in rows that reads a late number in rows before", [Label("a"), Array(None, None, [byte(at("e")), byte()]),
+        Array(None, None, [text("string", byte_at("a"))]), Label("e")],
+        [[[1]], [[b"a"]]], "214 SizeLater: 3")
+    row("a size in rows that reads a late number in a row before it", [byte(), Label("a"),
+        Array(None, None, [text("string", bits_at("a", number(-8), number(8))), byte(at("e"))]), Label("e")],
+        [0, [[b"a"], [b"b"]]], "00 18 18")
+    row("a late number in rows that is out of range in the second", [Array(None, None,
+        [Array("in", None, [byte()]), byte(at("e") * rows_of("in"))]), Label("e")], [[[[[1]]], [[[1], [2], [3], [4], [5], [6]]]]],
+        "207 OutOfRange: 432")
+    row("a late number in no row", [Array(None, None, [byte(), byte(at("e") / 0)]), Label("e")], [[]], "")
+    row("late numbers in rows with a stated number", [Array(None, 2, [byte(), byte(at("e"))]), Label("e")], [[[1], [2]]],
+        "0120 0220")
+    row("a late number in a case", [Switch([("A", [key("byte", 1), byte(at("e"))]), ("B", [key("byte", 2), integer(at("e"))])]),
+        Label("e")], [("B", [])], "02 0018")
+    row("a late number in a case by its own label", [Switch([("A", [key("byte", 1), byte(at("e")), text("cstring"), Label("e")])]),
+        byte()], [("A", [b"ab"]), 9], '01 28 "ab" 00 09')
+    row("late numbers in cases in rows", [Array(None, None, [Switch([("A", [key("byte", 1), byte(at("e"))]),
+        ("B", [key("byte", 2), integer(at("e"))])])]), Label("e")],
+        [[[("B", [])], [("A", [])]]], "02 0028 01 28")
+    row("a late number in rows of a case by labels of the case and around",
+        [Label("o"), Switch([("A", [key("byte", 1), Label("s"), Array(None, None,
+        [byte(), byte(at("t") - at("s")), byte(at("e") - at("o"))]), Label("t")])]), Label("e")],
+        [("A", [[[5], [6]]])], "01 053038 063038")
+    row("late numbers in their order over rows and behind", [Label("a"), byte(at("e")),
+        Array(None, None, [byte(byte_at("a")), byte()]), byte(byte_at("a") + 2), Label("e")], lines, "40 4001 4002 4003 42")
+    for count in (0, 1, 2, 7, 40):
+        row("%d rows with late numbers" % count, [longint(at("e")), Array("r", None, [byte(), integer(at("e") - at("s"))]),
+            Label("s"), pad(count), Label("e")], [[[k] for k in range(count)]])
+
+
+def pad(count):
+    return Fill("bit", count % 8)
+
+
+# The order of refusals.
+
+ZERO, SHIFT, GONE = number(1) / 0, number(1) << 32, at("e") - at("e")
+
+
+def refusals():
+    LATE.say("A late number has its faults in the second pass.")
+    row = LATE.row
+    tail = [Label("e")]
+    row("a late number with a zero divisor", [byte(at("e") / 0)] + tail, [], "211 ZeroDivisor")
+    row("a late number with a remainder by zero", [byte(at("e") % GONE)] + tail, [], "211 ZeroDivisor")
+    row("a late number with a bad shift", [byte(at("e") << 32)] + tail, [], "215 BadShift: 32")
+    row("a late number with a shift by a negative count", [byte(at("e") >> number(-1))] + tail, [], "215 BadShift: -1")
+    row("a late number with a shift by a place", [byte(1 << at("e")), integer(), field_bits(8)] + tail, [1, 2], "215 BadShift: 32")
+    row("a late number out of range", [byte(at("e") * 100)] + tail, [], "207 OutOfRange: 800")
+    row("a late number whose width can't be", [byte(bits_at("e", number(0), number(33)))] + tail, [], "213 LaterData: 33")
+    row("a late number whose bits aren't there", [byte(byte_at("e"))] + tail, [], "213 LaterData: 16")
+    row("the first fault of a late number, on its left", [byte((at("e") / 0) + (1 << at("e") + 99))] + tail, [], "211 ZeroDivisor")
+    row("the first fault of a late number, on its right", [byte((1 << at("e") + 99) + (at("e") / 0))] + tail, [],
+        "215 BadShift: 107")
+    row("a fault of a number that names a label behind it comes late", [byte(ZERO + at("e")), byte(SHIFT)] + tail, [],
+        "215 BadShift: 32")
+    row("a fault before late bits comes early", [Label("a"), byte(at("e") * 100), byte(ZERO + byte_at("a"))] + tail, [],
+        "211 ZeroDivisor")
+    row("a fault behind late bits comes late", [Label("a"), byte(at("e") * 100), byte(byte_at("a") + ZERO)] + tail, [],
+        "207 OutOfRange: 1600")
+    row("bits that aren't there before late bits come early", [Label("a"), byte(at("e") * 100),
+        byte(long_at("a") + byte_at("a"))] + tail, [], "213 LaterData: 32")
+    row("bits that aren't there over late bits come early", [Label("a"), byte(at("e") * 100), byte(word_at("a"))] + tail, [],
+        "213 LaterData: 16")
+    row("bits that aren't there behind late bits come late", [Label("a"), byte(at("e") * 100),
+        byte(byte_at("a") + long_at("a"))] + tail, [], "207 OutOfRange: 1600")
+    faults = [("a zero divisor", at("e") / 0, ZERO, "211 ZeroDivisor"), ("a bad shift", at("e") << 40, number(1) << 40,
+        "215 BadShift: 40"),
+              ("bits that aren't there", byte_at("e"), bits_at("a", number(999), number(8)), None), ("a value out of range",
+                  at("e") + 999, number(999), None)]
+    for first, late, _, _ in faults:
+        for second, other, early, _ in faults:
+            row("late: %s, and then %s" % (first, second), [Label("a"), byte(late), byte(other)] + tail, [])
+            row("late %s, and behind it %s at once" % (first, second), [Label("a"), byte(late), byte(early)] + tail, [])
+    row("the first late number in order, in rows and behind", [Array(None, None, [byte(), byte(at("e") / 0)]),
+        byte(at("e") << 32)] + tail, [[[1]]], "211 ZeroDivisor")
+    row("the first late number in order, behind no rows", [Array(None, None, [byte(), byte(at("e") / 0)]),
+        byte(at("e") << 32)] + tail, [[]], "215 BadShift: 32")
+    row("a late number before a string that is too long", [byte(at("e") / 0), text("pstring")] + tail, [b"a" * 256],
+        "216 TextTooLong: 256")
+    LATE.say("The order in a string with a size.")
+    late = [Label("a"), byte(at("e"))]
+    orders = [
+        ("a label behind it before a zero divisor", text("string", ZERO + at("e")), [b"a"], "214 SizeLater: 2"),
+        ("a label behind it before a bad shift", text("string", SHIFT + at("e")), [b"a"], "214 SizeLater: 2"),
+        ("a label behind it before bits that aren't there", text("string", long_at("a") + at("e")), [b"a"], "214 SizeLater: 2"),
+        ("a label behind it, of which bits are read, before all", text("string", ZERO + byte_at("e")), [b"a"], "214 SizeLater: 2"),
+        ("a label behind it in the start of bits", text("string", ZERO + bits_at("a", at("e"), number(1))), [b"a"],
+            "214 SizeLater: 2"),
+        ("a label behind it in the width of bits", text("string", ZERO + bits_at("a", number(1), at("e"))), [b"a"],
+            "214 SizeLater: 2"),
+        ("a label behind it in a format before the size", text("string", ZERO, [Format(b"%d", [at("e")])]), [], "214 SizeLater: 2"),
+        ("a label behind it in a format before a bad format", text("string", 2, [Format(b"%d%d", [at("e")])]), [],
+            "214 SizeLater: 2"),
+        ("a label behind it in the size before a bad format", text("string", at("e"), [Format(b"%d", [])]), [], "214 SizeLater: 2"),
+        ("a zero divisor before late bits", text("string", ZERO + byte_at("a")), [b"a"], "211 ZeroDivisor"),
+        ("late bits before a zero divisor", text("string", byte_at("a") + ZERO), [b"a"], "214 SizeLater: 2"),
+        ("bits that aren't there before late bits", text("string", long_at("a") + byte_at("a")), [b"a"], "213 LaterData: 32"),
+        ("late bits before bits that aren't there", text("string", byte_at("a") + long_at("a")), [b"a"], "214 SizeLater: 2"),
+        ("bits that aren't there over late bits", text("string", word_at("a")), [b"a"], "213 LaterData: 16"),
+        ("a width that can't be over late bits", text("string", bits_at("a", number(0), number(0))), [b"a"], "213 LaterData: 0"),
+        ("a bad shift before late bits", text("string", SHIFT + byte_at("a")), [b"a"], "215 BadShift: 32"),
+        ("a zero divisor in the size before late bits in a format", text("string", ZERO, [Format(b"%d", [byte_at("a")])]), [],
+            "211 ZeroDivisor"),
+        ("late bits in the size before a zero divisor in a format", text("string", byte_at("a"), [Format(b"%d", [ZERO])]), [],
+            "214 SizeLater: 2"),
+        ("late bits in a format before a zero divisor in the next", text("string", 2, [Format(b"%d%d", [byte_at("a"), ZERO])]), [],
+            "214 SizeLater: 2"),
+        ("a zero divisor in a format before late bits in the next", text("string", 2,
+            [Format(b"%d", [ZERO]), Format(b"%d", [byte_at("a")])]), [], "211 ZeroDivisor"),
+        ("late bits before a bad format", text("string", 2, [Format(b"%d%d", [byte_at("a")])]), [], "214 SizeLater: 2"),
+        ("bits that aren't there before a bad format", text("string", 2, [Format(b"%d%d", [long_at("a")])]), [],
+            "213 LaterData: 32"),
+        ("a zero divisor behind a bad format", text("string", 2, [Format(b"%d", []), Format(b"%d", [ZERO])]), [],
+            "211 ZeroDivisor"),
+        ("a bad format before a size out of range", text("string", at("a") - 1, [Format(b"%d", [])]), [], "222 BadFormat"),
+        ("a bad format before a size that is too large", text("pstring", at("a") + 256, [Format(b"%d", [])]), [], "222 BadFormat"),
+        ("a byte of a format out of range before a size out of range", text("string", at("a") - 1,
+            [Format(b"%c", [at("a") + 256])]), [], "222 BadFormat"),
+        ("a size out of range with a good format", text("string", at("a") - 1, [Format(b"%d", [at("a")])]), [],
+            "207 OutOfRange: -1"),
+        ("a size out of range before a value of an item that is cut", text("pstring", at("a") + 256), [b"a" * 300],
+            "207 OutOfRange: 256"),
+        ("a bad format before a string that is too long", text("pstring", None, [b"a" * 256, Format(b"%d", [])]), [],
+            "222 BadFormat"),
+        ("a format that makes a string too long", text("pstring", None, [b"a" * 255, Format(b"%d", [at("a")])]), [],
+            "216 TextTooLong: 256"),
+        ("a label behind it in a format before a string that is too long",
+            text("pstring", None, [b"a" * 256, Format(b"%d", [at("e")])]), [], "214 SizeLater: 2"),
+        ("late bits in a format of a format", text("pstring", None, [Format(b"%s", [[Format(b"%d", [byte_at("a")])]])]), [],
+            "214 SizeLater: 2"),
+    ]
+    for name, field, values, wanted in orders:
+        row(name, late + [field] + tail, values, wanted)
+    LATE.say("The pieces that a refusal counts.")
+    for name, field, values in KINDS:
+        row("the piece of a size behind %s" % name, [Label("a"), byte(at("e")), field, text("string", byte_at("a"))] + tail,
+            values + [b"x"])
+    for count in (0, 1, 2, 5):
+        row("the piece of a size behind %d rows" % count, [Array(None, None, [byte(), points(count=2)]),
+            text("string", at("e"))] + tail, [[[k, (1, 2)] for k in range(count)], b"x"],
+            "214 SizeLater: %d" % (3 * count))
+    row("the piece of a size in the second row", [Array(None, None, [Switch([("A", [key("byte", 1), text("string", at("e"))]),
+        ("B", [key("byte", 2)])])])] + tail, [[[("B", [])], [("A", [b"x"])]]],
+        "214 SizeLater: 2")
+    LATE.say("Too long, before the values of late numbers.")
+    most = 16777212
+    for name, body, kept in [
+            ("a late number that ends too far", "fill byte[16777211]; integer = e / 0; e:",
+                most + 1), ("a late number behind a fill that ends too far", "longint = e / 0; fill long[4194303]; e:", most + 4),
+            ("bits that end too far by one", "fill byte[16777212]; bitstring[1] = e; e:", most + 1), ("a size that ends too far",
+                "a: longint = 16777212; string[$$Long(a)] = \"\"; e:", most + 4),
+            ("a size that ends far too far", "a: longint = 2147483647; string[$$Long(a)] = \"\"; e:",
+                2147483647 + 4), ("a bad format before a size that ends too far",
+                'a: longint = 2147483647; string[$$Long(a)] = $$Format("%d"); e:', None)]:
+        LATE.told(name, "type 'Test' { %s };\nresource 'Test' (1) { };\n" % body, 2,
+            "301 ResourceTooLong: %d" % kept if kept else "222 BadFormat")
+    LATE.told("a size out of range with a late number out of range behind it",
+        "type 'Test' { a: byte = 0; cstring[$$Byte(a)] = \"\"; byte = e * 999; e: };\nresource 'Test' (1) { };\n", 2,
+        "207 OutOfRange: 0")
+
+def main():
+    for section in (reading, lateness, late_rows, refusals):
+        section()
+    done = LATE.finish()
+    sys.exit(0 if done and not WRONG else 1)
+
+
+if __name__ == "__main__":
+    main()

@@ -1,0 +1,61 @@
+"""The cases of a book that are runs of lists.py: list_cases.py and fork_cases.py write them.
+
+Each line of `err` is written by hand where a case stands, and must be what the run comes to.
+"""
+import top  # noqa: F401
+from model.lists import DeRez, Folder, Rez, Source, ends, text_of
+
+
+def resource(kind, ident, name="", attr=0, content=b""):
+    return kind.encode("mac_roman"), ident, name.encode("mac_roman"), attr, content
+
+
+class Runs:
+    """The cases of a book, each a run of lists.py."""
+
+    def __init__(self, book):
+        self.book = book
+
+    def say(self, *says):
+        self.book.say(*says)
+
+    def add(self, name, words, run, before, after, gone, err, keys, warned=""):
+        """A case of a run, whose line on `err` is as it was written by hand."""
+        status, out, line = ends(run)
+        wanted = "rezkit: %s\n" % err if err else ""
+        assert line == wanted, (name, line, wanted)
+        left = [(file, held) for file, held in after.files.items() if before.get(file) != held]
+        if after.fails:
+            keys = keys + ["fail folder %d" % after.fails] + ["fails never"] * (after.calls < after.fails)
+        self.book.case(name, words, before.items(), keys, status, left, gone, out, warned + line)
+
+    def rez(self, name, words, *items, files=None, more=None, err="", fails=None, moment=0, room="", gone=(), code=None,
+            warned=""):
+        """A case of `rez`: the items of the source s.r, other sources, other files, and the line on `err`."""
+        sources = dict({"s.r": items}, **(more or {}))
+        sources = {file: given for file, given in sources.items() if given is not None}
+        before = {file: coded(text_of(given), code) for file, given in every(sources).items()}
+        before.update(files or {})
+        after = Folder(before, fails)
+        keys = ["moment %d" % moment] * bool(moment) + ["room folder " + room] * bool(room)
+        self.add(name, words, Rez(words.split()[1:], after, sources, moment), before, after, gone, err, keys, warned)
+
+    def derez(self, name, words, files, types=None, form=None, err="", fails=None):
+        """A case of `derez` with type files that declare nothing."""
+        before = {file: text_of(items) for file, items in (types or {}).items()}
+        before.update(files)
+        after = Folder(before, fails)
+        self.add(name, words, DeRez(words.split()[1:], after, types or {}, form), before, after, (), err, [])
+
+
+def every(sources):
+    """The sources of the words and all that they include."""
+    found = {}
+    for file, items in sources.items():
+        found[file] = items
+        found.update(every({what.name: what.items for _, what in items if isinstance(what, Source)}))
+    return found
+
+
+def coded(text, code):
+    return text if text.isascii() else text.encode(code or "mac_roman")

@@ -1,0 +1,375 @@
+#!/usr/bin/env python3
+"""Writes row_labels.cases: labels in rows of arrays, their places by an index, and the numbers of rows.
+
+    python3 tools/cases/row_label_cases.py [--check]
+
+A type stands here as a list of fields, and labels.py writes its text and lays its rows. What label_spelling.py says of
+the bytes must be the same. Where bytes or the line on `err` stand here, they are written by hand, and are compared with
+what labels.py says. With --check nothing is written, and the status is 1 where a file would change.
+"""
+import sys
+
+import top  # noqa: F401
+from label_book import Cases, KINDS, WRONG
+from model.label_types import (Align, Array, Expr, Fill, Format, Label, Switch, at, at_row, bits_at, byte, byte_at,
+                               fact, field_bits, integer, key, longint, num, number, points, row_of, rows_of, text)
+from model.labels import FACTS
+
+ROWS = Cases("row_labels.cases", "row_label_cases.py",
+    "Labels in rows of arrays: their places in each row, by an index from outside, and the numbers of rows.",
+    "row_labels_read.cases")
+
+
+def rows(name, *row):
+    return Array(name, None, list(row))
+
+
+def counted(name, *row, form=byte):
+    """The number of rows, and the rows."""
+    return [form(rows_of(name)), rows(name, *row)]
+
+
+def stated(count, *row):
+    return Array(None, count, list(row))
+
+
+def worked():
+    ROWS.say("By hand.")
+    row = ROWS.row
+    strings = [integer(rows_of("recs")), rows("recs", Label("b"), byte((at("e") - at("b")) / 8), text("string", says="hex "),
+        Label("e"))]
+    row("a length in each row, with its own byte in it", strings, [[[b"\xAA"], [b"\xBB\xCC"]]], "0002 02 AA 03 BBCC")
+    row("a length in each row, and strings without bytes", strings, [[[b""], [b"\xBB"], [b""]]], "0003 01 02 BB 01")
+    row("a length in each row, and no rows", strings, [[]], "0000")
+    tail = [integer(rows_of("rows")), rows("rows", Label("p"), integer(row_of("rows")), text("pstring")),
+        integer(at_row("p", 2) / 8)]
+    row("the number of each row, and behind them the place of the second", tail, [[[b"A"], [b"BC"]]],
+        '0002 0001 01 "A" 0002 02 "BC" 0006')
+    row("the place of the second of three rows", tail, [[[b"A"], [b"BC"], [b""]]],
+        '0003 0001 01 "A" 0002 02 "BC" 0003 00 0006')
+    row("the place of the second row where there is one", tail, [[[b"A"]]], "223 BadIndex: 2")
+    row("the place of the second row where there are none", tail, [[]], "223 BadIndex: 2")
+    head = [integer(at_row("p", 1) / 8), integer(rows_of("rows")), rows("rows", Label("p"), text("pstring"))]
+    row("the place of the first row in front of the rows", head, [[[b"A"]]], '0004 0001 01 "A"')
+    row("the place of the first row in front of no rows", head, [[]], "223 BadIndex: 1")
+    ROWS.told("the number of the row in front of the rows", "type 'Bad ' { integer = $$ArrayIndex(rows); array rows { byte; }; };\n",
+        1, '212 UnknownLabel: "rows"')
+    row("an index that leads to each of three parts",
+        counted("parts", byte(), Label("p"), text("pstring")) + [byte(at_row("p", 1) / 8), byte(at_row("p", 2) / 8),
+            byte(at_row("p", 3) / 8)], [[[1, b"a"], [2, b""], [3, b"bc"]]], '03 01 01 "a" 02 00 03 02 "bc" 02 05 07')
+    row("a table of places behind rows of any width", counted("a", Label("p"), text("pstring")) + counted("t",
+        byte(at_row("p", row_of("t")) / 8), byte()), [[[b"xy"], [b""], [b"z"]], [[7], [8], [9]]],
+        '03 02 "xy" 00 01 "z" 03 01 07 04 08 05 09')
+    row("a table of places in front of rows of any width", counted("t", integer(at_row("p", row_of("t")) / 8), byte())
+        + counted("a", Label("p"), text("pstring")), [[[7], [8]], [[b"xy"], [b""]]],
+        '02 0008 07 000B 08 02 02 "xy" 00')
+    row("a table of lengths in front of strings, by the label behind each", counted("t",
+        byte((at_row("e", row_of("t")) - at_row("s", row_of("t"))) / 8), byte())
+        + [rows("a", Label("s"), text("pstring"), Label("e"))], [[[1], [2]], [[b"xy"], [b"abc"]]],
+        '02 03 01 04 02 02 "xy" 03 "abc"')
+
+
+def positions():
+    ROWS.say("Labels before and behind each kind of field of a row; the places stand behind, and in front.")
+    for name, field, values in KINDS:
+        body = counted("rows", byte(), Label("a"), field, Label("z"), integer(at("z") - at("a")))
+        behind = [longint(at_row(label, which)) for label in ("a", "z") for which in (1, 2)]
+        lines = [[[5] + values, [6] + values]]
+        ROWS.row("labels around %s in a row, named behind" % name, body + [Align("byte")] + behind, lines)
+        ROWS.row("labels around %s in a row, named in front" % name, behind + body, lines)
+    ROWS.say("The same in the row itself, and in rows of rows.")
+    for name, field, values in KINDS:
+        inner = [Label("a"), field, Label("z"), byte((at("z") - at("a")) & 127), byte()]
+        ROWS.row("labels around %s in rows of rows" % name, [stated(2, byte(), stated(1, *inner)), longint(at("e")), Label("e")],
+            [[[1, [values + [2]]], [3, [values + [4]]]]])
+
+
+def indexes():
+    ROWS.say("Indexes: of the first row, of the last, one more, none, and less.")
+    row = ROWS.row
+    for count in range(4):
+        for index in (-2147483648, -2, -1, 0, 1, 2, 3, 4, 255, 2147483647):
+            told = "223 BadIndex: %d" % index
+            if 1 <= index <= count:
+                told = "%02X " % count + "".join("%02X" % (k + 1) for k in range(count)) + " %02X" % (8 * index)
+            row("the index %d of %d rows, behind them" % (index, count), counted("a", Label("p"), byte())
+                + [byte(at_row("p", number(index)))], [[[k + 1] for k in range(count)]], told)
+    for count in range(3):
+        for index in (-1, 0, 1, 2, 3):
+            told = "223 BadIndex: %d" % index
+            if 1 <= index <= count:
+                told = "%02X %02X " % (8 + 8 * index, count) + "".join("%02X" % (k + 1) for k in range(count))
+            row("the index %d of %d rows, in front of them" % (index, count), [byte(at_row("p", number(index)))]
+                + counted("a", Label("p"), byte()), [[[k + 1] for k in range(count)]], told)
+            told = "223 BadIndex: %d" % index
+            if 1 <= index <= count or not count:
+                told = "%02X " % count + " ".join("%02X %02X" % (16 * index - 8, k + 1) for k in range(count))
+            row("the index %d of %d rows, in them" % (index, count), counted("a", Label("p"), byte(at_row("p", number(index))),
+                byte()), [[[k + 1] for k in range(count)]], told)
+    ROWS.say("What gives an index: the rows stand at 16, 24 and 32, the labels at 0, 8 and 40, and the first byte is 1.")
+    p, o, q, z = (lambda index: at_row("p", index)), at("o"), at("q"), at("z")
+    for name, index, told in [
+            ("a sum", number(1) + 1, 24), ("a difference", number(5) - 2, 32), ("a negative difference", number(2) - 5, "-3"),
+            ("the number of rows", rows_of("a"), 32), ("one more than the number of rows", rows_of("a") + 1, "4"),
+            ("one less than the number of rows", rows_of("a") - 1, 24), ("a place in bytes", q / 8, 16), ("a place in bits", q, "8"),
+            ("a difference of labels", (q - o) / 8, 16), ("a difference of labels the other way", (o - q) / 8, "-1"),
+            ("a difference of a label and itself", q - q, "0"), ("a difference of a label and one of a row", (z - p(1)) / 8, 32),
+            ("a difference of labels of two rows", (p(3) - p(1)) / 8, 24), ("a label of a row", p(1) / 8, 24),
+            ("a label of a row that a label of a row names", p(p(1) / 8) / 8, 32), ("a label of a row in bits", p(1), "16"),
+            ("a label of a row that isn't there", p(p(4)), "4"), ("a label of no row", p(p(p(0))), "0"),
+            ("a byte that an item gives", byte_at("o"), 16), ("a byte that is the number of rows", byte_at("q"), 32),
+            ("a bit", bits_at("o", number(7), number(1)), 16), ("a bit that is 0", bits_at("o", number(6), number(1)), "0"),
+            ("true", at("true"), 16), ("false", at("false"), "0"), ("the id", fact("ID"), 16), ("a remainder", number(8) % 3, 24),
+            ("what wraps", number(2147483647) + 1, "-2147483648"), ("a comparison", p(2) > p(1), 16),
+            ("a comparison that fails", p(2) < p(1), "0"), ("a complement", ~number(-3), 24), ("a denial", Expr("!", ("number", 0)), 16),
+            ("both", Expr("&&", ("number", 2), ("number", 3)), 16), ("a shift", number(1) << 1, 24),
+            ("the month", fact("Month"), 16)]:
+        row("the index is %s" % name, given_by(index), [1] + LINES,
+            "01 03 010203 %02X" % told if isinstance(told, int) else "223 BadIndex: " + told, dict(FACTS, Month=1))
+    for name, index, told in [
+            ("a quotient by 0", number(1) / 0, "211 ZeroDivisor"), ("a shift by 32", number(1) << 32, "215 BadShift: 32"),
+            ("a byte behind", byte_at("e"), "213 LaterData: 56"), ("33 bits", bits_at("o", number(0), number(33)),
+            "213 LaterData: 33"), ("no row, and then a quotient by 0", p(p(0) + number(1) / 0), "223 BadIndex: 0"),
+            ("a quotient by 0, and then no row", p(number(1) / 0 + p(0)), "211 ZeroDivisor")]:
+        row("the index is %s" % name, given_by(index), [1] + LINES, told)
+    ROWS.say("An index that stands behind: the number is computed after all others.")
+    row("the index is a label behind", given_by(at("e") / 16 - 1), [1] + LINES, "01 03 010203 18")
+    row("the index is a label behind, and no row", given_by(at("e")), [1] + LINES, "223 BadIndex: 48")
+    row("the index is a late byte", [Label("n"), byte(at("e") / 24)] + counted("a", Label("p"), byte()) + [byte(p(byte_at("n"))),
+        Label("e")], [[[1], [2]]], "01 02 0102 10")
+    row("the index is a late byte, and no row", [Label("n"), byte(at("e") / 8)] + counted("a", Label("p"), byte())
+        + [byte(p(byte_at("n"))), Label("e")], [[[1], [2]]], "223 BadIndex: 5")
+    row("the index is a late byte of a size", [Label("n"), byte(at("e") / 24)] + counted("a", Label("p"), byte())
+        + [text("string", p(byte_at("n"))), Label("e")], [[[1], [2]], b""], "214 SizeLater: 7")
+
+
+LINES = [[[1], [2], [3]]]
+ONE_ROW = Array(None, 1, [Label("p"), byte()])
+
+
+def given_by(index):
+    """A byte, three rows behind their number, a byte by a label of a row, and the end."""
+    return ([Label("o"), byte(), Label("q")] + counted("a", Label("p"), byte()) + [Label("z"), byte(at_row("p", index)),
+        Label("e")])
+
+
+def late():
+    ROWS.say("Early and late: before the array, in it, and behind it.")
+    row = ROWS.row
+    lines = [[[b"a"], [b"bc"]]]
+    strings = rows("a", Label("p"), text("pstring"), Label("q"))
+    two = '01 "a" 02 "bc"'
+    row("a place in front of its array is late", [byte(at_row("p", 2)), strings], lines, "18 " + two)
+    row("a place behind its array isn't late", [strings, Label("n"), byte(at_row("p", 2) / 8), text("string", byte_at("n"))],
+        lines + [b"xyz"], two + ' 02 "xy"')
+    row("a place in front of its array makes a size late", [Label("n"), byte(at_row("p", 1) / 8), text("string", byte_at("n")),
+        strings], [b"x"] + lines, "214 SizeLater: 2")
+    row("a size by a place in a row that stands behind", [byte(), text("string", at_row("p", 1)), strings], [1, b""] + lines,
+        "214 SizeLater: 1")
+    row("a size by a place in a row that stands before", [byte(), strings, text("string", at_row("p", 2) / 8 - at_row("p", 1) / 8)],
+        [1] + lines + [b"xyz"], "01 " + two + ' "xy"')
+    row("a size by a place in a row that isn't there", [strings, text("string", at_row("p", 3))], lines + [b""],
+        "223 BadIndex: 3")
+    row("a size by a place in no row, and too large", [strings, text("pstring", 300 + at_row("p", 0))], lines + [b""],
+        "223 BadIndex: 0")
+    row("a size in a row by a place in its own row", [rows("a", byte(), Label("p"), text("string", at("p") / 8 % 2 + 1))],
+        [[[7, b"xy"], [8, b"xy"]]], '07 "xy" 08 "x"')
+    row("a size in a row by an index of its own array", [rows("a", Label("p"), byte(), text("string", at_row("p", 1)))],
+        [[[7, b"xy"], [8, b"xy"]]], "214 SizeLater: 2")
+    row("a size in a row by an index of its own array, and no rows", [rows("a", Label("p"), byte(),
+        text("string", at_row("p", 1)))], [[]], "")
+    row("a size in a row by the number of the row", [rows("a", byte(), text("string", row_of("a")))],
+        [[[7, b"xyz"], [8, b"xyz"], [9, b"xyz"]]], '07 "x" 08 "xy" 09 "xyz"')
+    row("a size in a row by a label behind the rows", [rows("a", byte(), text("string", at("e"))), Label("e")], [[[1, b""]]],
+        "214 SizeLater: 1")
+    row("a size in a row by a label behind it in the row", [rows("a", byte(), text("string", at("e")), Label("e"))], [[[1, b""]]],
+        "214 SizeLater: 1")
+    row("a late number in each row, of the row's end", [rows("a", byte(at("e")), text("pstring"), Label("e"))], lines,
+        '18 01 "a" 38 02 "bc"')
+    row("a late number in each row, of the row behind", [rows("a", byte(at_row("p", row_of("a") % rows_of("a") + 1)), Label("p"),
+        text("pstring"))], lines, '20 01 "a" 08 02 "bc"')
+    row("the row behind the last one", [rows("a", byte(at_row("p", row_of("a") + 1)), Label("p"), text("pstring"))], lines,
+        "223 BadIndex: 3")
+    row("the row before the first one", [rows("a", byte(at_row("p", row_of("a") - 1)), Label("p"), text("pstring"))], lines,
+        "223 BadIndex: 0")
+    row("a late number reads a late number before it", [rows("a", Label("n"), byte(at("e") / 8), text("pstring"), Label("e"),
+        byte(byte_at("n") + 1))], lines, '03 01 "a" 04 08 02 "bc" 09')
+    row("a size reads a late number of its row", [rows("a", Label("n"), byte(at("e") / 8), text("pstring"), Label("e"),
+        text("string", byte_at("n")))], [[[b"a", b""]]], "214 SizeLater: 4")
+    row("a size reads a late number of the row before", [Label("s"), rows("a", text("string", at("n") / 8 - at("n") / 8), Label("n"),
+        byte())], [[[b"", 1]]], "214 SizeLater: 1")
+    row("an index in a point", [strings, points(at_row("p", 1), at_row("p", 2))], lines, two + " 0000 0010")
+    row("an index in a point, and one that isn't there", [strings, points(at_row("p", 1), at_row("p", 3))], lines,
+        "223 BadIndex: 3")
+    row("indexes in a rectangle in front", [points(at_row("p", 1), at_row("q", 1), at_row("p", 2), at_row("q", 2)), strings], lines,
+        "0040 0050 0050 0068 " + two)
+    row("an index in a format", [strings, text("pstring", None, [Format(b"%d-%d", [at_row("p", 2), at_row("q", 2)])])], lines,
+        two + ' 05 "16-40"')
+    row("an index in a format in front", [text("pstring", None, [Format(b"%d", [at_row("p", 2)])]), strings], lines,
+        "214 SizeLater: 0")
+    row("an index in a format that isn't there", [strings, text("pstring", None, [Format(b"%d", [at_row("p", 9)])])], lines,
+        "223 BadIndex: 9")
+    row("an index in a format in a format", [strings, text("cstring", None, [Format(b"<%s>", [[Format(b"%x", [at_row("q", 2)])]])])],
+        lines, two + ' "<28>" 00')
+    row("the number of the row in a format", [rows("a", byte(), text("pstring", None, [Format(b"#%d", [row_of("a")])]))],
+        [[[7], [8]]], '07 02 "#1" 08 02 "#2"')
+    row("the start of bits by an index", [Label("s"), strings, byte(bits_at("s", at_row("p", 2), number(8)))], lines, two + " 02")
+    row("the width of bits by an index", [Label("s"), strings, byte(bits_at("s", number(0), at_row("p", 2) / 2))], lines, two + " 01")
+    row("the width of bits by an index that isn't there", [Label("s"), strings, byte(bits_at("s", number(99), at_row("p", 3)))],
+        lines, "223 BadIndex: 3")
+    row("bits at a label of the row", [rows("a", Label("p"), byte(), byte(byte_at("p") + 1))], [[[7], [8]]], "0708 0809")
+    row("bits before a label of the row", [byte(), rows("a", Label("p"), byte(), byte(bits_at("p", number(-8), number(8))))],
+        [5, [[7], [8]]], "05 07 05 08 05")
+    ROWS.say("Which fault comes first.")
+    row("a late index, and a fault behind it", [byte(at_row("p", 3)), strings, byte(number(1) / 0)], lines, "211 ZeroDivisor")
+    row("a late index, and a late fault behind it", [byte(at_row("p", 3)), strings, byte(at("e") / 0), Label("e")], lines,
+        "223 BadIndex: 3")
+    row("a late fault, and a late index behind it", [byte(at("e") / 0), strings, byte(at("e") + at_row("p", 3)), Label("e")], lines,
+        "211 ZeroDivisor")
+    row("an index that isn't there before one that is out of range", [strings, byte(at_row("p", 3)), byte(at_row("p", 1) + 999)],
+        lines, "223 BadIndex: 3")
+    row("a place out of range before an index that isn't there", [strings, byte(at_row("p", 1) + 999), byte(at_row("p", 3))],
+        lines, "207 OutOfRange: 999")
+    row("an index before a shift", [strings, byte(at_row("p", 3) << 32)], lines, "223 BadIndex: 3")
+    row("a shift before an index", [strings, byte((number(1) << 32) + at_row("p", 3))], lines, "215 BadShift: 32")
+    row("an index before a late one", [strings, byte(at_row("p", 3) + at("e")), Label("e"), byte(number(1) / 0)], lines,
+        "211 ZeroDivisor")
+    row("the index of a size before what it is too large for", [strings, text("pstring", at_row("p", -1))], lines + [b""],
+        "223 BadIndex: -1")
+    row("a negative size by rows", [strings, text("string", at_row("p", 1) - at_row("p", 2))], lines + [b""],
+        "207 OutOfRange: -16")
+    row("a size by rows that is too large", [strings, text("pstring", at_row("p", 2) * 16)], lines + [b""], "207 OutOfRange: 256")
+    row("a late number out of range in a row", [rows("a", num("bitstring[4]", at("e")), text("pstring"), Label("e"), Align("byte"))],
+        lines, "207 OutOfRange: 20")
+    row("pieces are counted over rows, with their labels", [strings, text("string", at("e")), Label("e")], lines + [b""],
+        "214 SizeLater: 6")
+    row("pieces are counted over rows, and over points in them", [rows("a", Label("p"), points(count=4), Align("long"), Fill("bit", 8)),
+        text("string", at("e")), Label("e")], [[[(1, 2, 3, 4)], [(5, 6, 7, 8)]], b""], "214 SizeLater: 14")
+
+
+def numbers_of_rows():
+    ROWS.say("The number of the row, of each array around.")
+    row = ROWS.row
+    row("the number of each row", [rows("a", byte(row_of("a")), byte())], [[[7], [8], [9]]], "0107 0208 0309")
+    row("the number of each row in a bit", [rows("a", field_bits(1, row_of("a")), field_bits(7))], [[[7]]], "87")
+    row("the number of each row out of range", [rows("a", field_bits(1, row_of("a")), field_bits(7))], [[[7], [8]]],
+        "207 OutOfRange: 2")
+    row("the number of no row", [rows("a", byte(row_of("a")), byte())], [[]], "")
+    row("the number of each row and of the rows", counted("a", byte(rows_of("a") - row_of("a")), byte()), [[[7], [8], [9]]],
+        "03 0207 0108 0009")
+    row("the number of each row in a case", [rows("a", Switch([("A", [key("byte", 1), byte(row_of("a"))]),
+        ("B", [key("byte", 2), integer(row_of("a"))])]))], [[[("A", [])], [("B", [])], [("A", [])]]], "0101 02 0002 0103")
+    row("the number of each row in cases of a case", [rows("a", Switch([("A", [key("byte", 1), Switch([("B", [key("byte", 2),
+        byte(row_of("a"))])])])]))], [[[("A", [("B", [])])], [("A", [("B", [])])]]], "010201 010202")
+    row("the number of the row around a row", [rows("a", stated(2, byte(row_of("a")), byte()))], [[[[[7], [8]]], [[[9], [10]]]]],
+        "0107 0108 0209 020A")
+    row("the numbers of both rows", [rows("a", rows("b", byte(row_of("a")), byte(row_of("b")), byte()))],
+        [[[[[7], [8]]], [[[9]]], [[]]]], "010107 010208 020109")
+    row("the number of the row by an index", [stated(3, Label("p"), byte()), rows("a", byte(at_row("p", row_of("a"))), byte())],
+        [[[1], [2], [3]], [[7], [8]]], "010203 0007 0808")
+    row("the number of the row by an index that isn't there", [stated(1, Label("p"), byte()), rows("a",
+        byte(at_row("p", row_of("a"))), byte())], [[[1]], [[7], [8]]], "223 BadIndex: 2")
+    row("the number of a row in a row behind it", [rows("a", byte(row_of("a")), byte()), rows("b", byte(row_of("b")), byte())],
+        [[[7], [8]], [[9]]], "0107 0208 0109")
+    row("the number of the row in other letters", [rows("Rows", byte(row_of("rOWS")), byte())], [[[7], [8]]], "0107 0208")
+    row("the number of the row of an array named true", [rows("true", byte(row_of("TRUE")), byte())], [[[7]]], "0107")
+    row("the number of the row over 255", [rows("a", integer(row_of("a")), field_bits(1), Fill("bit", 7))],
+        [[[k % 2] for k in range(300)]])
+    for depth in range(1, 9):
+        inner, lines = [byte(sum((row_of("a%d" % k) * 3 ** k for k in range(1, depth)), row_of("a0"))), byte()], [5]
+        for k in reversed(range(depth)):
+            inner, lines = [rows("a%d" % k, *inner)], [[lines, lines] if k < 3 else [lines]]
+        row("the numbers of all rows %d deep" % depth, inner, lines)
+    inner, lines = [byte(row_of("a0") * 16 + row_of("a57")), byte()], [5]
+    for k in reversed(range(58)):
+        inner, lines = [rows("a%d" % k, Label("w%d" % k), *inner, byte(at_row("w%d" % (k + 1), 1) & 255))] if k < 57 else [rows("a57",
+            Label("w57"), *inner)], [[lines, lines] if k in (0, 57) else [lines]]
+    row("numbers of rows and labels 58 deep", inner, lines, "1105 1205" + " 00" * 57 + " 2105 2205" + " E8" * 57)
+    for depth in range(1, 9):
+        inner, values = [Label("p"), byte(row_of("a")), byte()], [9]
+        for k in range(depth):
+            inner, values = [Switch([("C", [key("byte", 1), Label("q%d" % k)] + inner)])], [("C", values)]
+        row("the number of the row %d cases deep" % depth, [rows("a", *inner)], [[values, values]])
+
+
+def bodies():
+    ROWS.say("Rows of rows: labels of both, named in the row, from the row around, and from outside.")
+    row = ROWS.row
+    inner = rows("in", Label("w"), byte())
+    nested = rows("out", Label("v"), inner, byte(at_row("w", 1)), byte(at("v")))
+    row("a label of the inner rows, in each outer one", [nested], [[[[[7], [8]]], [[[9]]]]], "0708 00 00 09 20 20")
+    row("a label of the inner rows, and an outer row without", [nested], [[[[[7]]], [[]]]], "223 BadIndex: 1")
+    row("the last of the inner rows, in each outer one", [rows("out", inner, byte(at_row("w", rows_of("in"))))],
+        [[[[[7], [8]]], [[[9]]]]], "0708 08 09 18")
+    row("a label of the inner rows, in front in each outer one", [rows("out", byte(at_row("w", 2)), inner)],
+        [[[[[7], [8]]], [[[9], [10]]]]], "10 0708 28 090A")
+    row("a label of the outer rows, in the inner ones", [rows("out", Label("v"), rows("in", byte(at("v")), byte()))],
+        [[[[[7], [8]]], [[[9]]]]], "0007 0008 2009")
+    row("a label of the outer rows by an index, in the inner ones", [rows("out", Label("v"), rows("in", byte(at_row("v", 2)), byte()))],
+        [[[[[7], [8]]], [[[9]]]]], "2007 2008 2009")
+    row("a label of the other outer row by an index", [rows("out", Label("v"), byte(at_row("v", 3 - row_of("out"))), byte())],
+        [[[7], [8]]], "1007 0008")
+    row("a label of the inner rows by an index, in them", [rows("out", rows("in", Label("w"), byte(at_row("w", rows_of("in"))), byte()))],
+        [[[[[7], [8]]], [[[9]]]]], "1007 1008 2009")
+    row("labels of both rows and of the fields around", [Label("a"), byte(),
+        rows("out", Label("v"), rows("in", Label("w"), byte(at("a") + at("v") + at("w") + at("e")), byte()), byte()), Label("e")],
+        [1, [[[[7]], 8], [[[9]], 10]]], "01 48 07 08 78 09 0A")
+    row("labels of two arrays side by side", [rows("a", Label("p"), byte()), rows("b", Label("q"), byte()),
+        byte(at_row("p", 2)), byte(at_row("q", 1))], [[[1], [2]], [[3]]], "0102 03 08 10")
+    row("labels of arrays in two cases of a switch", [Switch([("A", [key("byte", 1), rows("a", Label("p"), byte()),
+        byte(at_row("p", 1))]), ("B", [key("byte", 2), rows("b", Label("q"), byte()), byte(at_row("q", 2))])]), byte()],
+        [("B", [[[7], [8]]]), 9], "02 0708 10 09")
+    row("an array in a case in rows, and its label in the case", [rows("o", Switch([("A", [key("byte", 1), ONE_ROW,
+        byte(at_row("p", 1))]), ("B", [key("byte", 2)])]))], [[[("A", [[[7]]])], [("B", [])], [("A", [[[8]]])]]],
+        "01 07 08 02 01 08 28")
+    row("labels of a case in a row", [rows("o", Switch([("A", [key("byte", 1), Label("l"), byte(), byte(at("l"))]),
+        ("B", [Label("m"), key("byte", 2), byte(at("m"))])]))], [[[("A", [7])], [("B", [])], [("A", [8])]]],
+        "01 07 08 02 18 01 08 30")
+    row("labels before a key in rows", [rows("o", Switch([("A", [byte(), Label("k"), key("byte", 1), byte(byte_at("k"))]),
+        ("B", [byte(), key("byte", 2), byte(at("z")), Label("z")])]))], [[[("A", [7])], [("B", [8])]]], "07 01 01 08 02 30")
+    row("a label of the row in a case of it", [rows("o", Label("r"), Switch([("A", [key("byte", 1), byte(at("r")), byte()])]))],
+        [[[("A", [7])], [("A", [8])]]], "01 00 07 01 18 08")
+    row("labels of rows in rows of a stated number", [stated(2, Label("v"), stated(2, Label("w"), byte()), byte(at_row("w", 2))),
+        byte(at_row("v", 2))], [[[[[1], [2]]], [[[3], [4]]]]], "0102 08 0304 20 18")
+    row("no rows, and no index asked", [rows("a", Label("p"), byte()), byte()], [[], 7], "07")
+    row("a label of rows without a name", [Array(None, None, [Label("p"), byte()]), byte(at_row("p", 2))], [[[7], [8]]], "0708 08")
+    row("several labels of one place in a row", [rows("a", Label("p"), Label("q"), byte(), Label("r"), Label("s")),
+        byte(at_row("p", 2)), byte(at_row("q", 2)), byte(at_row("r", 1)), byte(at_row("s", 1))], [[[7], [8]]], "0708 08080808")
+    for count in (1, 2, 7, 8, 9, 100):
+        row("places of bits, %d rows" % count, [rows("a", Label("p"), field_bits(3)), longint(at_row("p", number(count)))],
+            [[[k % 8] for k in range(count)]])
+    for depth in range(1, 9):
+        inner, values = [Label("w0"), byte()], [9]
+        for k in range(1, depth):
+            inner, values = [Label("w%d" % k), rows("a%d" % k, *inner), byte(at_row("w%d" % (k - 1), 1))], [[values, values]]
+        row("labels of rows %d deep" % depth, [rows("a", *inner), byte(at_row("w%d" % (depth - 1), 2) & 127)], [[values, values]])
+    ROWS.say("Names in any case of letters.")
+    for written, asked in [("start", "START"), ("Start", "sTART"), ("START", "start"), ("_", "_"), ("z9", "Z9")]:
+        row("the label %s of rows by the name %s" % (written, asked), [rows("a", Label(written), byte(), byte(at(asked))),
+            byte(at_row(asked, 2))], [[[7], [8]]], "0700 0810 10")
+    ROWS.say("A label and an array of one name, and arrays of one name in two types.")
+    row("a label in rows of its own name", [rows("a", Label("a"), byte(row_of("a")), byte(at("a")), byte()), byte(at_row("a", 2))],
+        [[[7], [8]]], "010007 021808 18")
+    ROWS.told("arrays of one name in two types", "type 'Last' { array a { w: byte; }; byte = w[1]; };\n"
+        "type 'Test' { byte; array A { W: byte; byte = $$ArrayIndex(a); }; byte = w[1]; };\n"
+        "resource 'Test' (1) { 1, { 7, 8 } };\nresource 'Test' (2) { 2, { 9 } };\n", "01 0701 0802 08", "02 0901 08")
+    ROWS.told("an index that isn't there in the second resource", "type 'Test' { array { w: byte; }; byte = w[2]; };\n"
+        "resource 'Test' (1) { { 7, 8 } };\nresource 'Test' (2) { { 9 } };\n", 3, "223 BadIndex: 2")
+    ROWS.told("an index over lines, with comments and a macro", "#define First 1\ntype 'Test' { array { w: byte; };\n"
+        "  byte = w // the place\n  [ /* of */ First\n  ]; };\nresource 'Test' (1) { { 7 } };\n", "07 00")
+    ROWS.told("functions of rows in capital letters", "TYPE 'Test' { ARRAY A { W: BYTE = $$ARRAYINDEX(a); BYTE; }; BYTE = w[$$countof(A)]; };\n"
+        "RESOURCE 'Test' (1) { { 7, 8 } };\n", "0107 0208 10")
+    ROWS.told("a copy of a type with rows", "type 'Last' { array r { w: byte; byte = $$ArrayIndex(r); }; byte = w[1] + w[2]; };\n"
+        "type 'Test' as 'Last';\nresource 'Test' (1) { { 7, 8 } };\n", "0701 0802 10")
+    ROWS.told("a type with an index for an id", "type 'Test' { byte; };\ntype 'Test' (2) { array { w: byte; }; byte = w[1]; };\n"
+        "resource 'Test' (1) { 3 };\nresource 'Test' (2) { { 7 } };\n", "03", "07 00")
+
+
+def main():
+    for section in (worked, positions, indexes, late, numbers_of_rows, bodies):
+        section()
+    sys.exit(0 if ROWS.finish() and not WRONG else 1)
+
+
+if __name__ == "__main__":
+    main()

@@ -1,0 +1,493 @@
+#!/usr/bin/env python3
+"""Writes solved.cases: what `derez` shows of types in which a number tells the place of a label behind it.
+
+    python3 tools/cases/solved_cases.py [--check]
+
+Each type stands here as a list of fields, and each resource as its bytes or as the values of a row. Behind the name
+stands by hand which of them `derez` shows by a `resource` statement, `r`, and which as bytes, `d`; label_reading.py and
+shown.py have to say the same. With --check nothing is written, and the status is 1 where a file would change.
+"""
+import sys
+
+import top  # noqa: F401
+from label_book import Shown, WRONG
+from model.label_types import (Align, Array, Expr, Fill, Label, Switch, at, bits_at, byte, byte_at, fact, field_bits,
+                               integer, key, longint, num, number, points, rows_of, text, word_at)
+
+SOLVED = Shown("solved.cases", "solved_cases.py", "What derez shows where a number tells the place of a label behind it.")
+FAR, FROM = at("e"), at("s")
+LENGTH = (FAR - FROM) / 8
+
+
+def string(*fields, form="hex "):
+    """A string between the labels s and e, with fields behind it."""
+    return [Label("s"), text("string", says=form), Label("e")] + list(fields)
+
+
+def worked():
+    SOLVED.say("By hand.")
+    case = SOLVED.case
+    case("a number behind a string that is its own place", [text("cstring"), Label("e"), integer(FAR)], "rddd", '"gorf" 00 0028',
+        '"gorf" 00 0030', '"gorf" 0028', '"gorf" 00 0028 00', kind="gorf", first=128,
+        out='resource \'gorf\' (128) {\n    "gorf"\n};\n\ndata \'gorf\' (129) {\n    $"676F 7266 0000 30"\n};\n\n'
+        'data \'gorf\' (130) {\n    $"676F 7266 0028"\n};\n\ndata \'gorf\' (131) {\n    $"676F 7266 0000 2800"\n};\n\n')
+    case("the length of a string in front of it", [integer(LENGTH)] + string(integer()), "rdddr", "0002 0102 0005", "0003 0102 0005",
+        "0001 0102 0005", "0002 0102 00", "0000 0005", kind="Ends", first=128,
+        out='resource \'Ends\' (128) {\n    $"0102",\n    5\n};\n\ndata \'Ends\' (129) {\n    $"0003 0102 0005"\n};\n\n'
+        'data \'Ends\' (130) {\n    $"0001 0102 0005"\n};\n\ndata \'Ends\' (131) {\n    $"0002 0102 00"\n};\n\n'
+        'resource \'Ends\' (132) {\n    $"",\n    5\n};\n\n')
+    case("the length of the second of two strings", [integer(LENGTH), text("pstring"), Label("s"), text("pstring"), Label("e")],
+        "d", '0003 01 "A" 02 "BC"', kind="two ", first=128,
+        out='data \'two \' (128) {\n    $"0003 0141 0242 43"\n};\n\n')
+    case("a size that is read from a number that an item gives", [Label("n"), integer(), Label("s"), text("string", word_at("n"))],
+        "rdr", '0003 "abc"', '0003 "ab"', '0003 "ab" 00', kind="Size", first=128,
+        out='resource \'Size\' (128) {\n    3,\n    "abc"\n};\n\ndata \'Size\' (129) {\n    $"0003 6162"\n};\n\n'
+        'resource \'Size\' (130) {\n    3,\n    "ab"\n};\n\n')
+    case("a size that is read from a late number", [Label("n"), integer(LENGTH), Label("s"), text("string", word_at("n")), Label("e")],
+        "dd", '0002 "ab"', "0000", kind="Loop", first=128,
+        out='data \'Loop\' (128) {\n    $"0002 6162"\n};\n\ndata \'Loop\' (129) {\n    $"0000"\n};\n\n')
+    case("a number that reads bits behind itself", [Label("a"), integer(word_at("b")), Label("b"), integer()], "dd", "0005 0005",
+        "0000 0000", kind="Late", first=128)
+    case("the length of an array in front of it", [integer(LENGTH), Label("s"), Array(None, None, [byte()]), Label("e"), byte(7)],
+        "rddr", "0003 010002 07", "0003 010002 08", "0002 010002 07", "0000 07", kind="Kids", first=128,
+        out="resource 'Kids' (128) {\n    {\n        1,\n        0,\n        2\n    }\n};\n\ndata 'Kids' (129) {\n    "
+        "$\"0003 0100 0208\"\n};\n\ndata 'Kids' (130) {\n    $\"0002 0100 0207\"\n};\n\nresource 'Kids' (131) {\n    {\n    }\n};\n\n")
+
+
+def lengths(name, expr, marks, before=(), items=(), form="integer", more=(), **also):
+    """A number by an expression in front of a string, with the string of 0 bytes, of 1 byte and so on, and other contents."""
+    body = list(before) + [num(form, expr)] + string(byte())
+    rows = [list(items) + [b"abcdefghi"[:k], 7] for k in range(len(marks) - len(more))]
+    SOLVED.case(name, body, marks, *(rows + list(more)), **also)
+
+
+def operators():
+    SOLVED.say("The operators over the length of a string, which has 0 bytes, 1 byte and so on, and numbers beside them.")
+    for name, expr, marks in [
+            ("alone", LENGTH, "rrrrr"),
+            ("and 3", LENGTH + 3, "rrrrr"),
+            ("and -1", LENGTH + number(-1), "drrrr"),
+            ("and 65533", LENGTH + 65533, "rrrdd"),
+            ("3 and", 3 + LENGTH, "rrrrr"),
+            ("-2 and", number(-2) + LENGTH, "ddrrr"),
+            ("and 0", LENGTH + 0, "rrrrr"),
+            ("less 0", LENGTH - 0, "rrrrr"),
+            ("less 2", LENGTH - 2, "ddrrr"),
+            ("less -2", LENGTH - number(-2), "rrrrr"),
+            ("less 5", LENGTH - 5, "ddddd"),
+            ("3 less", 3 - LENGTH, "rrrrd"),
+            ("0 less", 0 - LENGTH, "rdddd"),
+            ("-1 less", number(-1) - LENGTH, "ddddd"),
+            ("less", -LENGTH, "rdddd"),
+            ("less less", --LENGTH, "rrrrr"),
+            ("less the difference the other way", -((FROM - FAR) / 8), "rrrrr"),
+            ("times 1", LENGTH * 1, "rrrrr"),
+            ("times 3", LENGTH * 3, "rrrrr"),
+            ("3 times", 3 * LENGTH, "rrrrr"),
+            ("times 0", LENGTH * 0, "ddddd"),
+            ("0 times", 0 * LENGTH, "ddddd"),
+            ("times -1", LENGTH * number(-1), "rdddd"),
+            ("times 20000", LENGTH * 20000, "rrrrd"),
+            ("times -1 times -1", LENGTH * number(-1) * number(-1), "rrrrr"),
+            ("by 1", LENGTH / 1, "rrrrr"),
+            ("by 2", LENGTH / 2, "rdrdrdr"),
+            ("by 3", LENGTH / 3, "rddrddr"),
+            ("by -1", LENGTH / number(-1), "rdddd"),
+            ("by 0", LENGTH / 0, "ddddd"),
+            ("by 100", LENGTH / 100, "rdddd"),
+            ("by -1 by -1", LENGTH / number(-1) / number(-1), "rrrrr"),
+            ("times 6 by 2", LENGTH * 6 / 2, "rrrrr"),
+            ("times 3 by 2", LENGTH * 3 / 2, "rdrdr"),
+            ("by 2 times 2", LENGTH / 2 * 2, "rdrdr"),
+            ("to the left by 0", LENGTH << 0, "rrrrr"),
+            ("to the left by 3", LENGTH << 3, "rrrrr"),
+            ("to the left by 14", LENGTH << 14, "rrrrd"),
+            ("to the left by 31", LENGTH << 31, "rdddd"),
+            ("to the left by 32", LENGTH << 32, "ddddd"),
+            ("to the left by -1", LENGTH << number(-1), "ddddd"),
+            ("to the right by 0", LENGTH >> 0, "rrrrr"),
+            ("to the right by 1", LENGTH >> 1, "rdrdr"),
+            ("to the right by 2", LENGTH >> 2, "rdddr"),
+            ("to the right by 31", LENGTH >> 31, "rdddd"),
+            ("to the right by 32", LENGTH >> 32, "ddddd"),
+            ("to the right by -1", LENGTH >> number(-1), "ddddd"),
+            ("to the left by 2 to the right by 1", LENGTH << 2 >> 1, "rrrrr"),
+            ("to the right by 1 to the left by 1", LENGTH >> 1 << 1, "rdrdr"),
+            ("and 1 by 2", (LENGTH + 1) / 2, "drdrd"),
+            ("and 1, less 2, times 3", (LENGTH + 1 - 2) * 3, "drrrr"),
+            ("in bits", FAR - FROM, "rrrrr"),
+            ("in nibbles", (FAR - FROM) / 4, "rrrrr"),
+            ("in bits by 5", (FAR - FROM) / 5, "rddddr"),
+            ("in bits to the right by 3", (FAR - FROM) >> 3, "rrrrr"),
+            ("in bits to the right by 4", (FAR - FROM) >> 4, "rdrdr"),
+            ("in words", (FAR - FROM) / 16, "rdrdr"),
+            ("over quotients", FAR / 8 - FROM / 8, "rrrrr"),
+            ("by the place alone", FAR, "rrrrr"),
+            ("by the place in bytes", FAR / 8, "rrrrr"),
+            ("by the place in bytes less 2", FAR / 8 - 2, "rrrrr"),
+            ("by 72 less the place", 72 - FAR, "rrrrr"),
+            ("by 24 less the place", 24 - FAR, "rrddd"),
+            ("by the place times 9", FAR * 9, "rrrrr"),
+            ("by the place to the left by 11", FAR << 11, "rrddd"),
+    ]:
+        lengths("the length %s" % name, expr, marks)
+
+
+def unsolvable():
+    SOLVED.say("What can't be undone, so that the type can't be read.")
+    for name, expr in [
+            ("a remainder", LENGTH % 100),
+            ("a remainder of it", 100 % LENGTH),
+            ("bits that both have", LENGTH & 255),
+            ("bits that one has", LENGTH | 0),
+            ("bits that one alone has", LENGTH ^ 0),
+            ("its complement", ~~LENGTH),
+            ("a comparison", LENGTH < 9),
+            ("another comparison", LENGTH >= 0),
+            ("an equality", Expr("==", LENGTH.tree, ("number", 2))),
+            ("an inequality", Expr("!=", LENGTH.tree, ("number", 2))),
+            ("a denial", Expr("!", LENGTH.tree)),
+            ("a conjunction", Expr("&&", LENGTH.tree, ("number", 1))),
+            ("a disjunction", Expr("||", ("number", 0), LENGTH.tree)),
+            ("a quotient by it", 100 / FAR),
+            ("a shift to the left by it", 1 << LENGTH),
+            ("a shift to the right by it", 100 >> LENGTH),
+            ("the label twice", (FAR + FAR - FROM - FROM) / 16),
+            ("the label twice, once times 0", LENGTH + FAR * 0),
+            ("the label in a start of bits", bits_at("n", FAR - FROM - 8, number(8))),
+            ("the label in a width of bits", bits_at("n", number(0), FAR - FROM)),
+            ("bits at the label", byte_at("e")),
+            ("a complement below", (~FAR - ~FROM) / -8),
+            ("a remainder below", (FAR % 4096 - FROM) / 8),
+    ]:
+        lengths("a length under %s can't be solved" % name, expr, "dddd", [Label("n"), byte()], [1], "byte")
+    SOLVED.say("More than one name that isn't known, or one that isn't of the same fields.")
+    for name, body, *contents in [
+            ("two labels behind a string", [byte((FAR - FROM) / 8), text("pstring")] + string(), '02 00 "ab"', "00 00"),
+            ("two labels behind two strings",
+             [byte(at("e") - at("f")), text("pstring"), Label("f"), text("pstring"), Label("e")], "08 00 00"),
+            ("a label and a number of rows", [byte(rows_of("a") + LENGTH)] + string(byte()) + [Array("a", None, [byte()])],
+             '01 05'),
+            ("a number of rows over labels, of which one isn't known",
+             [byte(rows_of("a") + at("e") - at("s")), Label("s"), Array("a", None, [byte()]), Label("e"), byte()], "00 05"),
+            ("a label of fields around",
+             [byte(), Switch([("A", [key("byte", 1), byte(at("e") / 8), text("pstring")])]), Label("e")], "00 01 04 00"),
+            ("a label of fields around in rows", [Array(None, 1, [byte(at("e") / 8), text("pstring")]), Label("e")], "02 00"),
+            ("rows of fields around in rows", [Array("a", 1, [byte()])._replace(count=None, row=[byte(rows_of("a")), byte()])],
+             "01 05"),
+            ("rows of fields around in a case",
+             [Switch([("A", [key("byte", 1), byte(rows_of("a"))])]), Array("a", None, [byte()])], "01 01 05"),
+            ("a number of a point with two labels",
+             [points(at("e") - at("f"), 0), text("pstring"), Label("f"), text("pstring"), Label("e")], "0008 0000 00 00"),
+            ("a label in front of its case's end and one around",
+             [Switch([("A", [key("byte", 1), byte(at("i") - at("o")), text("pstring"), Label("i")])]), text("pstring"),
+                 Label("o")], "01 00 00 00"),
+            ("a label solved only behind the string",
+             [text("cstring"), Switch([("A", [key("byte", 1)] + string() + [byte(LENGTH)])])], '00 01 "ab" 02'),
+    ]:
+        SOLVED.case("can't be read: " + name, body, "d" * len(contents), *contents)
+
+
+def sides():
+    SOLVED.say("What stands beside a length: all that is known, with the value 2.")
+    two = [("a number", number(2), [], []), ("a place before", at("p") / 8, [byte(), integer()], [1, 2]),
+        ("a place right before", at("p"), [field_bits(2), Label("p"), field_bits(6)], [1, 2]),
+        ("a near place behind", at("f") - at("s") + 2, [], []),
+        ("bits of a number before", byte_at("p"), [Label("p"), byte()], [2]),
+        ("a bit of a number before", bits_at("p", number(6), number(1)) + 1, [Label("p"), byte()], [2]),
+        ("the id", fact("ID"), [], []), ("the month of a year", fact("Month") + 1, [], []),
+        ("a constant with all that can't be undone", (number(7) % 5 | 2) & ~number(1) ^ number(0), [], []),
+        ("rows that were counted", rows_of("a"), [Array("a", 2, [byte()])._replace(count=None)], [[[1], [2]]])]
+    for said, side, before, items in two:
+        before = [byte(rows_of("a"))] + before if items == [[[1], [2]]] else before
+        if said == "a place before":
+            before = [byte(), Label("q"), byte(), Label("p")]
+        for name, expr, marks in [
+                ("and", LENGTH + side, "rrrr"),
+                ("behind", side + LENGTH, "rrrr"),
+                ("less", LENGTH - side, "ddrr"),
+                ("from", side - LENGTH, "rrrd"),
+                ("times", LENGTH * side, "rrrr"),
+                ("of", side * LENGTH, "rrrr"),
+                ("by", LENGTH / side, "rdrd"),
+                ("to the left by", LENGTH << side, "rrrr"),
+                ("to the right by", LENGTH >> side, "rddd"),
+        ]:
+            body = list(before) + [integer(expr), Label("s"), Label("f"), text("string"), Label("e"), byte()]
+            rows = [list(items) + [b"abcdefghi"[:k], 7] for k in range(4)]
+            SOLVED.case("a length %s %s" % (name, said), body, marks, *rows, first=2) if said != "the id" else SOLVED.case(
+                "a length %s %s" % (name, said), body, marks[2], rows[2], first=2)
+    SOLVED.say("What stands beside a length and has no value.")
+    for name, side in [
+            ("a zero divisor", number(1) / 0),
+            ("a bad shift", number(1) << 40),
+            ("bits before the resource", bits_at("n", number(-9), number(8))),
+            ("bits of itself", bits_at("n", number(8), number(8))),
+            ("a part of itself", bits_at("n", number(1), number(8))),
+            ("a width of 33 bits", bits_at("n", number(0), number(33))),
+            ("a width of no bits", bits_at("n", number(0), number(0))),
+    ]:
+        lengths("a length and %s" % name, LENGTH + side, "ddd", [Label("n"), byte()], [0], "byte")
+        lengths("a length times 0 and %s" % name, (LENGTH + 0 * side) * 1, "ddd", [Label("n"), byte()], [0], "byte")
+
+
+def widths():
+    SOLVED.say("Numbers of each type, and lengths at the ends of what they hold.")
+    for form, most in [("boolean", 1), ("bitstring[1]", 1), ("bitstring[2]", 3), ("bitstring[3]", 7), ("bitstring[6]", 63),
+                       ("byte", 255)]:
+        body = [num(form, LENGTH), Align("byte")] + string(byte())
+        SOLVED.case("lengths in a %s" % form, body, "rrrd",
+            *[[b"\xEE" * value, 1] for value in [0, most // 2 + 1, most, most + 1]])
+        body = [num(form, LENGTH - 1), Align("byte")] + string(byte())
+        SOLVED.case("lengths less 1 in a %s" % form, body, "drrd",
+            *[[b"\xEE" * value, 1] for value in [0, 1, most + 1, most + 2]])
+    for form in ["char", "integer", "longint"] + ["bitstring[%d]" % width for width in (7, 8, 9, 15, 16, 17, 31, 32)]:
+        body = [num(form, LENGTH), Align("byte")] + string(byte())
+        SOLVED.case("lengths in a %s" % form, body, "rrr", *[[b"\xEE" * value, 1] for value in (0, 1, 34)])
+        body = [num(form, LENGTH - 1), Align("byte")] + string(byte())
+        SOLVED.case("lengths less 1 in a %s" % form, body, "drr", *[[b"\xEE" * value, 1] for value in (0, 1, 34)])
+    lengths("a number with a sign over half of its range", LENGTH + 126, "rrrr", form="byte")
+    lengths("a number without a sign in a char", LENGTH + 253, "rrrd", form="char")
+    lengths("a number in hexadecimal", LENGTH, "rrr", form="integer")
+    SOLVED.say("Numbers over 31 and over 63 bits.")
+    for name, expr, marks in [
+            ("a product over 31 bits", (FAR - FROM) * 75000000, "rrrrrrrr"),
+            ("a product over 32 bits", (FAR - FROM) * 150000000, "rrrrdddd"),
+            ("a product over 31 bits, halved", (FAR - FROM) * 75000000 / 2, "rrrrdddd"),
+            ("a shift over 31 bits", (FAR - FROM) << 27, "rrrrdddd"),
+            ("a shift over 31 bits and back", (FAR - FROM) << 26 >> 26, "rrrrdddd"),
+            ("a difference over 31 bits", FAR - FROM + 2147483640, "rrrrrrrr"),
+            ("a sum below -31 bits", FAR - FROM - 2147483647, "dddddddd"),
+            ("a negative product", (FROM - FAR) * 3, "rddddddd"),
+            ("a product of 62 bits undone", LENGTH / 65536 / 65536, "rddddddd"),
+            ("a product of 93 bits undone", LENGTH / 2147483647 / 2147483647 / 2147483647, "rddddddd"),
+            ("a shift of 93 bits undone", LENGTH >> 31 >> 31 >> 31, "rddddddd"),
+            ("a shift of 62 bits to the left undone", LENGTH << 31 << 31, "rddddddd"),
+            ("a product of 0 in the end", LENGTH * 65536 * 65536, "rddddddd"),
+    ]:
+        lengths(name, expr, marks, form="longint")
+    for name, expr, *contents in [
+            ("a solution of -2^63", -(FAR / 2147483647 * number(-1) / number(-2147483647) / 2) - 1, "FFFFFFFF 01",
+             "00000000 01", "7FFFFFFF 01", "80000000 01"),
+            ("a solution over 2^63", (FAR >> 31) / 2147483647, "FFFFFFFF 01", "00000002 01", "00000003 01", "80000000 01"),
+            ("a solution of 2^63 on the way down again", (((FAR << 31) << 31) >> 31) >> 31, "FFFFFFFF 01", "00000028 01",
+             "00000000 01"),
+            ("a difference beyond 2^63 on the way", ((FAR >> 31) - 2147483647) >> 31, "FFFFFFFF 01", "00000001 01",
+             "80000001 01"),
+    ]:
+        SOLVED.case(name, [longint(expr)] + string(byte()), "d" * len(contents), *contents)
+
+
+def places():
+    SOLVED.say("A solved place is where the label stands, between its number and the end of the resource.")
+    case = SOLVED.case
+    body = [byte(FAR / 8), text("pstring"), Label("e"), byte()]
+    case("a place that nothing ends at", body, "rddddd", '05 03 "abc" 07', '04 03 "abc" 07', '06 03 "abc" 07', '05 03 "abc"',
+        '00 03 "abc" 07', 'FF 03 "abc" 07')
+    case("a place of which nothing is read", [byte(FAR / 8), text("cstring"), Label("e")], "rdd", '05 "abc" 00', '04 "abc" 00',
+        '01 "abc" 00')
+    body = [byte(FAR)] + string(byte())
+    case("a place in bits", body, "rrddddddd", "08 07", "10 01 07", "09 01 07", "0F 01 07", "11 01 07", "07 01 07", "00 01 07",
+        "18 01 07", "20 01 07")
+    body = [byte(FAR)] + string()
+    case("a place in bits up to the end", body, "rrdddd", "08", "10 01", "11 01", "18 01", "10", "10 01 00")
+    body = [byte(FAR / 8), text("pstring")] + string(byte())
+    case("a place inside of what stands between", body, "rdddd", '04 01 "a" "b" 07', '03 02 "a" "b" 07', '01 01 "a" "b" 07',
+        '00 01 "a" "b" 07', '05 01 "a" "b" 07')
+    case("a place behind an align", [byte(FAR / 8), text("pstring"), Align("long"), Label("e"), byte()], "rrddd",
+        '04 01 "a" 00 07', '08 04 "abcd" 0000 07', '03 01 "a" 00 07', '04 01 "a" 01 07', '04 02 "ab" 07 07')
+    case("a place behind a fill", [byte(FAR / 8), text("pstring"), Fill("byte", 2), Label("e"), byte()], "rdd",
+        '05 01 "a" 0000 07', '03 01 "a" 0000 07', '05 01 "a" 0001 07')
+    case("a place within the last byte", [field_bits(5, FAR - 8), text("pstring", 1),
+            Array("a", 1, [field_bits(3)])._replace(name=None), text("pstring"), field_bits(2), Label("e")], None,
+        [b"x", [[5]], b"y", 2])
+    case("a place at the end of the resource", [byte(FAR / 8), text("cstring"), Label("e")], "rdd", "02 00", "03 00",
+        "02 00 00")
+    case("two labels at one place of which one is solved",
+        [byte(FAR / 8), text("cstring"), Label("e"), Label("f"), byte(at("f"))], "rd", "02 00 10", "02 00 18")
+    case("a label and its solution in other letters", [byte(at("END") / 8), text("cstring"), Label("end"), byte(at("End"))],
+        "rd", "02 00 10", "02 00 18")
+    case("the first of several lengths is of the next string", [byte((at("b") - at("a")) / 8), byte((at("c") - at("b")) / 8),
+            Label("a"), text("string"), Label("b"), text("string"), Label("c"), byte()], None, "01 02 61 6263 07")
+    case("lengths one after the other", [byte((at("b") - at("a")) / 8), Label("a"), text("string"), Label("b"),
+            byte((at("d") - at("c")) / 8), Label("c"), text("string"), Label("d"), byte()], "rrddd", "01 61 02 6263 07",
+        "00 00 07", "01 61 01 6263 07", "02 61 02 6263 07", "01 61 02 6263")
+    case("a length behind a solved place",
+        [byte((at("b") - at("a")) / 8), Label("a"), text("string"), Label("b"), byte((at("b") - at("a")) / 8), byte()], "rd",
+        "01 61 01 07", "01 61 02 07")
+    for between, field in [
+            ("a string", text("pstring")),
+            ("a fixed string", text("pstring", None, b"xy")),
+            ("an array", Array("r", None, [byte()])),
+            ("a switch", Switch([("A", [key("byte", 1)]), ("B", [key("byte", 2), byte()])])),
+            ("a string with a size", text("string", byte_at("n"))),
+    ]:
+        body = [Label("n"), byte(2)] + [byte(rows_of("r"))] * (between == "an array") + [integer(FAR), field, Label("e"),
+            byte()]
+        items = {"a string": [b"ab"], "an array": [[[3], [4]]], "a switch": [("B", [9])],
+            "a string with a size": [b"ab"]}.get(between, [])
+        SOLVED.case("a place behind %s" % between, body, "r", items + [7])
+
+
+def together():
+    SOLVED.say("Several numbers that name one label: the first one solves it, and the others have to be right.")
+    case = SOLVED.case
+    both = [byte(LENGTH), byte(LENGTH)]
+    case("two equal lengths", both + string(byte()), "rdddr", '02 02 "ab" 07', '02 01 "ab" 07', '01 02 "ab" 07',
+        '03 03 "ab" 07', "00 00 07")
+    case("a length and a place", [byte(LENGTH), byte(FAR)] + string(byte()), "rddd", '02 20 "ab" 07', '02 1F "ab" 07',
+        '01 20 "ab" 07', '02 10 "ab" 07')
+    case("a place in words, and then a length", [byte(FAR / 16), byte(LENGTH)] + string(byte()), "rdrd", '02 02 "ab" 07',
+        '01 01 "a" 07', "01 00 07", '02 03 "abc" 07')
+    case("a length, and then a place in words", [byte(LENGTH), byte(FAR / 16)] + string(byte()), "rrrrd", '02 02 "ab" 07',
+        '01 01 "a" 07', "00 01 07", '03 02 "abc" 07', '03 03 "abc" 07')
+    case("a length, and then what can't be undone", [byte(LENGTH), byte(FAR & 15), byte(FAR % 10)] + string(byte()), "rrdd",
+        "00 08 04 07", '01 00 02 "a" 07', '01 00 03 "a" 07', '01 01 02 "a" 07')
+    case("what can't be undone, and then a length", [byte(FAR & 15), byte(LENGTH)] + string(byte()), "d", '00 02 "ab" 07')
+    case("a length, and then one that wraps", [byte(LENGTH), longint(FAR << 28)] + string(byte()), "rd", '02 80000000 "ab" 07',
+        '02 00000000 "ab" 07')
+    case("a length, and then one out of range", [byte(LENGTH), field_bits(8, FAR * 16)] + string(byte()), "d", '02 00 "ab" 07')
+    case("a length, and then one times 0", [byte(LENGTH), byte(FAR * 0)] + string(byte()), "rd", '02 00 "ab" 07',
+        '02 01 "ab" 07')
+    case("a length, and then with the label twice", [byte(LENGTH), byte((FAR + FAR) / 16)] + string(byte()), "rd",
+        '02 04 "ab" 07', '02 05 "ab" 07')
+    case("a length in front and one behind", [byte(LENGTH)] + string(byte(LENGTH)), "rdd", '02 "ab" 02', '02 "ab" 01',
+        '02 "ab" 00')
+    case("a place and half of it for the next label",
+        [byte(at("b") / 8), byte(at("c") - at("b")), text("string"), Label("b"), text("string"), Label("c"), byte()], "rdd",
+        '04 10 "ab" "cd" 07', '04 0F "ab" "cd" 07', '03 10 "ab" "cd" 07')
+    case("a length of the whole by the length of a part",
+        [byte(at("c") / 8 - at("b") / 8), byte(at("b") / 8), text("string"), Label("b"), text("string"), Label("c")], "d",
+        '02 04 "ab" "cd"')
+    case("three lengths of which each rests on the last", [byte(at("a")), byte(at("b") - at("a")), byte(at("c") - at("b")),
+            text("string"), Label("a"), text("string"), Label("b"), text("string"), Label("c")], "rdd", '20 10 00 "a" "bc"',
+        '20 10 00 "a" "b"', '20 0F 01 "a" "bc"')
+    SOLVED.say("Points and rectangles: two or four numbers, one after the other.")
+    case("a point that solves and names", [points(FAR - FROM, FAR)] + string(byte()), "rdd", '0010 0030 "ab" 07',
+        '0010 0031 "ab" 07', '0011 0030 "ab" 07')
+    case("a point that names and solves", [points(7, FAR - FROM)] + string(byte()), "rd", '0007 0010 "ab" 07',
+        '0008 0010 "ab" 07')
+    case("a point that solves two labels",
+        [points(at("b"), at("d")), text("string"), Label("b"), byte(1), text("string"), Label("d")], "rd",
+        '0028 0038 "a" 01 "b"', '0028 0030 "a" 01 "b"')
+    case("a point whose second number can't be undone before the first one", [points(FAR & 255, FAR)] + string(byte()), "d",
+        '0030 0030 "ab" 07')
+    case("a point whose second number can't be undone", [points(FAR, FAR & 255)] + string(byte()), "rd", '0030 0030 "ab" 07',
+        '0030 0031 "ab" 07')
+    case("a rectangle that solves, and names three times", [points(LENGTH, FAR, FAR / 8, FROM)] + string(byte()), "rdd",
+        '0002 0050 000A 0040 "ab" 07', '0002 0050 000A 0041 "ab" 07', '0001 0050 000A 0040 "ab" 07')
+    case("a rectangle that solves four labels", [points(at("a"), at("b") - at("a"), at("c") - at("b"), at("d") - at("c")),
+            text("string"), Label("a"), text("string"), Label("b"), text("string"), Label("c"), text("string"), Label("d")],
+        "rrd", '0048 0000 0010 0000 "a" "bc"', '0040 0000 0000 0000', '0041 0000 0000 0000')
+    case("a point that reads its first number", [Label("p"), points(LENGTH, word_at("p") + FAR)] + string(byte()), "rd",
+        '0002 0032 "ab" 07', '0002 0033 "ab" 07')
+
+
+def counts():
+    SOLVED.say("Numbers of rows and places.")
+    case = SOLVED.case
+    rows = Array("a", None, [byte()])
+    case("a number of rows over a near place", [byte(rows_of("a") + at("s")), Label("s"), rows, byte()], "rrdd", "08 07",
+        "0A 01 02 07", "07 07", "0A 01 07")
+    case("a number of rows times a place",
+        [Label("p"), byte(7), Label("q"), byte(rows_of("a") * (at("q") - at("p")) / 4), rows], "rrddd", "07 00", "07 02 05",
+        "07 01", "07 01 05", "07 02 05 06")
+    case("a number of rows by bits", [Label("n"), byte(), byte(rows_of("a") - byte_at("n")), rows], "rrdr", "02 00 05 06",
+        "02 FF 05", "02 01 05 06", "02 FE")
+    case("a place less a number of rows that is known",
+        [byte(rows_of("a")), rows, byte(LENGTH - rows_of("a"))] + string(byte()), "rdrd", '02 05 06 01 "abc" 07',
+        '02 05 06 02 "abc" 07', '01 05 00 "a" 07', '01 05 FF 07')
+    case("a place by a number of rows that was solved",
+        [byte(rows_of("a")), byte(FAR / 8 - rows_of("a") * 2), Array("a", None, [byte()]), Label("e"), text("string")], "rrd",
+        "02 00 05 06 07", "00 02 07", "02 01 05 06 07")
+    case("a number of rows and a place, each of its own",
+        [byte(rows_of("a")), byte((FAR - FROM) / 16), Label("s"), Array("a", None, [integer()]), Label("e"), byte()], "rrddd",
+        "02 02 0001 0002 07", "00 00 07", "02 01 0001 0002 07", "01 02 0001 0002 07", "01 02 0001 07")
+    case("a number of rows by the place of their end",
+        [byte(FAR / 8), Array("a", None, [byte()]), Label("e"), byte(rows_of("a"))], "rdd", "03 05 06 02", "03 05 06 03",
+        "02 05 06 02")
+    case("a number of rows that the place gives and the rows don't", [byte(rows_of("a")), byte(FAR - FROM), Label("s"),
+            Array("a", None, [field_bits(4)]), Label("e"), Align("byte"), byte()], "rrddr", "02 08 12 07", "01 04 10 07",
+        "02 04 12 07", "01 08 10 07", "03 0C 1230 07")
+    case("a number of rows less than none over a place", [byte(rows_of("a") + at("s") + 1), Label("s"), rows], "drr", "08",
+        "09", "0A 05")
+    case("rows by a place in a bitstring",
+        [field_bits(4, rows_of("a") + at("s")), Label("s"), Array("a", None, [field_bits(4)])], "rrrd", "40", "51", "61 00",
+        "51 00")
+
+
+def bodies():
+    SOLVED.say("Solved labels of the fields around, in rows and in cases.")
+    case = SOLVED.case
+    names = [byte(), byte(FAR)]
+    case("a solved place in rows before it", [byte(FAR / 8), Array("a", None, names), Label("e"), byte()], "rrdd", "01 07",
+        "03 05 18 07", "03 05 19 07", "05 05 28 06 29 07")
+    case("a solved place in the rows that it ends", [byte(FAR / 8), Array("a", None, names), Label("e")], "rrdd",
+        "05 05 28 06 28", "01", "05 05 28 06 29", "04 05 20 06")
+    case("a near place isn't known in rows of rows",
+        [byte(FAR / 8), Array(None, 2, [Array(None, 1, names)]), Label("e"), byte()], "d", "05 05 28 06 28 07")
+    case("a solved place in rows of rows",
+        [byte(FAR / 8), text("cstring"), Array(None, 2, [Array(None, 1, names)]), Label("e"), byte()], "rdd",
+        "06 00 05 30 06 30 07", "06 00 05 30 06 31 07", "05 00 05 28 06 28 07")
+    case("a solved place that can't be undone in rows",
+        [byte(FAR / 8), Array("a", None, [byte(FAR % 16), byte()]), Label("e"), byte()], "rd", "03 08 05 07", "03 09 05 07")
+    case("a near place isn't known in rows", [byte(FAR), Array(None, 1, names), Label("e")], "d", "18 05 18")
+    case("a place over a switch is solved, and known in its case",
+        [byte(FAR), Switch([("A", [key("byte", 1), byte(FAR)])]), Label("e")], "rdd", "18 01 18", "18 01 10", "10 01 18")
+    case("a place behind the rows isn't known in them", [Array(None, 1, names), Label("e")], "d", "05 10")
+    case("a place before the rows is known in them", [Label("e"), Array(None, None, names)], "rrd", "", "05 00 06 00",
+        "05 00 06 08")
+    case("a solved place in a case",
+        [byte(FAR / 8), Switch([("A", [key("byte", 1), byte(FAR)]), ("B", [key("byte", 2)])]), Label("e"), byte()], "rrdd",
+        "03 01 18 07", "02 02 07", "03 01 10 07", "03 02 07")
+    case("a solved place in a case of a case",
+        [byte(FAR / 8), Switch([("A", [key("byte", 1), Switch([("B", [key("byte", 2), byte(FAR)])])])]), Label("e")], "rd",
+        "04 01 02 20", "04 01 02 21")
+    case("a solved place doesn't end a string of a case",
+        [byte(FAR / 8), Switch([("A", [key("byte", 1), text("string")])]), Label("e")], "d", '03 01 "a"')
+    case("a solved place of the fields around doesn't end rows of a case",
+        [byte(FAR / 8), Switch([("A", [key("byte", 1), Array(None, None, [byte()])])]), Label("e")], "d", '03 01 "a"')
+    case("a solved place doesn't end a string of a row", [byte(FAR / 8), Array(None, 1, [text("string")]), Label("e")], "d",
+        '02 "a"')
+    SOLVED.say("Labels of a case.")
+    length = (at("y") - at("x")) / 8
+    inner = [Label("x"), text("string"), Label("y")]
+    case("a length in a case", [Switch([("A", [key("byte", 1), byte(length)] + inner), ("B", [key("byte", 2)])]), byte()],
+        "rrdd", '01 02 "ab" 07', "02 07", '01 02 "ab"', '01 03 "ab" 07')
+    case("a length in a case before its key",
+        [Switch([("A", [byte(length), key("byte", 1)] + inner), ("B", [byte(5), key("byte", 2)])]), byte()], "rrdd",
+        '02 01 "ab" 07', "05 02 07", "06 02 07", '03 01 "ab" 07')
+    case("a length in each of two cases",
+        [
+            Switch([("A", [key("byte", 1), byte((at("b") - at("a")) / 8), Label("a"), text("string"), Label("b")]),
+                    ("B", [key("byte", 2), byte((at("d") - at("c"))), Label("c"), text("string"), Label("d")])]), byte()],
+        "rrdd", '01 02 "ab" 07', '02 10 "ab" 07', '01 10 "ab" 07', '02 02 "ab" 07')
+    case("a length in a case and one around it",
+        [byte(FAR / 8), Switch([("A", [key("byte", 1), byte(length)] + inner)]), Label("e"), byte()], "rddd",
+        '05 01 02 "ab" 07', '04 01 02 "ab" 07', '05 01 01 "ab" 07', '06 01 03 "ab" 07')
+    case("a length in a case by a solved place around it",
+        [byte(FAR / 8), Switch([("A", [key("byte", 1), byte(FAR / 8 - at("y") / 8)] + inner)]), Label("e"), byte()], "rdd",
+        '05 01 00 "ab" 07', '05 01 01 "ab" 07', '04 01 00 "ab" 07')
+    case("a place in a case over a case",
+        [Switch([("A", [key("byte", 1), byte(at("y") / 8), Switch([("B", [key("byte", 2)])])] + inner)]), byte()], "rd",
+        '01 04 02 "a" 07', '01 05 02 "a" 07')
+    case("a length in a case over a case",
+        [Switch([("A", [key("byte", 1), byte(length), Switch([("B", [key("byte", 2)])])] + inner)]), byte()], "d",
+        '01 01 02 "a" 07')
+    case("a length in rows of a case",
+        [Switch([("A", [key("byte", 1), byte(length), Label("x"), Array(None, None, [byte(), byte(at("y"))]), Label("y")])]),
+            byte()], "rrdd", "01 02 05 20 07", "01 00 07", "01 02 05 21 07", "01 01 05 07")
+    case("a number of rows in rows, by places around them",
+        [Label("p"), byte(), Label("q"), Array(None, 2, [byte(rows_of("a") + at("q") - at("p")), Array("a", None, [byte()])])],
+        "rrdd", "07 09 05 08", "07 08 0A 05 06", "07 07 08", "07 08 09")
+
+
+def main():
+    for section in (worked, operators, unsolvable, sides, widths, places, together, counts, bodies):
+        section()
+    done = SOLVED.book.finish()
+    sys.exit(0 if done and not WRONG else 1)
+
+
+if __name__ == "__main__":
+    main()

@@ -1,0 +1,86 @@
+#!/usr/bin/env python3
+"""Looks that tools/check/links.py finds links that are wrong, and no others.
+
+    python3 tools/check/wrong_links.py
+
+It makes a small repository with documents whose links are right, and adds one line after the other that is wrong. What
+links.py prints of each stands here by hand. What comes otherwise is printed, and the status is 1.
+"""
+import os
+import subprocess
+import sys
+import tempfile
+
+SCRIPT = os.path.join(os.path.dirname(os.path.abspath(__file__)), "links.py")
+RIGHT = """# One page
+
+The [other page](docs/ARCHITECTURE.md#a-heading), [this one](#one-page), [the web](https://example.org/none), a crate
+[`rz_one`](crates/rz_one/src/lib.rt), `rz_one`, a call [`made`](crates/rz_one/src/lib.rt), a method
+[`Kind::of`](crates/rz_one/src/lib.rt), a definition [`Made`](crates/rz_one/specs/Made.antt) in a file that has its name,
+others [`is_made`](crates/rz_one/specs/Made.antt), [`Part`](crates/rz_one/specs/Made.antt) and a field
+[`front`](crates/rz_one/specs/Made.antt), and a script [`main`](tools/one.py).
+"""
+FILES = {
+    "crates.txt": "# The crates.\nrz_one:\n",
+    "README.md": RIGHT,
+    "docs/ARCHITECTURE.md": "# A page\n\n## A heading\n\n| `rz_one` | the one crate |\n",
+    "docs/CALLS.md": "[none](none.md)\n",
+    "crates/rz_one/src/lib.rt": "use other::cited;\n\npub struct Kind;\n\nimpl Kind {\n    pub fn of() -> Kind {\n        cited()\n    }\n}\n\n"
+                                "pub fn made() -> Kind {\n    Kind::of()\n}\n",
+    "crates/rz_one/specs/Made.antt": "use Rattle.rz_other.specs.Cited.{Cited}\n\nabbrev pub is_made : Bool → Type 0\nis_made made = Cited made\n\n"
+                                     "mutual\n  pub record Part : Type 0 where\n    pub front : Bool\n",
+    "tools/one.py": "import cited\n\n\ndef main():\n    cited.run()\n",
+}
+# Lines that are wrong, and what is printed of them.
+WRONG = [
+    ("[none](docs/NONE.md)", "no docs/NONE.md"),
+    ("[none](docs/ARCHITECTURE.md#none)", "no heading for docs/ARCHITECTURE.md#none"),
+    ("[none](#a-heading)", "no heading for #a-heading"),
+    ("`rz_two`", "rz_two is no crate"),
+    # Names that stand in the file, and aren't defined there.
+    ("[`cited`](crates/rz_one/src/lib.rt)", "cited isn't defined in crates/rz_one/src/lib.rt"),
+    ("[`Cited`](crates/rz_one/specs/Made.antt)", "Cited isn't defined in crates/rz_one/specs/Made.antt"),
+    ("[`cited`](tools/one.py)", "cited isn't defined in tools/one.py"),
+    ("[`Other::of`](crates/rz_one/src/lib.rt)", "Other::of isn't defined in crates/rz_one/src/lib.rt"),
+    ("[`Kind::cited`](crates/rz_one/src/lib.rt)", "Kind::cited isn't defined in crates/rz_one/src/lib.rt"),
+    # A name that is a part of one that is defined, and one that is nowhere.
+    ("[`mad`](crates/rz_one/src/lib.rt)", "mad isn't defined in crates/rz_one/src/lib.rt"),
+    ("[`None`](crates/rz_one/specs/Made.antt)", "None isn't defined in crates/rz_one/specs/Made.antt"),
+]
+
+
+def write(folder, name, text):
+    path = os.path.join(folder, name)
+    os.makedirs(os.path.dirname(path), exist_ok=True)
+    with open(path, "w", encoding="utf-8") as file:
+        file.write(text)
+
+
+def told(folder):
+    """What links.py prints of a repository, and its status."""
+    ran = subprocess.run([sys.executable, SCRIPT, folder], stdin=subprocess.DEVNULL, stdout=subprocess.PIPE, stderr=subprocess.STDOUT)
+    return ran.stdout.decode("utf-8", "replace"), ran.returncode
+
+
+def main():
+    count, differ = 0, 0
+    with tempfile.TemporaryDirectory(prefix="rezkit-links-") as folder:
+        for name, text in FILES.items():
+            write(folder, name, text)
+        looks = [("README.md", RIGHT, "", 0)] + [
+            ("README.md", "%s\n%s\n" % (RIGHT, line), "README.md: %s\n" % fault, 1) for line, fault in WRONG] + [
+            ("crates.txt", "rz_one:\nrz_two: rz_one\n", "docs/ARCHITECTURE.md: no row of rz_two\n", 1)]
+        for name, text, says, status in looks:
+            write(folder, name, text)
+            wanted, came = ("%s2 documents, %d faults\n" % (says, status), status), told(folder)
+            write(folder, name, FILES[name])
+            count += 1
+            if came != wanted:
+                differ += 1
+                print("%s\n  wanted %r\n  came %r" % (text.splitlines()[-1], wanted, came))
+    print("%d looks, %d differences" % (count, differ))
+    return 1 if differ else 0
+
+
+if __name__ == "__main__":
+    sys.exit(main())

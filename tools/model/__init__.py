@@ -1,0 +1,7 @@
+"""Second readings of docs/LANGUAGE.md and docs/FORMATS.md: they tell what comes, and know nothing of the code.
+
+Forks and the forms of files (`fork`, `fork_shapes`, `forms`, `breaks`, `listing`), lists of resources (`lists`), type
+files, fields and rows (`type_files`, `label_*`, `labels`, `shown`), templates (`templates`), catalogues
+(`catalogues`), and the table of faults (`faults`). `case_lines` and `case_reader` write and read the format of case
+files.
+"""
