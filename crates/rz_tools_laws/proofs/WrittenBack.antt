@@ -8,6 +8,7 @@ use Rattle.rz_bridge_files.specs.Contents.{fork_in}
 use Rattle.rz_bridge_files.specs.Names.{raw}
 use Rattle.rz_bridge_files.specs.Written.{written_as}
 use Rattle.rz_bridge_form.specs.declared.form.Form.{Form}
+use Rattle.rz_bridge_form.specs.declared.form.Form.TheVariants.{Raw}
 use Rattle.rz_fork.specs.Contents.{Fork}
 use Rattle.rz_fork.specs.Image.{fork_of}
 use Rattle.rz_pre.specs.declared.condition.Tool.TheVariants as tools
