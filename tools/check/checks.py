@@ -4,7 +4,8 @@
     python3 tools/check/checks.py
 
 The files of cases that a script writes are what it would write now, and a second reading shows what they show; the
-documents name what is there, and wrong links are found; the laws of docs/PROOFS.md are those of the sources;
+documents name what is there, and wrong links are found; the laws of docs/PROOFS.md are those of the sources; what each public call promises can be
+written;
 docs/MESSAGES.md has each message; the help text describes each option; the edits of wrong-bodies/ and must-fail/
 apply, and tools/check/wrong_bodies.py finds those that don't. With the program that ./rezkit runs: ./test finds
 programs that are wrong; ./rezkit tells why it runs no program; tools/install installs it; the commands that

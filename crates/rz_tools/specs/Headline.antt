@@ -59,8 +59,8 @@ pub record IsInverse (run : Run) (files : Files) : Type 0 where
   pub restring : (asked : RestringAsked) → IsRestring run.words asked → LeavesOthers run.moment asked files run.after.files
 
 -- The headline. Where the folder tells its files, the run is exact for them. Where it tells none, as the host's, words
--- that need no file are answered as they are over whatever files. Nothing that failed is tried again: after Done the
--- output counts as many faults as before.
+-- that need no file are answered as they are over whatever files. After Done no put and no flush of the output had
+-- failed: it counts as many faults as before.
 pub record Headline (run : Run) : Type 0 where
   pub whole : IsWhole run
   pub exact : IfSome run.before.files (IsExact run)
