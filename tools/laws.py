@@ -48,7 +48,8 @@ def missing_in(row):
 
 def written(text):
     """The page with the comments of today, and the names of laws that no crate has."""
-    lines, missing, laws, inside, section = [], [], {}, False, ""
+    lines, laws, inside, section = [], {}, False, ""
+    missing = [head for head in (*SECTIONS, TABLE) if head not in text.split("\n")]
     for line in text.split("\n"):
         if line.startswith("## "):
             section, inside = line, line in SECTIONS
@@ -72,7 +73,7 @@ def main(words):
     before = calls.text_of(PAGE)
     after, missing = written(before)
     for name in missing:
-        print("%s: no law %s of the crates named before it" % (PAGE, name))
+        print("%s: %s isn't there, or is no law of the crates named before it" % (PAGE, name))
     if words:
         if after != before:
             print("%s has other texts than the comments of its laws: run python3 tools/laws.py" % PAGE)

@@ -1,7 +1,7 @@
 #!/usr/bin/env python3
-"""Counts what a `?` or a struct would say shorter, in the sources of all crates or of those named:
+"""Counts errors that are handed on by hand, and functions of many parameters, in the sources of all crates or of those named.
 
-handed_on.py [-v] [CRATE..]
+    python3 tools/check/handed_on.py [-v] [CRATE..]
 
 An arm hands an error on that gives the error which it matched, under the same name, and does nothing else:
 `Err(stop) => Err(stop),`, also with `return` or in a block. An arm that drops a value first is another.

@@ -40,7 +40,7 @@ def parts(data, least):
 
 
 def pieces(data):
-    """Bytes in pieces of a comment of fork.py: equal ones from eight on shortly."""
+    """Bytes in pieces of a comment of fork_bytes.py: equal ones from eight on shortly."""
     return " ".join("%02X*%d" % (part[0], len(part)) if run else part.hex().upper() for part, run in parts(data, 8))
 
 
@@ -68,7 +68,7 @@ def source_lines(data):
 
 
 def resource_line(resource):
-    """What a comment says of a resource, or None where it has a type or a name that no comment of fork.py spells."""
+    """What a comment says of a resource, or None where it has a type or a name that no comment of fork_bytes.py spells."""
     kind, ident, name, attr, content = resource
     if not re.fullmatch(rb"[ -~]{4}", kind) or not re.fullmatch(rb"[ !#-~]*", name):
         return None
@@ -77,7 +77,7 @@ def resource_line(resource):
 
 
 def fork_lines(data):
-    """The lines of a fork of this layout with the comments that fork.py reads, or None."""
+    """The lines of a fork of this layout with the comments that fork_bytes.py reads, or None."""
     try:
         resources, attributes, reserved = admitted(data)
         same = bool(data) and image(resources, attributes, reserved) == data

@@ -1,6 +1,6 @@
 //! The program `rezkit`: it runs the command of the host's arguments over the host's files, streams and clock, and
 //! gives the exit status. It is proved to be safe and to return, and it is one call of `begin` of `rz_tools`, whose
-//! contract says what it does. It rests on `rz_core`, `rz_folder`, `rz_tools` and `rz_tools_host`. Its stored run is
+//! contract says what it does over a host, a folder and streams that tell what they hold. It rests on `rz_core`, `rz_folder`, `rz_tools` and `rz_tools_host`. Its stored run is
 //! `sample 2`, by the words in `args`, and compares the four numbers with the file `stdout`, which change if forks or
 //! the text of `derez` do.
 #![tactic(auto)]

@@ -216,8 +216,7 @@ fn rows_for(
     requires { AreNamesApart (plain_body fields.now) }
     ensures { Gives (rows_matched (row_matched facts.now (plain_body fields.now) place (plain_items items.now)) (length items.now) 0 (plain_items items.now)) result }
 {
-    // So many rows if each takes its own items.
-    let mut rows = RowList::with_capacity(alloc, items.len() / values_of(fields).max(1))?;
+    let mut rows = RowList::with_capacity(alloc, rows_among(fields, items))?;
     let mut before = 0;
     for _turn in 0..items.len() {
         if before >= items.len() {
@@ -233,6 +232,16 @@ fn rows_for(
         }
     }
     Ok(rows)
+}
+
+/// How many rows the items are if each row takes items of its own, for the memory that rows take. Where there are none the
+/// fields aren't looked through.
+fn rows_among(fields: &[Field], items: &[Item]) -> usize {
+    if items.is_empty() {
+        0
+    } else {
+        items.len() / values_of(fields).max(1)
+    }
 }
 
 /// The case and its row that an item gives to a switch.

@@ -29,15 +29,16 @@ pub record Run : Type 0 where
 abbrev pub IsHindered : Run → Type 0
 IsHindered run = ReadFailed run.before run.after ⊎ WriteFailed run.before run.after
 
--- 1. Nothing is half done: some answer is carried out, and it is the answer to the words where the run ended as one.
+-- 1. However the run ends, some answer is carried out, as far as the outcome says; it is the answer to the words where the
+-- run ended as an answer does.
 abbrev pub IsWhole : Run → Type 0
 IsWhole run =
     (done : Answer) × IsWellFormed done × CarriesOut done run.before run.after run.result
     × (IsAnswered run.result → IfSome run.before.files (λ files. Answers run.words files run.moment done))
 
--- 2. The words have exactly one answer over these files, and however the run ended, it carried that answer out. An outcome of
--- Done, Usage or Refused is the answer's, with all that it writes and says. Where no read and no write failed, the run ended so, or
--- for want of memory.
+-- 2. The words have exactly one answer over these files, and however the run ended, that answer is carried out, as far as
+-- the outcome says. An outcome of Done, Usage or Refused is the answer's, with all that it writes and says. Where no read
+-- and no write failed, the run ended so, or for want of memory.
 pub record IsExact (run : Run) (files : Files) : Type 0 where
   pub answer : Answer
   pub only : IsOnlyAnswer run.words files run.moment answer
@@ -45,20 +46,21 @@ pub record IsExact (run : Run) (files : Files) : Type 0 where
   pub ended : IsUnhindered run.result → EndsWith answer run.before run.after run.result
   pub ends : (IsHindered run → ⊥) → (run.result ≡ NoMemory) ⊎ EndsWith answer run.before run.after run.result
 
--- 3. Usage comes exactly where the words are no command, or memory is refused.
+-- 3. Usage comes only where the words are no command, and there always, but for want of memory.
 pub record IsUsage (run : Run) (position : ℕ) : Type 0 where
   pub only : run.result ≡ Usage (record { position = position }) → IsMisplaced run.words position
   pub always : IsMisplaced run.words position → (run.result ≡ Usage (record { position = position })) ⊎ (run.result ≡ NoMemory)
 
--- 4. What `derez` shows means its resources again to `rez`; what `strings` lists puts them back; `restring` changes texts alone.
+-- 4. What `derez` shows means its resources again to `rez`; what `strings` lists puts them back; `restring` changes texts
+-- alone.
 pub record IsInverse (run : Run) (files : Files) : Type 0 where
   pub derez : (asked : DeRezAsked) → IsDeRez run.words asked → ShowsAgain run.moment asked files run.before.out run.after.out
   pub strings : (asked : StringsAsked) → IsStrings run.words asked → ListsBack run.moment asked files run.before.out run.after.out
   pub restring : (asked : RestringAsked) → IsRestring run.words asked → LeavesOthers run.moment asked files run.after.files
 
 -- The headline. Where the folder tells its files, the run is exact for them. Where it tells none, as the host's, words
--- that need no file are answered as they are over whatever files. Nothing that failed is tried again: after Done the
--- output counts as many faults as before.
+-- that need no file are answered as they are over whatever files. After Done no put and no flush of the output had
+-- failed: it counts as many faults as before.
 pub record Headline (run : Run) : Type 0 where
   pub whole : IsWhole run
   pub exact : IfSome run.before.files (IsExact run)

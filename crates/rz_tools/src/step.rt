@@ -37,7 +37,7 @@ use std::alloc::Global;
 /// again goes to the end of the table, and is warned of unless the setting allows it. The files of statements are
 /// looked for under their names and then after the paths; no file changes. One statement is held at a time. Work and
 /// memory are in proportion to the tokens of `data` statements, and of `resource` statements also to the fields of
-/// their types; a name in an item is looked for among the symbols of its field. Each declaration of a type and each
+/// their types. Each declaration of a type and each
 /// `resource` statement goes once over the declarations of its type, and a type that is declared again over the whole
 /// table; a declaration that copies takes the memory of what it copies. A statement over lists goes a few times over
 /// the resources of its file, and `change` and `delete` a few times over the list.

@@ -6,7 +6,7 @@ ghost use Rattle.rz_tools_host.specs.Hindrance.{line_of, status_of};
 /// Why no run begins.
 #[derive(Clone, Copy)]
 pub enum Hindrance {
-    /// The host gives no arguments, or one that isn't UTF-8.
+    /// An argument isn't UTF-8.
     NoArguments,
     /// `SOURCE_DATE_EPOCH` tells no moment.
     NoMoment,

@@ -22,9 +22,9 @@ pub struct Start {
 }
 
 /// What the host gives to a run: the words after the program's name, and the moment, which is the one that
-/// `SOURCE_DATE_EPOCH` tells, if the environment has it, and else the clock's. NoArguments comes if the host gives no
-/// arguments or one that isn't UTF-8, NoMoment if the value of `SOURCE_DATE_EPOCH` tells no moment, and NoMemory if
-/// there is no memory for what the host gives.
+/// `SOURCE_DATE_EPOCH` tells, if the environment has it, and else the clock's. NoArguments comes if an argument
+/// isn't UTF-8, NoMoment if the value of `SOURCE_DATE_EPOCH` tells no moment, and NoMemory if there is no memory for
+/// what the host gives.
 pub fn given<H: Host>(alloc: Global, host: &H) -> Result<Start, Hindrance>
     ensures begins { IfOk result (λ start. IfSome (H.process host.now) (λ process. BeginsWith process (map string_bytes start.words.items) start.moment)) }
     ensures hindered { IfErr result (λ hindrance. IfSome (H.process host.now) (λ process. Hinders process hindrance)) }

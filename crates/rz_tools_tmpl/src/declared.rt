@@ -28,10 +28,7 @@ pub fn declared_by(alloc: Global, fork: &ForkView<'_>) -> Result<TypeTable, Stop
     let mut types = TypeTable::new(alloc);
     let mut walk = fork.walk();
     while let Some(one) = walk.next() {
-        match declare(alloc, &one, &mut types) {
-            Ok(()) => {}
-            Err(stop) => return Err(stop),
-        }
+        declare(alloc, &one, &mut types)?;
     }
     Ok(types)
 }

@@ -30,7 +30,7 @@ speaks (Hidden own) key = is_same_key (key_of own) key
 speaks (Rows row count places) key = gives_rows (plain_body row.now) key
 speaks (Coming row) key = gives_rows (plain_body row.now) key
 
--- the value that it says: none of the names of a body that was just entered
+-- the value that a note says of a key; a note that a body was entered says none for the names of that body
 abbrev pub said : Note → Key → Option ℤ
 said (Told name rows) key = Some rows
 said (Counted name rows) key = Some rows

@@ -18,7 +18,7 @@ heard told (PlaceTold name at) key = told && speaks (PlaceTold name at) key
 heard told (Numbered name number) key = told && speaks (Numbered name number) key
 heard told note key = speaks note key
 
--- by a note that is heard where told values don't count its key is met, but for the names of a body that was just entered
+-- a key is met by such a note: an array has rows, or a label stands; a name of a body that was entered isn't met
 abbrev pub meets : Note → Bool
 meets (Counted name rows) = true
 meets (Placed name at) = true

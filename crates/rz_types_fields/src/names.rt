@@ -29,7 +29,7 @@ pub struct InRow<'a> {
 /// What is known of the number of rows of an array, of the place of a label, or of the row around.
 #[derive(Drop)]
 pub enum Note<'a> {
-    /// A number told how many rows an array has, or that is stated.
+    /// How many rows an array has, as a number told or as its declaration states.
     Told(&'a Word, i64),
     /// An array has so many rows.
     Counted(&'a Word, i64),
@@ -185,8 +185,9 @@ fn tell_count<'a>(field: &'a Field, notes: &mut Notes<'a>) -> Result<(), NoMemor
     Ok(())
 }
 
-/// Notes that an array has so many rows of these fields, and that the labels directly in them have these places, those of each
-/// row in order, row by row. It is one note where the rows have labels or there are none of them, and else none.
+/// Notes that an array has so many rows of these fields, and that the labels directly in them have these places, those of
+/// each row in order, row by row. It is one note where there are no rows, whose fields aren't looked through then, or where
+/// the rows have labels; else it is none.
 pub fn note_rows<'a>(
     row: &'a [Field],
     count: u64,

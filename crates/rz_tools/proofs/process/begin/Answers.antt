@@ -6,14 +6,14 @@ use Rattle.rz_tools.proofs.process.begin.Goals as goal
 pub run-requires : goal.run-requires
 run-requires g c =
     let start = c.in-Ok.start in
-    let given = lent_words (g.H.Host.process c.args.host.now) start.moment _ _ (ap (map string_bytes) c.as_slice.ensures) c.in-Ok.ensures.begins in
+    let given = lent_words (g.H.Host.process c.args.host.now) start.moment _ _ (ap (map string_bytes) c.as_slice-words.ensures.value) c.in-Ok.ensures.begins in
     λ name asks. c.requires name (asked_by (g.H.Host.process c.args.host.now) (g.F.Folder.files c.args.folder.now) _ start.moment given name asks)
 
 pub returns-in-Ok : goal.returns-in-Ok
 returns-in-Ok g c =
     let start = c.in-Ok.start in
-    let given = lent_words (g.H.Host.process c.args.host.now) start.moment _ _ (ap (map string_bytes) c.as_slice.ensures) c.in-Ok.ensures.begins in
-    runs (map string_bytes c.as_slice.result.now) start.moment c.run.result given c.run.ensures c.status.ensures
+    let given = lent_words (g.H.Host.process c.args.host.now) start.moment _ _ (ap (map string_bytes) c.as_slice-words.ensures.value) c.in-Ok.ensures.begins in
+    runs (map string_bytes c.as_slice-words.result.now) start.moment c.run.result given c.run.ensures c.status.ensures
 
 pub returns-in-Err : goal.returns-in-Err
 returns-in-Err g c =
