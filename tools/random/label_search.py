@@ -261,6 +261,8 @@ def compared(body, data, told):
 
 
 def main():
+    if len(sys.argv) != 3:
+        sys.exit(__doc__)
     random.seed(int(sys.argv[1]))
     count = {"differ": 0, "plain": 0, "not plain": 0, "no row": 0, "unreadable": 0, "readable": 0}
     for _ in range(int(sys.argv[2])):

@@ -255,11 +255,17 @@ def expression_case(k):
     return "case expression %d\nwords rez e.r -o x\nfile text e.r\n%s" % (k, case(text, tree))
 
 
+MAKERS = {"forks": fork_case, "expressions": expression_case}
+
+
 def main():
-    make = {"forks": fork_case, "expressions": expression_case}[sys.argv[1]]
+    if len(sys.argv) != 4 or sys.argv[1] not in MAKERS:
+        sys.exit(__doc__)
+    make = MAKERS[sys.argv[1]]
     random.seed(int(sys.argv[2]))
     for k in range(int(sys.argv[3])):
         sys.stdout.write(make(k) + "\n")
 
 
-main()
+if __name__ == "__main__":
+    main()

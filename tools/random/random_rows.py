@@ -155,6 +155,8 @@ def cases(k):
 
 
 def main():
+    if len(sys.argv) != 3:
+        sys.exit(__doc__)
     random.seed(int(sys.argv[1]))
     for k in range(int(sys.argv[2])):
         cases(k)
