@@ -197,7 +197,7 @@ FORMS = {"byte": 8, "integer": 16, "longint": 32, "boolean": 1, "char": 8}
 
 
 def num(form, fixed=None, **more):
-    """A number: its type, with the width behind it if it is a bitstring, and its expression."""
+    """A number: its type, with the width after it if it is a bitstring, and its expression."""
     width = FORMS.get(form) or int(form[10:-1])
     return Number(form, width, fixed if fixed is None else number(fixed) if isinstance(fixed, int) else fixed, **more)
 

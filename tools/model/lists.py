@@ -388,7 +388,7 @@ class Rez:
         return forms.read_form(forms.form_of(held), held)
 
     def find(self, name):
-        """The file of a name, as it is and then behind each path."""
+        """The file of a name, as it is and then after each path."""
         plain = name.decode("mac_roman")
         for each in [plain] + [path + "/" + plain for path in self.options.paths]:
             held = self.folder.read(each)
