@@ -14,7 +14,8 @@ from model.fork import admitted, image
 from model.forms import File, form_of, read_form, written
 from model.label_reading import read
 from model.labels import bytes_of
-from model.lists import MOMENT, key_text, quoted
+from model.lists import MOMENT, key_text
+from model.quoting import quoted
 from model.shown import all_facts, pieces
 from model.type_files import declarations_of, found, program_of, tokens_of
 
