@@ -7,3 +7,4 @@ pub mod ReadBack
 pub mod Shown
 pub mod Templates
 pub mod PutBack
+pub mod WrittenBack

@@ -6,6 +6,7 @@ use Rattle.std.specs.declared.result.Result.{Result}
 use Rattle.rz_core.specs.declared.fault.Fault.{Fault}
 use Rattle.rz_core.specs.declared.moment.Moment.{Moment}
 use Rattle.rz_core.specs.declared.resource.Resource.{Resource}
+use Rattle.rz_bridge_form.specs.declared.form.Form.TheVariants.{Raw}
 use Rattle.rz_folder.specs.Folder.{Files}
 use Rattle.rz_lex.specs.declared.token.Token.{Token}
 use Rattle.rz_pre.specs.Program.{ProgramGoes, State}
@@ -23,7 +24,7 @@ use Rattle.rz_tools.specs.Types.{TypesAre, TypesAsked}
 use Rattle.rz_tools_answer.specs.Answer.{or_refused, written}
 use Rattle.rz_tools_answer.specs.Warning.{said_beside}
 use Rattle.rz_tools_output.specs.Base.{new_base}
-use Rattle.rz_tools_output.specs.Output.{IsOutput}
+use Rattle.rz_tools_output.specs.Output.{form_asked, IsOutput}
 use Rattle.rz_tools_tmpl.specs.Templates.{TypesOf}
 use Rattle.rz_tools_work.specs.Work.{begun}
 use Rattle.rz_types_table.specs.Table.{Declaration}
@@ -102,3 +103,15 @@ pub record ReadsBehind (shown : DeRezAsked) (asked : RezAsked) (name : List ℕ)
   pub paths : asked.paths ≡ shown.types.paths
   pub defs : asked.defs ≡ shown.types.defs
   pub tmpl : asked.tmpl ≡ shown.types.tmpl
+
+-- A fork that is written back.
+
+-- all resources are shown: the words choose no types, and leave none out
+pub record ShowsAll (shown : DeRezAsked) : Type 0 where
+  pub only : shown.only ≡ []
+  pub skip : shown.skip ≡ []
+
+-- a new file is written raw, and its fork isn't made read only
+pub record WritesRaw (asked : RezAsked) : Type 0 where
+  pub form : form_asked asked.target new_base ≡ Raw
+  pub free : asked.target.read_only ≡ false

@@ -16,10 +16,10 @@ ghost use Rattle.rz_fork.specs.Admit.{admitted};
 ghost use Rattle.rz_fork.specs.Contents.{Fork};
 ghost use Rattle.rz_pre.specs.declared.condition.Tool.TheVariants as tools;
 ghost use Rattle.rz_tools.specs.Again.{AreShort, HoldsFile, MeansAgain};
-ghost use Rattle.rz_tools.specs.Program.{Answers};
-ghost use Rattle.rz_tools_answer.specs.Answer.{Answer};
+ghost use Rattle.rz_tools.specs.Program.{Answers, IsOnlyAnswer};
+ghost use Rattle.rz_tools_answer.specs.Answer.{written, Answer};
 ghost use Rattle.rz_tools_answer.specs.declared.outcome.Outcome.TheVariants.{Done};
-ghost use Rattle.rz_tools_laws.specs.Behind.{with_file, with_warnings, AreTypesAlone, CompilesBehind, IsAnswerBehind, IsKnown, ReadsBehind, TypesStay};
+ghost use Rattle.rz_tools_laws.specs.Behind.{with_file, with_warnings, AreTypesAlone, CompilesBehind, IsAnswerBehind, IsKnown, ReadsBehind, ShowsAll, TypesStay, WritesRaw};
 ghost use Rattle.rz_tools_text.specs.Chosen.{chosen};
 ghost use Rattle.rz_tools_text.specs.Text.{ShowsEach};
 ghost use Rattle.rz_bridge_form.specs.Forms.{form_of, raw_file};
@@ -47,7 +47,7 @@ ghost use Rattle.rz_tools_output.specs.Bridge.{bridge_asked, BridgeAsked, IsBrid
 ghost use Rattle.rz_tools_output.specs.Output.{form_asked, IsOutput, Target};
 ghost use Rattle.rz_catalog_entries.specs.declared.entry.Entry.{Entry};
 ghost use Rattle.rz_catalog_source.specs.Source.{HasEntries};
-ghost use Rattle.rz_fork.specs.Image.{image};
+ghost use Rattle.rz_fork.specs.Image.{fork_of, image};
 ghost use Rattle.rz_tools.specs.Restring.{target_named, IsRestring, RestringAsked};
 ghost use Rattle.rz_tools.specs.Strings.{IsStrings, StringsAsked};
 ghost use Rattle.rz_tools_laws.specs.Texts.{IsAnswerAgain, IsOfSame};
@@ -59,7 +59,7 @@ use rz_expr::{attribute_words_are_spelled, keywords_are_spelled};
 use rz_pre_laws::{live_names_are_free, programs_are_lexed};
 use rz_stmt_laws::statements_go_on;
 use rz_stmt_type::declarations_are_shaped;
-use rz_tools::{catalogues_are_put_back, shown_forks_are_read_again};
+use rz_tools::{catalogues_are_put_back, one_answer, shown_forks_are_read_again};
 use rz_tools_args::{definitions_are_free, definitions_are_lexed, one_command};
 use rz_tools_text::one_shown_text;
 use rz_tools_tmpl::types_are_templates;
@@ -168,6 +168,23 @@ pub fn shown_forks_are_read_back()
     attribute_words_are_spelled();
     definitions_are_free();
     one_command();
+}
+
+/// A law, with nothing to run: what `derez` answers for a fork under type files, in a file after the same type files, is
+/// written by `rez` as the fork's file again, byte for byte, and `rez` has no other answer: if that file is the fork of
+/// its own resources, raw, without attributes and reserved bytes, as `rez` writes a new one; if all resources are shown
+/// and `rez` is to write a raw file that isn't read only; and if the rest is as [`shown_forks_are_read_back`] has it.
+pub fn shown_forks_are_written_back()
+    ensures { (words others : List (List ℕ)) (shown : DeRezAsked) (asked : RezAsked) (files after : Files) (moment : Moment) (name bytes : List ℕ) (fork : Fork) (answer : Answer)
+        → IsDeRez words shown → Answers words files moment answer → answer.outcome ≡ Done
+        → finite.get files shown.file ≡ Some bytes → HoldsFile shown.from bytes → fork_in None shown.from bytes ≡ Ok fork → ShowsAll shown → AreShort fork.list
+        → TypesStay moment shown.types files after → AreTypesAlone after tools.DeRez shown.types.files shown.types.paths shown.types.defs
+        → IsRez others asked → ReadsBehind shown asked name → WritesRaw asked → finite.get after name ≡ Some answer.out
+        → fork_of fork.list 0 [] ≡ Ok bytes
+        → (said : List ℕ) × IsOnlyAnswer others after moment (written asked.target.name (record { bytes = bytes; said = said })) }
+{
+    shown_forks_are_read_back();
+    one_answer();
 }
 
 /// A law, with nothing to run: the items of a command of `bridge` say all that it asks for: one file to read, a last

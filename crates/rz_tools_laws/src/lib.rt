@@ -13,5 +13,5 @@ mod laws;
 pub use laws::{
     bridges_are_asked_for_all, declared_rows_are_shown, declared_types_are_templates,
     own_strings_change_nothing, raw_outputs_are_found, shown_forks_are_compiled_behind_types,
-    shown_forks_are_read_back, type_files_agree,
+    shown_forks_are_read_back, shown_forks_are_written_back, type_files_agree,
 };
