@@ -92,7 +92,8 @@ def broken_forms():
     refused("AppleSingle of 20 bytes", "421 ShortHeader: 20", single(T)[:20])
     refused("AppleSingle of a later version", "427 NewerVersion: 196608", entries(0x00030000, (2, ONE), form="single"))
     refused("AppleSingle whose entries end after the file", "423 EntryOutside: 5", single(T)[:85])
-    refused("AppleSingle with an entry outside", "423 EntryOutside: 1", entries(0x00020000, (1, b"data"), (2, ONE), form="single")[:-1])
+    refused("AppleSingle with an entry outside", "423 EntryOutside: 1",
+            entries(0x00020000, (1, b"data"), (2, ONE), form="single")[:-1])
     refused("AppleSingle with a broken fork", "407 ReferencesOutside: 300 1", single(T.but(res=cut_fork())))
     refused("MacBinary with a wrong CRC", "424 BadCrc: 0 %d %d" % (crc(whole[:124]),
                                                                    crc(whole[:65] + b"t" + whole[66:124])),
@@ -155,7 +156,8 @@ def added_forms():
     added("MacBinary as AppleSingle", "-o x -form single", macbin(T))
     added("AppleSingle as MacBinary", "-o x -form macbin", single(T))
     added("AppleSingle as AppleDouble: its data fork is lost", "-o ._T -form double", single(T), "._T", gone=["T"])
-    added("AppleDouble as AppleSingle: the data file isn't read", "-o ._T -form single", double(T), "._T", {"T": b"data"}, fails=4)
+    added("AppleDouble as AppleSingle: the data file isn't read", "-o ._T -form single", double(T), "._T", {"T": b"data"},
+          fails=4)
     added("AppleSingle as BinHex", "-o x -form hqx", single(T))
     added("BinHex as AppleSingle", "-o x -form double -form single", hqx(T))
     added("AppleSingle as raw", "-o x -form raw", single(T))
@@ -195,7 +197,8 @@ def names():
     formed.rez("a name of 64 bytes as AppleSingle", "rez s.r -form single -o d/" + long, item)
     formed.rez("no name behind the last folder as AppleSingle", "rez s.r -form single -o d/", item)
     formed.rez("a name that Mac Roman hasn't, as AppleSingle", "rez s.r -form single -o d/語", item, err="error 425 BadName: 1")
-    formed.rez("a name that Mac Roman hasn't, of an AppleSingle that has one", "rez s.r -a -o 語", item, files={"語": single(T)})
+    formed.rez("a name that Mac Roman hasn't, of an AppleSingle that has one", "rez s.r -a -o 語", item,
+               files={"語": single(T)})
     formed.rez("a name of 64 bytes that AppleSingle has", "rez s.r -a -form macbin -o x", item,
                files={"x": single(D.but(name=b"n" * 64))}, err="error 425 BadName: 64")
     formed.rez("no name behind the last folder", "rez s.r -form macbin -o d/", item, err="error 425 BadName: 0")

@@ -8,9 +8,8 @@ crates, each link that isn't one of the web leads to a file or folder of the rep
 heading of that file. A link that is a name in code quotes and leads to a source or a script leads to the definition:
 the file defines the name, and doesn't merely cite it, or the name is that of the file or of its crate. Each word that
 begins with `rz_` or `rezkit_` in code quotes, and is no file's or call's name, is a crate of crates.txt. Each path in
-code quotes that begins with a folder which isn't `crates`, and has no link, is there too. Each crate of crates.txt stands
-in the table of docs/ARCHITECTURE.md. What is wrong is printed, and the status is 1 if anything is. wrong_links.py tests
-this script.
+code quotes that begins with one of the folders in PATH is there. Each crate of crates.txt stands in the table of
+docs/ARCHITECTURE.md. What is wrong is printed, and the status is 1 if anything is. wrong_links.py tests this script.
 """
 import glob
 import os

@@ -149,7 +149,7 @@ def values_in(field, bits, at):
 
 
 def texts_in(field, bits, at):
-    """A string that ends anywhere: its bytes with and without zeros behind them."""
+    """A string that ends anywhere: its bytes with and without zeros after them."""
     first = at + LENGTHS[field.form]
     for count in range((len(bits) - first) // 8 + 1):
         held = taken(bits, first, 8 * count).to_bytes(count, "big")
