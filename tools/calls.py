@@ -2,13 +2,13 @@
 """Writes docs/CALLS.md: what each public call promises, and where the definitions stand.
 
     python3 tools/calls.py            writes docs/CALLS.md, which the repository doesn't keep
-    python3 tools/calls.py --check    writes nothing, and says whether the page can be written
+    python3 tools/calls.py --check    writes nothing, and says whether the page can be written, and what has no contract
 
 Of each library of crates.txt but those of tests it lists, from the sources alone: the first sentence of the crate;
 each public type that contracts see as something else, or that has invariants; each public call with its parameters,
 the first sentence of its comment, and its clauses with the definitions that they cite; its laws likewise; and its
 definitions, first those that the contract of `run` rests on. The status is 1 if a definition that a clause cites
-doesn't stand where its `ghost use` says; else it is 0.
+doesn't stand where its `ghost use` says, or if the calls without a contract aren't those of NO_CONTRACT; else it is 0.
 """
 import os
 import re
@@ -22,6 +22,9 @@ TARGET = "docs/CALLS.md"
 LONGEST_TEXT = 90
 
 LAW = "A law, with nothing to run: "
+
+# The public calls that have no contract. docs/PROOFS.md names them, in "Safe and total".
+NO_CONTRACT = {"Listing::allocator", "RealHost::new", "CaseHints::by_name", "CaseHints::by_key"}
 
 HEAD = """# What each call promises
 
@@ -285,9 +288,13 @@ def row(name, shape, path, says, clauses, definitions):
     return "| %s%s | %s | %s |" % (link(name, path), code(shape) if shape else "", says.replace("|", "\\|"), cells)
 
 
+def name_of(call):
+    return "%s::%s" % (call.owner, call.name) if call.owner else call.name
+
+
 def call_row(call, path, definitions):
     """The row of a call, or that of a law."""
-    name = "%s::%s" % (call.owner, call.name) if call.owner else call.name
+    name = name_of(call)
     says = call.says or ("As `%s` says." % call.trait if call.trait else "")
     if says.startswith(LAW):
         says = says[len(LAW) :]
@@ -299,14 +306,26 @@ def is_law(call):
     return not call.owner and call.shape == "()" and bool(call.clauses)
 
 
+def modules_of(crate):
+    """Each module of a crate: its name, the names that others see of it, and its public calls."""
+    modules = exported(crate)
+    types = set().union(*(seen or () for seen in modules.values()))
+    return [(module, seen, calls_in(crate, module, seen, types)) for module, seen in modules.items()]
+
+
+def without_contract():
+    """The names of the public calls that promise nothing: they have no clause, or only those of what the caller has to know."""
+    calls = [call for crate in libraries() for _, _, made in modules_of(crate) for call in made]
+    return {name_of(call) for call in calls if all(clause.kind == "requires" for clause in call.clauses)}
+
+
 def rows_of(crate):
     """The rows of a crate: those of its types and calls, and those of its laws."""
-    rows, laws, modules = [], [], exported(crate)
-    types = set().union(*(seen or () for seen in modules.values()))
-    for module, seen in modules.items():
+    rows, laws = [], []
+    for module, seen, calls in modules_of(crate):
         path, definitions = "crates/%s/src/%s.rt" % (crate, module), definitions_of(crate, module)
         rows += [row(one.name, "", path, one.says, one.clauses, definitions) for one in kinds_in(crate, module, seen) if one.clauses]
-        for call in calls_in(crate, module, seen, types):
+        for call in calls:
             (laws if is_law(call) else rows).append(call_row(call, path, definitions))
     return rows, laws
 
@@ -379,8 +398,14 @@ def main():
     if not sys.argv[1:]:
         with open(TARGET, "w", encoding="utf-8") as file:
             file.write(page)
+    found = without_contract()
+    wrong = ["%s has no contract" % name for name in sorted(found - NO_CONTRACT)]
+    wrong += ["%s has a contract, or isn't there" % name for name in sorted(NO_CONTRACT - found)]
+    for line in wrong:
+        print(line)
     print("%s: %d bytes" % (TARGET, len(page.encode("utf-8"))))
+    return 1 if wrong else 0
 
 
 if __name__ == "__main__":
-    main()
+    sys.exit(main())

@@ -4,9 +4,11 @@
     python3 tools/laws.py            writes docs/PROOFS.md
     python3 tools/laws.py --check    says whether docs/PROOFS.md is what would be written now
 
-In the sections SECTIONS a line `- `NAME`: ..` tells a law. It is one of the crates that the last line names which is
-links to crates alone, and a colon. Which laws stand there is chosen by hand. The status is 1 if a crate has no such
-law, and with --check if a text is another.
+In the sections SECTIONS each line of a list tells a law, and has the form `- `NAME`: ..`, but for those of `inverse`, a
+clause of the headline. The law is one of the crates that the last line names which is links to crates alone, and a
+colon. Which laws stand there is chosen by hand. The names in the table after TABLE are laws of the crates of their
+row. The status is 1 if a heading isn't there, a line of a list has another form or a crate has no such law, and with
+--check if a text is another.
 """
 import os
 import re
@@ -18,6 +20,7 @@ PAGE = os.path.join("docs", "PROOFS.md")
 SECTIONS = ("## The inverse", "## Laws")
 TABLE = "## Exactly one answer"
 CRATES = re.compile(r"(\[`\w+`\]\(\.\./crates/\w+/src/\w+\.rt\)(, |:$))+")
+LISTED = re.compile(r" *[-*+] ")
 
 
 def laws_of(crate):
@@ -39,31 +42,34 @@ def said(comment):
     return re.sub(r"\[(`[^`]*`)\](\([^)]*\))?", r"\1", text[len(calls.LAW):] if text.startswith(calls.LAW) else text)
 
 
-def missing_in(row):
+def wrong_in(row):
     """The names in a row of the table that are no laws of its crates."""
     crates = [name for name in re.findall(r"`(rz_\w+)`", row.split("|")[1])]
     laws = {name for crate in crates for name in laws_of(crate)}
-    return [name for name in re.findall(r"`(\w+)`", row.split("|")[2]) if name not in laws]
+    named = re.findall(r"`(\w+)`", row.split("|")[2])
+    return ["%s is no law of %s" % (name, ", ".join(crates)) for name in named if name not in laws]
 
 
 def written(text):
-    """The page with the comments of today, and the names of laws that no crate has."""
-    lines, laws, inside, section = [], {}, False, ""
-    missing = [head for head in (*SECTIONS, TABLE) if head not in text.split("\n")]
+    """The page with the comments of today, how many laws it tells, and what is wrong with it."""
+    lines, laws, count, section = [], {}, 0, ""
+    wrong = ["no heading %s" % head for head in (*SECTIONS, TABLE) if head not in text.split("\n")]
     for line in text.split("\n"):
         if line.startswith("## "):
-            section, inside = line, line in SECTIONS
+            section, laws = line, {}
         if section == TABLE and line.startswith("|") and "`" in line:
-            missing += missing_in(line)
-        if inside and CRATES.fullmatch(line):
+            wrong += wrong_in(line)
+        if section in SECTIONS and CRATES.fullmatch(line):
             laws = {name: says for crate in re.findall(r"crates/(\w+)/", line) for name, says in laws_of(crate).items()}
-        law = re.match(r"- `(\w+)`:(?= |$)", line) if inside else None
-        if law and law[1] in laws:
-            line = "%s %s" % (law[0], laws[law[1]])
-        elif law and laws:
-            missing.append(law[1])
+        if section in SECTIONS and LISTED.match(line) and not line.startswith("- `inverse`:"):
+            law = re.match(r"- `(\w+)`:(?= |$)", line)
+            if law and law[1] in laws:
+                line = "%s %s" % (law[0], laws[law[1]])
+                count += 1
+            else:
+                wrong.append("no law of the crates named before it: %s" % line[:60])
         lines.append(line)
-    return "\n".join(lines), missing
+    return "\n".join(lines), count, wrong
 
 
 def main(words):
@@ -71,17 +77,17 @@ def main(words):
         sys.exit(__doc__)
     os.chdir(calls.TOP)
     before = calls.text_of(PAGE)
-    after, missing = written(before)
-    for name in missing:
-        print("%s: %s isn't there, or is no law of the crates named before it" % (PAGE, name))
+    after, count, wrong = written(before)
+    for fault in wrong:
+        print("%s: %s" % (PAGE, fault))
     if words:
         if after != before:
             print("%s has other texts than the comments of its laws: run python3 tools/laws.py" % PAGE)
-        print("%d bytes" % len(after.encode("utf-8")))
-        return 1 if missing or after != before else 0
+        print("%d laws, %d bytes" % (count, len(after.encode("utf-8"))))
+        return 1 if wrong or after != before else 0
     with open(PAGE, "w", encoding="utf-8") as file:
         file.write(after)
-    return 1 if missing else 0
+    return 1 if wrong else 0
 
 
 if __name__ == "__main__":

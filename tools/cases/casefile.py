@@ -1,11 +1,22 @@
-"""Writes case files of crates/rezkit_cases: a Book is the lines of one."""
+"""Writes case files of crates/rezkit_cases: a Book is the lines of one. Also forks and strings that several scripts put in."""
 import os
 import sys
 
 from top import TOP
 from model.case_lines import content
+from model.fork import image
 
 DATA = os.path.join(TOP, "crates", "rezkit_cases", "data")
+
+
+def pascal(text):
+    """A string after its length."""
+    return bytes([len(text)]) + text
+
+
+def one(content, kind=b"Test", ident=1, name=b"", attr=0):
+    """A fork with one resource."""
+    return image([(kind, ident, name, attr, content)])
 
 
 class Book:

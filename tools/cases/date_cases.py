@@ -10,7 +10,7 @@ import sys
 from datetime import datetime, timedelta
 
 import top  # noqa: F401
-from casefile import Book
+from casefile import Book, one, pascal
 from model.fork import image
 
 EPOCH = datetime(1970, 1, 1)
@@ -43,15 +43,6 @@ def time(moment):
 def word(value):
     """A number of 16 bits."""
     return (value % 65536).to_bytes(2, "big")
-
-
-def pascal(text):
-    return bytes([len(text)]) + text
-
-
-def one(content, kind=b"Test", ident=1, name=b"", attr=0):
-    """A fork with one resource."""
-    return image([(kind, ident, name, attr, content)])
 
 
 def rez(name, source, leaves=None, err="", moment=NOW, files=(), words="rez s.r -o x"):

@@ -9,7 +9,7 @@ With --check nothing is written, and the status is 1 where the file would change
 import sys
 
 import top  # noqa: F401
-from casefile import Book
+from casefile import Book, one, pascal
 from model.fork import image
 from model.forms import File, written
 
@@ -43,15 +43,6 @@ def filled(text, *arguments):
                     "o": "%o" % (value % 2 ** 32)}[letter].encode()
     assert not left
     return out
-
-
-def one(content, kind=b"Test", ident=1, name=b"", attr=0):
-    """A fork with one resource."""
-    return image([(kind, ident, name, attr, content)])
-
-
-def pascal(text):
-    return bytes([len(text)]) + text
 
 
 def rez(name, source, leaves=None, err="", files=(), words="rez s.r -o x"):

@@ -23,6 +23,16 @@ WRITTEN = "Written by tools/cases/%s. The bytes are told by tools/model/labels.p
 WRONG = []
 
 
+def rows(name, *row):
+    """An array without a stated number of rows."""
+    return Array(name, None, list(row))
+
+
+def stated(count, *row):
+    """An array of so many rows."""
+    return Array(None, count, list(row))
+
+
 def agree(same, *says):
     """What stands here by hand is what labels.py and label_spelling.py say."""
     if not same:

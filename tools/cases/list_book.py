@@ -1,13 +1,37 @@
-"""The cases of a book that are runs of lists.py: list_cases.py and fork_cases.py write them.
+"""The cases of a book that are runs of lists.py: list_cases.py and fork_cases.py write them. Also forks that several of
+them have.
 
 Each line of `err` is written by hand where a case stands, and must be what the run comes to.
 """
 import top  # noqa: F401
+from model.fork import image, number
 from model.lists import DeRez, Folder, Rez, Source, ends, text_of
 
 
 def resource(kind, ident, name="", attr=0, content=b""):
     return kind.encode("mac_roman"), ident, name.encode("mac_roman"), attr, content
+
+
+TEST = resource("Test", 128, content=b"\1\2")
+FOUR = [resource("Test", 1, "a", 0, b"\1"), resource("Test", 2, "b", 0x10, b"\2"), resource("Test", -3, "b", 0, b"\3"),
+        resource("Last", 1, "c", 0x20, b"\4")]
+ONE, SOME = image([TEST]), image(FOUR)
+LONG = "n" * 256
+
+
+def odd_fork():
+    """A fork of another layout: two references share their bytes, and the data area stands after the header."""
+    fork = image([resource("Test", 1, "", 0, b"\1\2"), resource("Test", 2)])
+    begins = int.from_bytes(fork[4:8], "big")
+    area, lists = fork[256:begins], bytearray(fork[begins:])
+    lists[-7:-4] = bytes(3)
+    head = number(26, 4) + number(26 + len(area), 4) + fork[8:16]
+    return head + b"0123456789" + area + head + bytes(lists[16:])
+
+
+def cut_fork():
+    """A fork whose reference list ends after its map."""
+    return ONE[:15] + b"\x2E" + ONE[16:308]
 
 
 class Runs:

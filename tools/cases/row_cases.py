@@ -19,6 +19,7 @@ from casefile import Book
 from model import shown
 from model.fork import image
 from model.label_reading import read
+from model.quoting import quoted
 from model.type_files import declarations_of, found, tokens_of
 
 NUMBERS = r"""
@@ -301,7 +302,7 @@ def row_text(row):
 def value_text(value):
     """A value of a row as the tables spell it."""
     if isinstance(value, bytes):
-        return shown.quoted(value, '"')
+        return quoted(value)
     if isinstance(value, list):
         return "{%s}" % "|".join(row_text(row) for row in value)
     if isinstance(value, tuple) and isinstance(value[0], str):

@@ -10,7 +10,7 @@ what labels.py says. With --check nothing is written, and the status is 1 where 
 import sys
 
 import top  # noqa: F401
-from label_book import Cases, KINDS, WRONG
+from label_book import Cases, KINDS, WRONG, rows, stated
 from model.label_types import (Align, Array, Expr, Fill, Format, Label, Switch, at, at_row, bits_at, byte, byte_at,
                                fact, field_bits, integer, key, longint, num, number, points, row_of, rows_of, text)
 from model.labels import FACTS
@@ -20,17 +20,9 @@ ROWS = Cases("row_labels.cases", "row_label_cases.py",
     "row_labels_read.cases")
 
 
-def rows(name, *row):
-    return Array(name, None, list(row))
-
-
 def counted(name, *row, form=byte):
     """The number of rows, and the rows."""
     return [form(rows_of(name)), rows(name, *row)]
-
-
-def stated(count, *row):
-    return Array(None, count, list(row))
 
 
 def worked():

@@ -11,7 +11,7 @@ shown.py have to say the same. Beside right bytes stand those of compilers that 
 import sys
 
 import top  # noqa: F401
-from label_book import KINDS, Shown, WRONG
+from label_book import KINDS, Shown, WRONG, rows, stated
 from model import label_wrong
 from model.faults import Refused
 from model.label_types import (Align, Array, Fill, Format, Label, Switch, at, at_row, bits_at, byte, byte_at,
@@ -23,16 +23,8 @@ SHOWN = Shown("row_shown.cases", "row_shown_cases.py",
 LENGTH = (at("e") - at("s")) / 8
 
 
-def rows(name, *row):
-    return Array(name, None, list(row))
-
-
 def counted(name, *row):
     return [byte(rows_of(name)), rows(name, *row)]
-
-
-def stated(count, *row):
-    return Array(None, count, list(row))
 
 
 def string(*fields):

@@ -6,7 +6,8 @@
 What a run must leave of which a call failed is no part of a case: crates/rezkit_cases/README.md has the rules. Here
 stand the calls of each command, by hand: its reads and then its writes, or those of its output or of what it says,
 which put its pieces and then flush it. `derez` puts each line by itself, so the pieces of its output are the lines
-that the case wants. With --check nothing is written, and the status is 1 where the file would change.
+that the case wants. The cases are read as lines, and not by tools/model/case_reader.py, for they are written again as
+they stand, with their comments. With --check nothing is written, and the status is 1 where the file would change.
 """
 import functools
 import os
@@ -158,8 +159,8 @@ def pieces_of(lines):
     return count
 
 
-def without_comments_behind(lines):
-    """The lines of a case without the comments that stand behind it, which speak of the next."""
+def without_comments_after(lines):
+    """The lines of a case without the comments that stand after it, which speak of the next."""
     while lines and lines[-1].startswith("#"):
         lines = lines[:-1]
     return lines
@@ -175,7 +176,7 @@ def made():
         for file, name, target, first, second in sweeps:
             if name not in cases_of(file):
                 sys.exit("%s.cases has no case %r" % (file, name))
-            lines = without_comments_behind(cases_of(file)[name])
+            lines = without_comments_after(cases_of(file)[name])
             first = pieces_of(lines) + 1 if first is LINES else first
             runs += first + 1 + (second if target == "folder" else 0)
             out += ["case %s.cases: %s" % (file, name), "sweep %s %d %d" % (target, first, second)] + lines + [""]

@@ -5,15 +5,15 @@
 
 The files of cases that a script writes are what it would write now, and a second reading shows what they show; the
 documents name what is there, and wrong links are found; the laws of docs/PROOFS.md are those of the sources; what
-each public call promises can be written; docs/MESSAGES.md has each message; the help text describes each option;
-the edits of wrong-bodies/ and must-fail/ apply, and tools/check/wrong_bodies.py finds those that don't. With the
-program that ./rezkit runs: ./test finds programs that are wrong; ./rezkit tells why it runs no program;
-tools/install installs it; the commands that README.md, docs/TOUR.md, docs/MESSAGES.md, docs/DAMAGED.md,
-docs/TEMPLATES.md, docs/TYPES.md, docs/TRANSLATING.md, docs/PORTING.md, docs/ARCHIVING.md and docs/LOOKING.md show
-print what stands there; SOURCE_DATE_EPOCH is the moment of a run; odd words, names and limits of the host are met;
-editors/ has each word of the language and shows sources and errors as it should. With the case runner that `rt ci`
-built, broken or failing case files are reported.
-Without `rt` that check is skipped, as is any check whose program isn't there, and the line of the check says so.
+each public call promises can be written, and only those that docs/PROOFS.md names promise nothing; docs/MESSAGES.md
+has each message; the help text describes each option; the edits of wrong-bodies/ and must-fail/ apply, and
+tools/check/wrong_bodies.py finds those that don't. With the program that ./rezkit runs: ./test finds programs that are
+wrong; ./rezkit tells why it runs no program; tools/install installs it; the commands that README.md, docs/TOUR.md,
+docs/MESSAGES.md, docs/DAMAGED.md, docs/TEMPLATES.md, docs/TYPES.md, docs/TRANSLATING.md, docs/PORTING.md,
+docs/ARCHIVING.md and docs/LOOKING.md show print what stands there; SOURCE_DATE_EPOCH is the moment of a run; odd
+words, names and limits of the host are met; editors/ has each word of the language and shows sources and errors as it
+should. With the case runner that `rt ci` built, broken or failing case files are reported. Without `rt` that check is
+skipped, as is any check whose program isn't there, and the line of the check says so.
 
 The tests of the workbench are run by pytest, a file of them as one check, with the Python that sees Debian's
 packages. Where pytest or a module that the tests need is missing, the line says so, and the tests are skipped.

@@ -29,7 +29,7 @@ SOURCE = ["case a source", "words rez s.r -o x", "file open s.r", "| ;", "status
 NONE = ["| 0000 0100 0000 0100 0000 0000 0000 001E 00*240", "| 0000 0100 0000 0100 0000 0000 0000 001E",
         "| 0000 0000 0000 0000 001C 001E FFFF"]
 
-# Lines behind those of a case, the line at which the file breaks, and what is said of it. A line that is stated again
+# Lines after those of a case, the line at which the file breaks, and what is said of it. A line that is stated again
 # stands in line 7.
 BROKEN = [
     (["moment 0", "moment 0"], 7, TWICE),

@@ -7,9 +7,9 @@ FOLDER is the top of this repository unless another is named. In README.md, docs
 crates, each link that isn't one of the web leads to a file or folder of the repository, and its part after `#` is a
 heading of that file. A link that is a name in code quotes and leads to a source or a script leads to the definition:
 the file defines the name, and doesn't merely cite it, or the name is that of the file or of its crate. Each word that
-begins with `rz_` or `rezkit_` in code quotes, and is no file's or call's name, is a crate of crates.txt. Each crate
-of crates.txt stands in the table of docs/ARCHITECTURE.md. What is wrong is printed, and the status is 1 if anything
-is. wrong_links.py tests this script.
+begins with `rz_` or `rezkit_` in code quotes, and is no file's or call's name, is a crate of crates.txt. Each path in
+code quotes that begins with one of the folders in PATH is there. Each crate of crates.txt stands in the table of
+docs/ARCHITECTURE.md. What is wrong is printed, and the status is 1 if anything is. wrong_links.py tests this script.
 """
 import glob
 import os
@@ -21,6 +21,7 @@ from top import TOP
 LINK = re.compile(r"\[([^\]]*)\]\(([^)\s]+)\)")
 CRATE = re.compile(r"(?<![\w/.])(rz_[a-z_]+|rezkit_[a-z_]+)(?![\w(])")
 NAME = re.compile(r"`((?:\w+::)?\w+)`")
+PATH = re.compile(r"`((?:tools|bench|docs|workbench|types|examples|editors)/[\w./-]+)`")
 CALLS = "docs/CALLS.md"  # tools/calls.py writes it, and tests its own links
 
 # How a file of each kind defines a name: with `%s` for it, at the begin of a line.
@@ -91,6 +92,7 @@ def main(words):
         for shown, target in LINK.findall(text):
             fault = None if re.match(r"\w+://|mailto:", target) else fault_of(document, shown, target)
             wrong += ["%s: %s" % (document, fault)] * bool(fault)
+        wrong += ["%s: no %s" % (document, path) for path in PATH.findall(text) if path != CALLS and not os.path.exists(path)]
         wrong += ["%s: %s is no crate" % (document, name) for name in CRATE.findall(text) if name not in names]
     table = text_of("docs/ARCHITECTURE.md")
     wrong += ["docs/ARCHITECTURE.md: no row of %s" % it for it in crates() if "| `%s` |" % it not in table]

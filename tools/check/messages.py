@@ -14,6 +14,7 @@ import re
 import sys
 
 from top import TOP
+from model.case_reader import read_cases
 
 UNSAID = {("452", "UnknownCode")}
 
@@ -26,10 +27,9 @@ def text_of(path):
 def refusals():
     """Each case that is refused: its file, its name and the last line of its messages."""
     for path in sorted(glob.glob(os.path.join(TOP, "crates/rezkit_cases/data/*.cases"))):
-        for case in re.split(r"^case ", text_of(path), flags=re.M)[1:]:
-            said = re.search(r"^err text\n((?:\|.*\n?)+)", case, re.M)
-            if "\nstatus 2\n" in case and said:
-                yield os.path.basename(path), case.split("\n")[0], said[1].rstrip("\n").split("\n")[-1]
+        for case in read_cases(text_of(path)):
+            if case.status == 2 and case.err:
+                yield os.path.basename(path), case.name, case.err.decode("utf-8", "replace").splitlines()[-1]
 
 
 def main():
@@ -43,7 +43,7 @@ def main():
     wrong += ["%s %s: two rows" % fault for fault in sorted(set(rows)) if rows.count(fault) > 1]
     refused = list(refusals())
     wrong += ["%s: %s: refused by a warning" % (file, name) for file, name, line in refused
-              if re.match(r"\| rezkit: (.*?:\d+: )?warning ", line)]
+              if re.match(r"rezkit: (.*?:\d+: )?warning ", line)]
     for line in wrong:
         print(line)
     print("%d messages, %d refusals, %d faults" % (len(named), len(refused), len(wrong)))

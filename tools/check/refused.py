@@ -8,7 +8,7 @@ PROGRAM is the one that ./rezkit runs unless another is named. A library that `c
 is run with the first call refused, then the second, and so on, until a run in which none was. It is a case of
 crates/rezkit_cases/data, over files of the host in a folder of its own. A run of which a call was refused ends as its
 case does, or with the status 4; then each file is as before, and no other is there, standard output has a front of
-the text, and standard error the line that says so: alone, if nothing was put, or behind all that a case says that
+the text, and standard error the line that says so: alone, if nothing was put, or after all that a case says that
 isn't refused. Last comes a run of `sample 5000` whose 5,000th call is refused; it has to end with 4.
 
 Printed are how many calls of each command were refused, how many of its runs ended with 4, and the longest time of a

@@ -18,13 +18,17 @@ The [other page](docs/ARCHITECTURE.md#a-heading), [this one](#one-page), [the we
 [`rz_one`](crates/rz_one/src/lib.rt), `rz_one`, a call [`made`](crates/rz_one/src/lib.rt), a method
 [`Kind::of`](crates/rz_one/src/lib.rt), a definition [`Made`](crates/rz_one/specs/Made.antt) in a file that has its name,
 others [`is_made`](crates/rz_one/specs/Made.antt), [`Part`](crates/rz_one/specs/Made.antt) and a field
-[`front`](crates/rz_one/specs/Made.antt), and a script [`main`](tools/one.py).
+[`front`](crates/rz_one/specs/Made.antt), a script [`main`](tools/one.py), paths `tools/one.py`, `docs/ARCHITECTURE.md`,
+`docs/CALLS.md` and `tools/*.none`.
 """
 FILES = {
     "crates.txt": "# The crates.\nrz_one:\n",
     "README.md": RIGHT,
     "docs/ARCHITECTURE.md": "# A page\n\n## A heading\n\n| `rz_one` | the one crate |\n",
     "docs/CALLS.md": "[none](none.md)\n",
+    "bench/README.md": "The [script](../tools/one.py).\n",
+    "tools/README.md": "The [script](one.py).\n",
+    "crates/rz_one/README.md": "The [source](src/lib.rt).\n",
     "crates/rz_one/src/lib.rt": "use other::cited;\n\npub struct Kind;\n\nimpl Kind {\n    pub fn of() -> Kind {\n        cited()\n    }\n}\n\n"
                                 "pub fn made() -> Kind {\n    Kind::of()\n}\n",
     "crates/rz_one/specs/Made.antt": "use Rattle.rz_other.specs.Cited.{Cited}\n\nabbrev pub is_made : Bool → Type 0\nis_made made = Cited made\n\n"
@@ -37,6 +41,8 @@ WRONG = [
     ("[none](docs/ARCHITECTURE.md#none)", "no heading for docs/ARCHITECTURE.md#none"),
     ("[none](#a-heading)", "no heading for #a-heading"),
     ("`rz_two`", "rz_two is no crate"),
+    ("`tools/none.py`", "no tools/none.py"),
+    ("`docs/none`", "no docs/none"),
     # Names that stand in the file, and aren't defined there.
     ("[`cited`](crates/rz_one/src/lib.rt)", "cited isn't defined in crates/rz_one/src/lib.rt"),
     ("[`Cited`](crates/rz_one/specs/Made.antt)", "Cited isn't defined in crates/rz_one/specs/Made.antt"),
@@ -47,6 +53,8 @@ WRONG = [
     ("[`mad`](crates/rz_one/src/lib.rt)", "mad isn't defined in crates/rz_one/src/lib.rt"),
     ("[`None`](crates/rz_one/specs/Made.antt)", "None isn't defined in crates/rz_one/specs/Made.antt"),
 ]
+# The documents but README.md. In each a link to none.md is found.
+OTHERS = ["docs/ARCHITECTURE.md", "bench/README.md", "tools/README.md", "crates/rz_one/README.md"]
 
 
 def write(folder, name, text):
@@ -69,10 +77,11 @@ def main():
             write(folder, name, text)
         looks = [("README.md", RIGHT, "", 0)] + [
             ("README.md", "%s\n%s\n" % (RIGHT, line), "README.md: %s\n" % fault, 1) for line, fault in WRONG] + [
+            (name, FILES[name] + "[none](none.md)\n", "%s: no none.md\n" % name, 1) for name in OTHERS] + [
             ("crates.txt", "rz_one:\nrz_two: rz_one\n", "docs/ARCHITECTURE.md: no row of rz_two\n", 1)]
         for name, text, says, status in looks:
             write(folder, name, text)
-            wanted, came = ("%s2 documents, %d faults\n" % (says, status), status), told(folder)
+            wanted, came = ("%s5 documents, %d faults\n" % (says, status), status), told(folder)
             write(folder, name, FILES[name])
             count += 1
             if came != wanted:

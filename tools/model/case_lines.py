@@ -56,6 +56,11 @@ def spelled(data):
     return lines
 
 
+def byte_lines(data):
+    """Bytes as the text of a content, sixty-four on a line."""
+    return "".join("| %s\n" % data[at:at + 64].hex() for at in range(0, len(data), 64))
+
+
 def source_lines(data):
     """A text with bytes outside ASCII: each line in pieces, what can be printed between quote marks."""
     if not re.fullmatch(rb"([ -~\x80-\xFF]*\n)+", data):

@@ -14,7 +14,8 @@ from model.fork import admitted, image
 from model.forms import File, form_of, read_form, written
 from model.label_reading import read
 from model.labels import bytes_of
-from model.lists import MOMENT, key_text, quoted
+from model.lists import MOMENT, key_text
+from model.quoting import quoted
 from model.shown import all_facts, pieces
 from model.type_files import declarations_of, found, program_of, tokens_of
 
@@ -119,7 +120,7 @@ def roman_text(data):
 
 
 def placed_bytes(text):
-    """The bytes with their physical lines, each line end as one byte, without those behind a backslash."""
+    """The bytes with their physical lines, each line end as one byte, without those after a backslash."""
     out, line = [], 1
     for part in re.findall(rb"\\(?:\r\n|\r|\n)|\r\n|[^\\]|\\", text, re.S):
         if len(part) > 1 and part[:1] == b"\\":
@@ -131,7 +132,7 @@ def placed_bytes(text):
 
 
 def quoted_end(text, at):
-    """The place behind a quoted part that begins here, and whether it ends at its mark."""
+    """The place after a quoted part that begins here, and whether it ends at its mark."""
     mark, at = text[at:at + 1], at + 1
     while at < len(text) and text[at:at + 1] not in (mark, b"\n"):
         at += 2 if text[at:at + 1] == b"\\" else 1
@@ -140,7 +141,7 @@ def quoted_end(text, at):
 
 
 def logical_lines(text):
-    """The logical lines without comments, each behind its physical line; last the line of an open comment, or None."""
+    """The logical lines without comments, each after its physical line; last the line of an open comment, or None."""
     placed = placed_bytes(text)
     plain, out, at, line, mark = b"".join(byte for byte, _ in placed), [], 0, b"", None
     while at < len(plain):
@@ -199,7 +200,7 @@ def number_of(token):
 
 
 def quoted_token(line, mark, at):
-    """The literal or the text that begins here, and the place behind it."""
+    """The literal or the text that begins here, and the place after it."""
     is_hex = line[at:at + 1] == b"$"
     end, ends = quoted_end(line, at + is_hex)
     if not ends:
@@ -307,7 +308,7 @@ def applied(table, resources, entries, moment, over):
 # The commands.
 
 class Asked:
-    """The words of a command behind its name; `files` are those that it names."""
+    """The words of a command after its name; `files` are those that it names."""
 
     def __init__(self, words):
         self.files, self.macros, self.paths, self.form, self.output, self.over = [], {}, [], None, "Rez.Out", False

@@ -35,7 +35,7 @@ def each(*groups):
 
 def laid(types, lists, area=held(b""), names=b"", attributes=0, reserved=b"", parts="dm", copy=None, shift=0):
     """The bytes of a fork. Each type has a code, a number of references, and the place of its list in the lists. The parts
-    behind the header and its reserved bytes are the data area, `d`, the map, `m`, and four other bytes, `x`, in any order;
+    after the header and its reserved bytes are the data area, `d`, the map, `m`, and four other bytes, `x`, in any order;
     `copy` stands in the map in place of the copy of the header, and the name list begins `shift` bytes before the names."""
     begins = 2 + 8 * len(types)
     entries = b"".join(code_of(kind) + number(count - 1, 2) + number(begins + place, 2) for kind, count, place in types)

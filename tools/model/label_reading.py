@@ -33,7 +33,7 @@ class Known:
         self.ended, self.around = dict(ended), dict(around)
 
     def inner(self, array=None, number=None):
-        """What is known at the beginning of a case, or of a row of an array; nothing of it is known behind that."""
+        """What is known at the beginning of a case, or of a row of an array; nothing of it is known after that."""
         around = {**self.around, array: number} if array else self.around
         return Known(self.passed, self.solved, self.counts, self.ended, around)
 
@@ -137,7 +137,7 @@ def solved_end(body, k, known):
 
 
 def rest_of(body, k, outermost):
-    """The bits behind field k if all fields there have a fixed width and the end of the resource can end it; or None."""
+    """The bits after field k if all fields there have a fixed width and the end of the resource can end it; or None."""
     widths = [width_of(field) for field in body[k + 1:]]
     return sum(widths) if outermost and None not in widths else None
 
@@ -325,7 +325,7 @@ class Reader:
                 here.known.solved[word[1]] = found
 
     def end_of(self, here, outermost):
-        """The bit at which an open string or array ends; None if it is the end of the resource, and the bits behind it."""
+        """The bit at which an open string or array ends; None if it is the end of the resource, and the bits after it."""
         found = solved_end(here.body, here.k, here.known)
         if found:
             return here.known.solved[found[0]] - found[1], 0

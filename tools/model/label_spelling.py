@@ -59,7 +59,7 @@ def is_spelled(body, row, facts, data):
 
 
 def stands_later(kind, word, names, k, stands, ends):
-    """A name of piece k stands behind it: a label, or the end of the array whose rows have it."""
+    """A name of piece k stands after it: a label, or the end of the array whose rows have it."""
     if kind == "index":
         return ends[(id(names.lines_of(word)), word.lower())] > k
     found = names.label(word) if kind in ("name", "label") else None

@@ -5,6 +5,7 @@ A field is a tuple of what its text says, and an expression is built by Python's
 from collections import namedtuple
 
 from model.faults import Refused
+from model.quoting import quoted
 
 # Expressions: a tree of tuples, which Python's operators build.
 
@@ -197,7 +198,7 @@ FORMS = {"byte": 8, "integer": 16, "longint": 32, "boolean": 1, "char": 8}
 
 
 def num(form, fixed=None, **more):
-    """A number: its type, with the width behind it if it is a bitstring, and its expression."""
+    """A number: its type, with the width after it if it is a bitstring, and its expression."""
     width = FORMS.get(form) or int(form[10:-1])
     return Number(form, width, fixed if fixed is None else number(fixed) if isinstance(fixed, int) else fixed, **more)
 
@@ -229,10 +230,6 @@ def text(form, size=None, fixed=None, says=""):
 
 def points(*fixed, count=None):
     return Points(count or len(fixed), [each if isinstance(each, Expr) else number(each) for each in fixed] or None)
-
-
-def quoted(data):
-    return '"%s"' % "".join("\\" + chr(b) if b in b'"\\' else chr(b) if 32 <= b < 127 else "\\0x%02X" % b for b in data)
 
 
 def part_text(part):

@@ -167,7 +167,7 @@ class Names:
             self.lines[name] = lines
 
     def is_later(self, kind, name):
-        """A name stands behind what asks for it."""
+        """A name stands after what asks for it."""
         if kind in ("rows", "row"):
             return False
         if kind == "index":

@@ -7,6 +7,7 @@ import datetime
 
 from model.fork import admitted
 from model.forms import form_of, read_form
+from model.quoting import quoted
 
 FIRST, FIRST_OF_2040 = datetime.datetime(1904, 1, 1), 4291833600
 
@@ -51,12 +52,6 @@ def words_of(attributes):
     if attributes & WITHOUT_WORD:
         return ["$%02X" % attributes]
     return [word for word, bit in WORDS if attributes & bit]
-
-
-def quoted(data, mark):
-    """Bytes between two such marks, in one piece."""
-    shown = ("\\" + chr(b) if chr(b) in ("\\", mark) else chr(b) if 0x20 <= b <= 0x7E else "\\0x%02X" % b for b in data)
-    return mark + "".join(shown) + mark
 
 
 def date_text(seconds):

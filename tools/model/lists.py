@@ -6,6 +6,7 @@ It knows nothing of the code and reads no source: whoever writes a case says eac
 from model import forms
 from model.faults import Refused
 from model.fork import admitted, image
+from model.quoting import quoted
 
 MOMENT = 2082844800  # the first second of 1970, counted from 1904
 SETS = {"sysheap": 0x40, "purgeable": 0x20, "locked": 0x10, "protected": 0x08, "preload": 0x04, "changed": 0x02}
@@ -44,12 +45,6 @@ class Resource:
         new = Resource(*self.plain())
         new.__dict__.update(fields)
         return new
-
-
-def quoted(data, mark='"'):
-    """Bytes between marks, as messages and shown text have them."""
-    shown = ("\\" + chr(b) if chr(b) in ("\\", mark) else chr(b) if 0x20 <= b <= 0x7E else "\\0x%02X" % b for b in data)
-    return mark + "".join(shown) + mark
 
 
 def key_text(kind, ident):
@@ -388,7 +383,7 @@ class Rez:
         return forms.read_form(forms.form_of(held), held)
 
     def find(self, name):
-        """The file of a name, as it is and then behind each path."""
+        """The file of a name, as it is and then after each path."""
         plain = name.decode("mac_roman")
         for each in [plain] + [path + "/" + plain for path in self.options.paths]:
             held = self.folder.read(each)

@@ -8,6 +8,7 @@ from model.forms import form_of, read_form
 from model.label_reading import read
 from model.label_types import Array, Number, Points, Switch, Text
 from model.labels import takes
+from model.quoting import quoted
 from model.type_files import declarations_of, found, program_of, templates_of, tokens_of
 
 
@@ -33,14 +34,6 @@ def uses_hidden(fields, row, hidden):
 
 
 # The text.
-
-def quoted(content, mark):
-    out = ""
-    for byte in content:
-        letter = chr(byte)
-        out += "\\" + letter if letter in ("\\", mark) else letter if 0x20 <= byte <= 0x7E else "\\0x%02X" % byte
-    return mark + out + mark
-
 
 def hex_text(content):
     digits = content.hex().upper()

@@ -149,7 +149,7 @@ def values_in(field, bits, at):
 
 
 def texts_in(field, bits, at):
-    """A string that ends anywhere: its bytes with and without zeros behind them."""
+    """A string that ends anywhere: its bytes with and without zeros after them."""
     first = at + LENGTHS[field.form]
     for count in range((len(bits) - first) // 8 + 1):
         held = taken(bits, first, 8 * count).to_bytes(count, "big")
@@ -261,6 +261,8 @@ def compared(body, data, told):
 
 
 def main():
+    if len(sys.argv) != 3:
+        sys.exit(__doc__)
     random.seed(int(sys.argv[1]))
     count = {"differ": 0, "plain": 0, "not plain": 0, "no row": 0, "unreadable": 0, "readable": 0}
     for _ in range(int(sys.argv[2])):

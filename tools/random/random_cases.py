@@ -13,7 +13,10 @@ import random
 import sys
 
 import top  # noqa: F401
+from model.case_lines import byte_lines
 from model.fork import fork_of
+from model.label_types import quotient, wrapped
+from model.quoting import quoted
 
 # The resource fork.
 
@@ -93,12 +96,6 @@ def resource_at(fork, kind, at, at_data, at_names):
 WORDS = [(0x40, "sysheap"), (0x20, "purgeable"), (0x10, "locked"), (8, "protected"), (4, "preload"), (2, "changed")]
 
 
-def quoted(content, mark):
-    shown = "".join("\\" + chr(byte) if chr(byte) in ("\\", mark) else
-                    chr(byte) if 0x20 <= byte <= 0x7E else "\\0x%02X" % byte for byte in content)
-    return mark + shown + mark
-
-
 def text_of(kind, ident, name, attr, content):
     """A `data` statement and an empty line."""
     head = str(ident)
@@ -142,18 +139,14 @@ def some_fork():
     return bytes(fork + bytes(random.choice([0] * 9 + [random.randrange(40)])))
 
 
-def content_lines(content):
-    return "".join("| %s\n" % content[at:at + 64].hex() for at in range(0, len(content), 64))
-
-
 def fork_case(k):
     fork = some_fork()
-    given = "case fork %d\nwords derez f -from raw\nfile bytes f\n%s" % (k, content_lines(fork))
+    given = "case fork %d\nwords derez f -from raw\nfile bytes f\n%s" % (k, byte_lines(fork))
     try:
         shown = "".join(text_of(*each) for each in admitted(fork))
     except Broken as rule:
         return given + "status 2\nerr text\n| rezkit: error %s\n" % rule
-    return given + "status 0\nout bytes\n" + content_lines(shown.encode())
+    return given + "status 0\nout bytes\n" + byte_lines(shown.encode())
 
 
 # Expressions.
@@ -162,15 +155,6 @@ LEVELS = [["*", "/", "%"], ["+", "-"], ["<<", ">>"], [">", ">=", "<", "<="], ["=
           ["&&"], ["||"]]
 LEVEL = {sign: level for level, signs in enumerate(LEVELS) for sign in signs}
 VALUES = [0, 1, 2, 3, 5, 7, 31, 32, 255, 65535, 2 ** 31 - 1, 2 ** 31, 2 ** 32 - 1]
-
-
-def wrapped(value):
-    return (value + 2 ** 31) % 2 ** 32 - 2 ** 31
-
-
-def quotient(left, right):
-    size = abs(left) // abs(right)
-    return size if (left < 0) == (right < 0) else -size
 
 
 BINARY = {
@@ -236,7 +220,7 @@ def id_case(text, tree):
             raise Broken("204 BadId: %d" % value)
     except Broken as fault:
         return given + "status 2\nerr text\n| rezkit: e.r:1: error %s\n" % fault
-    return given + "status 0\nleaves bytes x\n" + content_lines(fork_of([(b"Test", value, b"", 0, b"")]))
+    return given + "status 0\nleaves bytes x\n" + byte_lines(fork_of([(b"Test", value, b"", 0, b"")]))
 
 
 def condition_case(text, tree):
@@ -245,7 +229,7 @@ def condition_case(text, tree):
         chosen = [(b"Test", 1, b"", 0, b"")] if value_of(tree) else []
     except Broken:
         return given + "status 2\nerr text\n| rezkit: e.r:1: error 114 BadCondition\n"
-    return given + "status 0\nleaves bytes x\n" + content_lines(fork_of(chosen))
+    return given + "status 0\nleaves bytes x\n" + byte_lines(fork_of(chosen))
 
 
 def expression_case(k):
@@ -255,11 +239,17 @@ def expression_case(k):
     return "case expression %d\nwords rez e.r -o x\nfile text e.r\n%s" % (k, case(text, tree))
 
 
+MAKERS = {"forks": fork_case, "expressions": expression_case}
+
+
 def main():
-    make = {"forks": fork_case, "expressions": expression_case}[sys.argv[1]]
+    if len(sys.argv) != 4 or sys.argv[1] not in MAKERS:
+        sys.exit(__doc__)
+    make = MAKERS[sys.argv[1]]
     random.seed(int(sys.argv[2]))
     for k in range(int(sys.argv[3])):
         sys.stdout.write(make(k) + "\n")
 
 
-main()
+if __name__ == "__main__":
+    main()

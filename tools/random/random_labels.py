@@ -222,6 +222,8 @@ def case(k):
 
 
 def main():
+    if len(sys.argv) != 3:
+        sys.exit(__doc__)
     random.seed(int(sys.argv[1]))
     for k in range(int(sys.argv[2])):
         print("\n".join(case(k)))

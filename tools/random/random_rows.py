@@ -14,6 +14,7 @@ import sys
 import top  # noqa: F401
 from random_types import LONG, changed, row_bytes, some_type
 from model import shown
+from model.case_lines import byte_lines
 from model.fork import fork_of
 from model.label_reading import read
 from model.label_types import FORMS as WIDTHS, type_text
@@ -110,10 +111,6 @@ def text_lines(text):
     return "".join("| %s\n" % line if line else "|\n" for line in text.split("\n")[:-1])
 
 
-def byte_lines(content):
-    return "".join("| %s\n" % content[at:at + 64].hex() for at in range(0, len(content), 64))
-
-
 MACROS = [""] * 4 + ["#define one\n", "#define Two 2\n", "#define TRUTH\n#define three four\n"]
 
 
@@ -155,6 +152,8 @@ def cases(k):
 
 
 def main():
+    if len(sys.argv) != 3:
+        sys.exit(__doc__)
     random.seed(int(sys.argv[1]))
     for k in range(int(sys.argv[2])):
         cases(k)

@@ -1,7 +1,7 @@
 """Random types with labels, of which most can be read, with random rows and bytes of them.
 
 A type is a list of fields of label_types.py. It is put together from small groups of fields, as a length and the string
-behind it; now and then a field is moved or left out, so that what made the type readable breaks. label_search.py and
+after it; now and then a field is moved or left out, so that what made the type readable breaks. label_search.py and
 random_rows.py stand on it.
 """
 import random
@@ -73,7 +73,7 @@ class Maker:
         return one
 
     def length(self, end, start, passed):
-        """What a number says of an end: mostly how far it is behind a start."""
+        """What a number says of an end: mostly how far it is after a start."""
         if chance(0.6):
             one = PICK([(at(end) - at(start)) / 8, (at(end) - at(start)) / 8, at(end) - at(start), (at(end) - at(start)) >> 3,
                         (at(end) - at(start)) / 16, at(start) - at(end), 8 * at(end) / 64 - at(start) / 8,
@@ -125,7 +125,7 @@ class Maker:
         return self.rows(PICK([None, None, self.array()]), None, depth - 1, passed)
 
     def rows(self, name, count, depth, passed):
-        """An array; behind it the labels of its rows can be named."""
+        """An array; after it the labels of its rows can be named."""
         before = len(self.ended_rows)
         self.around += [name] * bool(name)
         out = Array(name, count, self.row(depth, passed))
@@ -166,7 +166,7 @@ class Maker:
                 + self.between(0.25) + [Label(end)])
 
     def near(self, depth, passed):
-        """A number that names a label a few fields behind it."""
+        """A number that names a label a few fields after it."""
         name = self.label()
         return [num(self.form(), self.length(name, PICK(passed + [name]), passed))] + self.between(0.6) + [Label(name)]
 

@@ -5,6 +5,7 @@ import random
 import re
 
 import pytest
+from model import case_reader
 from rez_running import TOP
 from rezkit_workbench import macros, mend, sources, tokens
 from rezkit_workbench.errors import Refused
@@ -128,17 +129,16 @@ def cases():
     """The words, the status and the files with texts of each case of commands."""
     for path in sorted(glob.glob(os.path.join(TOP, "crates", "rezkit_cases", "data", "*.cases"))):
         with open(path, encoding="utf-8") as file:
-            for case in re.split(r"(?m)^case .*\n", file.read())[1:]:
-                words = re.findall(r"(?m)^words (.*)$", case)
-                texts = re.findall(r"(?m)^file text (.*)\n((?:\|.*\n)*)", case)
-                yield " ".join(words), "\nstatus 0\n" in case, {
-                    name: "".join(line[2:] + "\n" for line in text.splitlines()).encode("utf-8") for name, text in texts}
+            for entries in case_reader.cases_of(case_reader.entries_of(file.read())):
+                case = case_reader.case_of(entries)
+                texts = [entry.argument[5:] for entry in entries if entry.key == "file" and entry.argument.startswith("text ")]
+                yield case.words, case.status, {name: case.files[name] for name in texts}
 
 
 def test_sources_that_compile_stay_as_they_are():
     count = 0
-    for words, is_done, texts in cases():
-        if words.startswith("rez ") and is_done:
+    for words, status, texts in cases():
+        if words[:1] == ["rez"] and status == 0:
             for text in texts.values():
                 if not re.search(rb"#\s*(pragma|printf|include\s*<)|[0-9][uUlL]", text):  # in what isn't read, and mended all the same
                     assert mended(text, is_there=lambda name: True) == text
