@@ -5,6 +5,9 @@
 //! It rests on `rz_core` and the standard library.
 //! What a bit, a number of bits and a byte are is defined in `specs/Bits.antt`, and what stands at a place in
 //! `specs/View.antt`. How the code holds the bits, in whole bytes, is in `specs/Held.antt`.
+//!
+//! Choices, and why:
+//! - Bits are held in whole bytes, the last one filled with zero bits, so that they become bytes without memory.
 #![tactic(auto)]
 
 mod bit_buf;

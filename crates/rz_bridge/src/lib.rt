@@ -6,6 +6,9 @@
 //! It rests on `rz_core`.
 //! What the forms are stands in `specs`, which changes with it; a new field of a form is one in `MacBinary` or
 //! `Apple`, and in the functions that read and write the header.
+//!
+//! Choices, and why:
+//! - The table of the CRC is the definition's, entry by entry: the checker computes it.
 #![tactic(auto)]
 
 mod apple;

@@ -69,8 +69,9 @@ pub fn every_application()
     spelled_rows_are_rows();
 }
 
-/// A law, with nothing to run: the entries of a list's own catalogue, wherever they were read, give the list again. Only where
-/// protected resources may not be changed, the first entry of such a resource is refused (219).
+/// A law, with nothing to run: where no two resources of a list have the same type and id, the entries of its own catalogue,
+/// wherever they were read, give the list again. Only where protected resources may not be changed, the first entry of
+/// such a resource is refused (219).
 pub fn own_catalogue()
     ensures { (types : List Declaration) (moment : Moment) (over : Bool) (list : List Resource) (entries : List Entry) → KeysDiffer [] list
         → IsCatalogue types moment list (map unmarked entries) → Applied types moment over list entries (own_answer over list entries) }

@@ -21,8 +21,8 @@ pub fn written_entries_are_read()
     printed_page();
 }
 
-/// A law, with nothing to run: a file that has the text of entries has the same entries, but for their marks, at
-/// whatever position of the list of files it stands.
+/// A law, with nothing to run: a file that has the text of entries, whose types, ids, numbers and texts are in their
+/// ranges, has the same entries, but for their marks, at whatever position of the list of files it stands.
 pub fn written_catalogues_are_read()
     ensures { (entries : List Entry) → AllByRecursion IsStored entries → (file : ℕ)
         → (back : List Entry) × HasEntries file (entries_text entries) (Ok back) × (map unmarked back ≡ map unmarked entries) }

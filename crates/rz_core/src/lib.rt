@@ -5,6 +5,21 @@
 //! `jiff_core` for the calendar.
 //! A new fault is a row of the table in `message`, of its definition, and of docs/LANGUAGE.md. Definitions that
 //! several crates need stand in `specs`.
+//!
+//! Choices, and why:
+//! - Every list is a `Listing<T>`, with an alias for each use. Contracts see the plain list of its items. It is made
+//!   from a `Vec` and gives it back without memory. `FileNames` is a type of its own, since it takes and gives
+//!   `&str`.
+//! - Trees of values hold no expression and stand over `Listing` alone; `specs/formers` tells the checker that they
+//!   may.
+//! - A call that only appends to a `Bytes` takes no allocator: it grows by the one that the list keeps. Text of
+//!   several appends is made apart and appended at once, so a lent list is unchanged if memory is refused.
+//! - Attributes are flags by the crate `bitflags` (`Attr` of a resource, `MapAttributes` of a fork's map in
+//!   `rz_fork`), and contracts see the number of their bits. `impl Flags` is written by hand. Every bit is kept,
+//!   since a number in a header sets all eight bits, those without a word too. The list of flags is empty:
+//!   `bitflag_items!` makes it a constant, and a constant may not lend values that contracts see by a model. So
+//!   nothing is used that reads the list, as `all`, `from_bits`, `complement`, `from_name` and `iter`.
+//! - Messages know the whole table of faults, so that a later part of the language adds no message.
 #![tactic(auto)]
 
 mod attr;

@@ -2,6 +2,15 @@
 //! their definitions, and tokens are one expression at most.
 //! It rests on `rz_core`, `rz_lex` and `rz_words`, which says what a word may be, and is handed on.
 //! A new operator changes the grammar and the values, here and in docs/LANGUAGE.md.
+//!
+//! Choices, and why:
+//! - What leads back to itself by a `Box`, an expression, is seen by contracts as a mirror of the same shape (`Term`
+//!   of an `Expr`), and so is all that holds one, as a field or an item: contracts name no private field.
+//! - What an expression sees is three things: values of names and arrays, the bits of the resource, and the facts.
+//!   Places of labels, in rows too, counts of rows and numbers of rows have keys of one type. `Env` answers one
+//!   question of names, the whole value of a key, and two more, of bits and of facts.
+//! - `Env` is a trait without default bodies: one would be proved once for all implementations, and couldn't use what
+//!   one of them alone has, so an exact clause would have no proof.
 #![tactic(auto)]
 
 mod constant;

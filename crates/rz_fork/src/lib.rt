@@ -4,6 +4,13 @@
 //! is lent from the bytes: a view and a walk over it take no memory, and only `copy_all` copies.
 //! It rests on `rz_core`, `bitflags`, `indexmap` and `thiserror`.
 //! What a fork is stands in `specs` and in docs/FORMATS.md, which change together.
+//!
+//! Choices, and why:
+//! - A fork is read in place. A walk visits all resources in time that is linear in types and references; the
+//!   resource at a position is looked for among the types before it.
+//! - Admission looks back over nothing. Codes of types are sorted, and compared one by one only where two are equal,
+//!   to name the first that stands twice. Ids are marked in a table of all 65,536, and each type's marks are cleared
+//!   after it. Both tables are on the stack.
 #![tactic(auto)]
 
 mod admit;

@@ -53,11 +53,11 @@ pub fn tokens_are_lexed()
     ensures { (mark : Mark) (line : List ℕ) (tokens : List Token) → Cuts mark line tokens → AreLexed tokens }
 {}
 
-/// A law, with nothing to run: a token that is written as its text is the next token of a line that
-/// begins with it, for any text after it that does not go on with it. The digits of a number below 2^32
-/// have that number in each base, whatever zeros stand before them, and the digits of bytes have those
-/// bytes, whatever blanks stand between them. A line is the next token and the tokens of what follows; blanks
-/// in front change nothing.
+/// A law, with nothing to run: a token that is written as its text (a word or number of at most 255 bytes, a literal of
+/// one to four bytes) is the next token of a line that begins with it, for any text after it that does not go on with
+/// it. Digits of a number below 2^32 have that number in each base, with whatever zeros before them, and digits of
+/// bytes those bytes, with whatever blanks between. A line is the next token and the tokens of what follows; blanks in
+/// front change nothing.
 pub fn cut_back()
     ensures word { (mark : Mark) (word after : List ℕ)
         → is_word word ≡ true → length word ≤ 255 → begins_word after ≡ false

@@ -4,6 +4,10 @@
 //! It rests on `rz_core` and `memchr`.
 //! A new kind of token changes `token` and its definitions, `rz_pre_tokens`, which stores tokens, and
 //! docs/LANGUAGE.md.
+//!
+//! Choices, and why:
+//! - A source owns its text and gives it line by line (`Lexer`): a file is read whole when it is opened, and of its
+//!   lines only the one that is asked for is held.
 #![tactic(auto)]
 
 mod classes;

@@ -6,6 +6,13 @@
 //! `rz_pre_tokens` and `indexmap`.
 //! What a program means is `specs/Program.antt`; a new directive changes `line`, and `directive` of `rz_pre_source`.
 //! The laws above it, in the words of the language, stand in `rz_pre_laws`.
+//!
+//! Choices, and why:
+//! - An included file is read where its line stands, so the recursion of the call over the at most sixteen open files
+//!   is the stack of the sources: each call owns one, and its text goes when the call returns. A stack in a list of
+//!   its own would hold the same, and show nothing more.
+//! - Macros stand in an `IndexMap`, so that the work stays in proportion to them. A macro keeps its row when it is
+//!   defined again or undefined, so a position stays right while an identifier is replaced.
 #![tactic(auto)]
 
 mod act;

@@ -6,6 +6,11 @@
 //! It rests on `rz_core`, `rz_folder`, `rz_folder_paths`, `rz_lex`, `rz_words`, `rz_expr`, `rz_pre_source`,
 //! `rz_pre_tokens` and `rz_pre`.
 //! A new directive is a case of what lines do (`specs/Line` of `rz_pre`), and of the laws that speak of each.
+//!
+//! Choices, and why:
+//! - There are two meanings of a program, proved to be one. `Program` follows files and lines as they nest, and the
+//!   code is proved against it; `Unfolding` is one list of what is read. `one_list_of_entries` says both ways that
+//!   they are one.
 #![tactic(auto)]
 
 mod laws;

@@ -1,6 +1,14 @@
 //! Long lists of tokens in little memory: 16 bytes for each token, and one store for all bytes of words, literals
 //! and texts. Contracts see a store, and the reader of one, as a list of tokens. They are read from the first on.
 //! It rests on `rz_core` and `rz_lex`: a new kind of token there is a new `Kind` here.
+//!
+//! Choices, and why:
+//! - The tokens of a program are read once, from the front. A statement is copied out when its turn comes, so one is
+//!   held at a time. A token of 2^32 bytes or more, or in a file after the first 2^32, has no room in the store, and
+//!   is answered as out of memory.
+//! - The memory of tokens that were read is given back, since a statement's tokens and all that is made of them are
+//!   held beside those that wait: once more than 4,096 places and an eighth of all are empty. Their bytes stay until
+//!   the end.
 #![tactic(auto)]
 
 mod piece;

@@ -5,6 +5,12 @@
 //! `specs/After.antt` and, for a change, in `specs/Change.antt`. Resources of a list that is read in place need no copy
 //! before it is known which of them are put: `included_as` tells the included ones by types and ids alone,
 //! `forbidden_at` those that may not be replaced, and `put_each` puts the copies.
+//!
+//! Choices, and why:
+//! - The resources stand in an `IndexMap`, so that the work stays in proportion to them; definitions stay plain
+//!   lists. That no two have the same type and id, and that names are short, is the promise of `ResSet`. One resource
+//!   is taken out by its key, and is changed where it stands if it keeps its type and id; a change of several, or to
+//!   another type or id, makes a new table.
 #![tactic(auto)]
 
 mod among;

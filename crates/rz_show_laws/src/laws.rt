@@ -33,11 +33,12 @@ pub fn printed_rows()
     rules_hold_within();
 }
 
-/// A law, with nothing to run: the text of resources, each shown by its bytes or by a row of its type's fields, is lines
-/// that are cut into tokens, wherever it stands. Their words are those of statements, of attributes and of truth, and
-/// names that are no live macros. Tokens like these, whatever lines they stand on, are statements, one for each resource,
-/// within the limits of statements: the `data` statement with its type, id, name, attributes and bytes, or the `resource`
-/// statement with its type, id, name, attributes and items that fit the row. `true` and `false` are no live macros.
+/// A law, with nothing to run: the text of resources, each shown by its bytes or by a row of fields that keep the rules,
+/// whose texts are no longer than their lengths can say and whose cases have no names of live macros, is lines that are
+/// cut into tokens, wherever it stands. Their words are those of statements, of attributes and of truth, and names that
+/// are no live macros. Such tokens, on whatever lines, are statements within the limits, one for each resource: with its
+/// type, id, name and attributes the `data` statement of its bytes, or the `resource` statement of items that fit the
+/// row. `true` and `false` are no live macros.
 pub fn shown_text()
     ensures { (hidden : List ℕ → Bool) (list : List Showing) → SparesTruth hidden → AllByRecursion (CanBeShown hidden) list
         → IsPrintedAs hidden (showings_text hidden list) list }

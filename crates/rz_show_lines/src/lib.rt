@@ -4,6 +4,10 @@
 //! of `rz_show_lines_laws`. It rests on `rz_core`, `rz_lex` and `rz_words`, which has the words of attributes, on
 //! `bitflags` for attributes, on `arrayvec` for lines, and on `itoa` for numbers in decimal.
 //! A new token is a case of `specs/Written`, of `token` and of the laws; a new form of a number is one of `Single` too.
+//!
+//! Choices, and why:
+//! - A line is written on the stack. The 512 bytes are 32 blanks, and a piece of a text of 64 bytes, each of which is
+//!   shown by four at most, with what stands around it.
 #![tactic(auto)]
 
 mod head;

@@ -5,6 +5,12 @@
 //! `rz_stmt_data`, `rz_stmt_items`, `rz_stmt_lists`, `rz_stmt_fields` and `rz_stmt_type`, and hands on what the crates
 //! above need of them. A new statement is a crate beside `rz_stmt_data`, `rz_stmt_items`, `rz_stmt_lists` and
 //! `rz_stmt_type`, a case of `Stmt` here and one of `step` in `rz_tools`.
+//!
+//! Choices, and why:
+//! - The form of a statement comes first, and values after, so that each of the two is one relation, and a fault of
+//!   form comes before any fault of a value. Pieces between punctuation (headers, fields, cases, items) are cut
+//!   first, outside further brackets, and each piece is then read whole: so an expression is told without what may
+//!   follow it.
 #![tactic(auto)]
 
 mod grammar;

@@ -5,6 +5,10 @@
 //! A new outcome changes `Outcome`, its line in `specs/Message.antt`, and `Ends` and `SaysOf` of `specs/Carried.antt`;
 //! a new option, and what a new command does, the explanation in the help text, whose usage is that of the table of
 //! commands; a new warning its number in `specs/Warning.antt`.
+//!
+//! Choices, and why:
+//! - An answer is a list of writes, and one text for each stream, so that a command that writes two files has a
+//!   place. What each outcome leaves is one table (`Ends`), which a new command doesn't change.
 #![tactic(auto)]
 
 mod carry;

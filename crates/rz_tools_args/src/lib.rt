@@ -3,6 +3,10 @@
 //! It rests on `rz_core`, `rz_lex`, `rz_words`, `rz_expr`, `rz_pre_source`, `rz_pre` and `rz_bridge_form`.
 //! What a command takes is a line of one table, `syntax_of`, with its definition; a new option is a variant of `Flag`
 //! or `Switch`, and the commands that take it name it in their lines.
+//!
+//! Choices, and why:
+//! - The answer to arguments is a relation, as what tokens a line has; that there is one, and only one, are laws. So
+//!   `run` speaks of it also if a run ends with a read fault or out of memory.
 #![tactic(auto)]
 
 mod command;

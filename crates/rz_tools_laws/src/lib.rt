@@ -6,6 +6,10 @@
 //! crates whose words it speaks. A new statement that declares types is a case of what `rz_tools` proves of the table
 //! (`proofs/EveryMeaning` there) and of `shaped_statement` here (`proofs/Templates`), and one of `only_declares`
 //! (`specs/Behind`).
+//!
+//! Choices, and why:
+//! - The round trip is a law of definitions: what is admitted, shown and read means the same. What `run` says of
+//!   `derez` follows, and no code carries it along.
 #![tactic(auto)]
 
 mod laws;

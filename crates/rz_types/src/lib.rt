@@ -7,6 +7,11 @@
 //! A new rule changes the definitions of the rules and the walk, `specs/Kept`, and the code in `rz_types_check`; a new kind of
 //! field, `least`, `readable` and each rule that speaks of it, beside what `rz_types_fields` says; a new kind of name,
 //! `Note` and what it means, and `specs/Names`.
+//!
+//! Choices, and why:
+//! - A body has its shape from the grammar (`Shape.is_well_shaped`): that widths fit types, that symbols are in their
+//!   range, that arrays and switches stand at most 60 deep. `check` of `rz_types_check` tests only what the grammar
+//!   leaves open, and nothing else makes a template; so whoever is lent one knows that it keeps the rules.
 #![tactic(auto)]
 
 mod cases;

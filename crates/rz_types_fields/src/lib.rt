@@ -14,6 +14,11 @@
 //! strings and what has fields within it, in `rz_stmt_type`, which has the values of constants too, the item that fits it
 //! in `rz_stmt_items`, and what `rz_layout` lays. A new kind of name is a case of `Key` in `rz_expr` and of `Note`; one that
 //! a field gives, of `gives_key`. A new kind of value is a variant of `Tree`, with a call of `rz_types::values`.
+//!
+//! Choices, and why:
+//! - What only few parts of a string have is boxed: the file, type and key of a `$$Resource`, and a format with its
+//!   arguments. So each of millions of plain parts takes 32 bytes, and the memory of all text tokens at the front of
+//!   a string is taken at once.
 #![tactic(auto)]
 
 mod expressions;

@@ -16,7 +16,8 @@ use rz_bits::{
 };
 use rz_types::rules_hold_within;
 
-/// A law, with nothing to run: under a declaration that can be read, a row that is read of bytes spells them plainly.
+/// A law, with nothing to run: under a declaration that can be read, a row that is read of at most 16,777,212 bytes spells
+/// them plainly.
 pub fn read_rows_are_plain()
     ensures { (known : Facts) (body : PlainBody) (row : List Tree) (bytes : List ℕ) → is_well_shaped body ≡ true → keeps_rules body ≡ true
         → is_readable body ≡ true → length bytes ≤ 16777212 → ((k : ℕ) → slice_index bytes k < 256)

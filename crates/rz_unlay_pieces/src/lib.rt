@@ -6,6 +6,11 @@
 //! the last of them. Labels that stand ahead at a known distance are looked for in the fields, and aren't noted.
 //! A new kind of name is a case of `Note` of `rz_types_fields`, of `SpotEnv` and of `solve`. Texts are read in
 //! `rz_unlay_texts`; the pieces of a field of whatever kind, and arrays, switches and bodies, in `rz_unlay`.
+//!
+//! Choices, and why:
+//! - After an array the labels in its rows are kept as one list of places, row by row, until the body of the array
+//!   ends: 4 bytes for each label in each row. So a label with an index takes one look into the list, however many
+//!   rows there are. An array that has rows, and no labels in them, keeps nothing.
 #![tactic(auto)]
 
 mod ahead;

@@ -4,6 +4,10 @@
 //! Reserved words are one table (`keyword`), the words of attributes another (`attribute`), which `rz_stmt_data` reads
 //! and `rz_show_lines` writes, and the names of `$$` functions a third (`words`). A new word changes its table, the
 //! definition beside it, and docs/LANGUAGE.md.
+//!
+//! Choices, and why:
+//! - Words are tables: reserved words (`Keyword`) and words of attributes, which identifiers, the grammar and the
+//!   shown text cite. What a constant is stands in `rz_expr`.
 #![tactic(auto)]
 
 mod attribute;
