@@ -14,8 +14,9 @@ import sys
 
 import top  # noqa: F401
 from casefile import Book
-from det_cases import BASE, ONE, RULES, TWO, Changes, put, told
+from det_cases import BASE, ONE, RULES, TWO, Changes, put
 from fork_cases import SHAPES
+from model.breaks import breaks
 from model.faults import NAMES, Refused
 from model.fork import image
 from model.forms import File, crc, dated, double, entries_of, form_of, hqx, hqx_head, hqx_text, macbin, parts_of, single, written
@@ -278,10 +279,10 @@ def broken():
     for kind, count in (("one field", 30), ("some bytes", 20), ("two fields", 20), ("bytes taken out", 10)):
         for made in range(count):
             data = changes.changed(kind)
-            while data in seen or made % 2 == 0 and told(data) or form_of(data) != "raw":
+            while data in seen or made % 2 == 0 and breaks(data) or form_of(data) != "raw":
                 data = changes.changed(kind)
             seen.add(data)
-            faults = told(data)
+            faults = breaks(data)
             sound += not faults
             if faults:
                 number, offset, value = faults[0]

@@ -161,7 +161,7 @@ def changed_sources(copy):
     os.rename(other, other + "~")
     copy.answers("a file that is no source")
     os.remove(other + "~")
-    write(copy.path("crates/rz_test_text/src/lib.rt"), "")
+    write(copy.path("crates/rz_test_host/src/lib.rt"), "")
     copy.answers("a source of a crate that the program doesn't stand on")
 
 
@@ -286,7 +286,7 @@ def proving(copy):
     fails = copy.tools("fails", rt=check + "echo 'rt: rz_lex NOT PROVED'\nexit 1\n")
     # What is proved is a repository of the program's crates alone, without edits that must fail.
     proves = copy.tools("proves", rt=check + "[ $(wc -l <crates.txt) = $(ls crates | wc -l) ]\n[ ! -e crates/rz_lex/must-fail ]\n"
-                        "[ ! -e crates/rz_test_text ]\ngrep -q another crates/rz_lex/src/lexer.rt\n[ -s HANDLES ]\n"
+                        "[ ! -e crates/rz_test_host ]\ngrep -q another crates/rz_lex/src/lexer.rt\n[ -s HANDLES ]\n"
                         "mkdir -p crates/rezkit/out\ncp \"%s\" crates/rezkit/out/rezkit\n" % copy.path("prebuilt/rezkit"))
     others = os.pathsep + os.environ.get("PATH", os.defpath)
     copy.refuses("proofs that fail", said, path=fails + others, front=True)

@@ -4,6 +4,7 @@ It knows nothing of the code. type_files.py reads the type files, and label_read
 """
 from datetime import datetime, timedelta
 
+from model.fork import admitted
 from model.forms import form_of, read_form
 from model.label_reading import read
 from model.label_types import Array, Number, Points, Switch, Text
@@ -125,28 +126,6 @@ def resource_text(resource, table, hidden, moment):
     return "\n".join([head_text(word, resource)] + lines + ["};", "", ""])
 
 
-def resources_of(fork):
-    """The resources of an admitted fork: type, id, name, attributes and bytes."""
-    def at(place, size):
-        return int.from_bytes(fork[place:place + size], "big")
-
-    if not fork:
-        return []
-    out, data, plan = [], at(0, 4), at(4, 4)
-    types, names = plan + at(plan + 24, 2), plan + at(plan + 26, 2)
-    for number in range((at(types, 2) + 1) % 65536):
-        entry = types + 2 + 8 * number
-        for place in range((at(entry + 4, 2) + 1) % 65536):
-            one = types + at(entry + 6, 2) + 12 * place
-            name, start = b"", data + at(one + 5, 3)
-            if at(one + 2, 2) != 0xFFFF:
-                begin = names + at(one + 2, 2)
-                name = fork[begin + 1:begin + 1 + fork[begin]]
-            ident = signed(at(one, 2), 16)
-            out.append((fork[entry:entry + 4], ident, name, fork[one + 4], fork[start + 4:start + 4 + at(start, 4)]))
-    return out
-
-
 def derez(words, files, moment=0):
     """What `derez` with these words shows, so many seconds after the first one of 1970."""
     names, macros, paths, only, skip, form, templates = [], {}, [], [], [], None, None
@@ -172,5 +151,5 @@ def derez(words, files, moment=0):
     table = declarations_of(tokens, templates_of(files[templates]) if templates else ())
     only, skip = [[each.encode("mac_roman") for each in kinds] for kinds in (only, skip)]
     fork = read_form(form or form_of(files[names[0]]), files[names[0]]).res
-    chosen = [each for each in resources_of(fork) if (not only or each[0] in only) and each[0] not in skip]
+    chosen = [each for each in admitted(fork)[0] if (not only or each[0] in only) and each[0] not in skip]
     return "".join(resource_text(each, table, set(macros), moment) for each in chosen)

@@ -12,15 +12,11 @@ of docs/FORMATS.md and nothing of the code: the first broken rule, or each byte 
 is how often each answer came. The status is 1 if another came, or the program ended in another way. This is no part
 of the gate.
 """
-import collections
 import glob
 import os
 import random
-import re
 import struct
-import subprocess
 import sys
-import tempfile
 
 from top import TOP
 from model.breaks import breaks, text_of
@@ -30,16 +26,10 @@ from model.fork import admitted, image
 from model.forms import ALPHABET, MAGICS, File, checked, crc, form_of, hqx_head, hqx_text, macbin, read_form, written
 from model.shown import resource_text
 from running import program_to_run
+from runs import run_all
 
 FORMS = ("raw", "double", "single", "macbin", "hqx")
 MOST_FILE, MOST = 2_000_000, 60_000  # the bytes of a file that is read, and of a resource that is taken
-SECONDS = 60
-
-
-def names_of_faults():
-    """The names of the faults, by their numbers: those of files of other systems, and the others."""
-    with open(os.path.join(TOP, "docs", "FORMATS.md"), encoding="utf-8") as file:
-        return {int(number): name for number, name in re.findall(r"^\| (4\d\d) \| (\w+) \|", file.read(), re.M)} | {428: "ForkTooLong"}
 
 
 def resources_of_cases():
@@ -200,60 +190,36 @@ def answer_of_det(out):
     return "broken " + (count if len(count) == 1 else "10 or more")
 
 
-class Runs:
-    """A program, the answers that came, and how many of them were others."""
+def run(runs, number, words, files, expected):
+    """Runs the program on files, of which `expected` gives the output and what it makes of them, or refuses."""
+    try:
+        out, made = expected()
+        wanted, answer = (0, out, b"", made), "done" if words[0] != "det" else answer_of_det(out)
+    except Refused as refused:
+        wanted, answer = (2, b"", ("rezkit: error %s\n" % refused).encode(), {}), str(refused).split(":")[0]
+    runs.run(number, words, files, wanted, answer)
 
-    def __init__(self, program, folder):
-        self.program, self.folder, self.names = program, folder, names_of_faults()
-        self.answers, self.wrong = collections.Counter(), 0
 
-    def run(self, number, words, files, expected):
-        for name in os.listdir(self.folder):
-            os.remove(os.path.join(self.folder, name))
-        for name, data in files.items():
-            with open(os.path.join(self.folder, name), "wb") as file:
-                file.write(data)
-        try:
-            out, made = expected()
-            wanted = (0, out, b"", {**files, **made})
-            answer = "done" if words[0] != "det" else answer_of_det(out)
-        except Refused as refused:
-            says = "rezkit: error %d %s%s\n" % (refused.number, self.names[refused.number], ": " + refused.kept if refused.kept else "")
-            wanted, answer = (2, b"", says.encode(), files), "%d %s" % (refused.number, self.names[refused.number])
-        ran = subprocess.run([self.program, *words], cwd=self.folder, stdin=subprocess.DEVNULL, stdout=subprocess.PIPE,
-                             stderr=subprocess.PIPE, timeout=SECONDS)
-        left = {}
-        for name in os.listdir(self.folder):
-            with open(os.path.join(self.folder, name), "rb") as file:
-                left[name] = file.read()
-        self.answers[words[0], answer] += 1
-        for what, one, other in zip(("status", "out", "err", "files"), wanted, (ran.returncode, ran.stdout, ran.stderr, left)):
-            if one != other:
-                self.wrong += 1
-                print("file %d: %s: %s\n  wanted: %.300r\n  came:   %.300r" % (number, " ".join(words), what, one, other))
+def steps(runs, count, maker):
+    for number in range(count):
+        form = FORMS[number % len(FORMS)]
+        data = maker.in_form(form, maker.file(maker.changed_fork(maker.fork())))
+        given = maker.some(None, None, form)
+        behind = ["-from", given] if given else []
+        files = {"f": data}
+        run(runs, number, ["derez", "f", *behind], files, lambda: shown(data, given))
+        run(runs, number, ["det", "f", *behind], files, lambda: told(data, given))
+        own, to = maker.some(None, b"its data fork"), maker.some(*FORMS)
+        files = {**files, "f.data": own} if own else files
+        run(runs, number, ["bridge", "f", *behind, "-to", to, "-o", "x"], files, lambda: carried(data, own, given, to))
 
 
 def main():
     arguments = sys.argv[1:] + [None] * 3
     program = os.path.abspath(arguments[0] or program_to_run())
     count, maker = int(arguments[1] or 4000), Maker(int(arguments[2] or 1))
-    with tempfile.TemporaryDirectory(prefix="rezkit-mutated-") as folder:
-        runs = Runs(program, folder)
-        for number in range(count):
-            form = FORMS[number % len(FORMS)]
-            data = maker.in_form(form, maker.file(maker.changed_fork(maker.fork())))
-            given = maker.some(None, None, form)
-            behind = ["-from", given] if given else []
-            files = {"f": data}
-            runs.run(number, ["derez", "f", *behind], files, lambda: shown(data, given))
-            runs.run(number, ["det", "f", *behind], files, lambda: told(data, given))
-            own, to = maker.some(None, b"its data fork"), maker.some(*FORMS)
-            files = {**files, "f.data": own} if own else files
-            runs.run(number, ["bridge", "f", *behind, "-to", to, "-o", "x"], files, lambda: carried(data, own, given, to))
-    for (command, answer), times in sorted(runs.answers.items()):
-        print("%-7s %-22s %6d" % (command, answer, times))
-    print("%d files of %d resources, %d runs, %d differences" % (count, len(maker.resources), sum(runs.answers.values()), runs.wrong))
-    sys.exit(1 if runs.wrong else 0)
+    run_all(program, "rezkit-mutated-", lambda runs: steps(runs, count, maker),
+            "%d files of %d resources" % (count, len(maker.resources)))
 
 
 if __name__ == "__main__":

@@ -13,104 +13,12 @@ import random
 import sys
 
 import top  # noqa: F401
+from model import shown
 from model.case_lines import byte_lines
+from model.faults import Refused
 from model.fork import fork_of
 from model.label_types import quotient, wrapped
 from model.quoting import quoted
-
-# The resource fork.
-
-
-def field(content, offset, size):
-    return int.from_bytes(content[offset:offset + size], "big")
-
-
-class Broken(Exception):
-    """The first broken rule, as the line of a fault says it."""
-
-
-def require(holds, rule, offset, value):
-    if not holds:
-        raise Broken("%s: %d %d" % (rule, offset, value))
-
-
-def types_of(fork, at_map, map_length, type_list):
-    """The types of a map: each with its number of references, its list's offset in the map, and its own offset."""
-    require(type_list + 2 <= map_length, "405 TypeListOutside", at_map + 24, type_list)
-    count = (field(fork, at_map + type_list, 2) + 1) % 65536
-    fits = type_list + 2 + 8 * count <= map_length and count <= 8192
-    require(fits, "406 TypesOutside", at_map + type_list, count)
-    entries = [at_map + type_list + 2 + 8 * k for k in range(count)]
-    return [(fork[at:at + 4], (field(fork, at + 4, 2) + 1) % 65536, type_list + field(fork, at + 6, 2), at)
-            for at in entries]
-
-
-def admitted(fork):
-    """The resources of a fork, in the order of its map."""
-    if not fork:
-        return []
-    require(len(fork) >= 16, "401 ShortHeader", 0, len(fork))
-    at_data, at_map, data_length, map_length = (field(fork, k, 4) for k in (0, 4, 8, 12))
-    fits = at_data < 16777216 and at_data + data_length <= len(fork)
-    require(fits, "402 DataAreaOutside", 0, data_length)
-    require(at_map + map_length <= len(fork), "403 MapOutside", 4, map_length)
-    require(map_length >= 28, "404 ShortMap", 12, map_length)
-    name_list = field(fork, at_map + 26, 2)
-    types = types_of(fork, at_map, map_length, field(fork, at_map + 24, 2))
-    total = 0
-    for _, count, offset, _ in types:
-        total += count
-        fits = offset + 12 * count <= map_length and total <= 16384
-        require(fits, "407 ReferencesOutside", at_map + offset, count)
-    references = [(kind, at_map + offset + 12 * k) for kind, count, offset, _ in types for k in range(count)]
-    for _, at in references:
-        data = field(fork, at + 5, 3)
-        require(data + 4 <= data_length, "408 DataOutside", at_data + data, 0)
-        length = field(fork, at_data + data, 4)
-        require(data + 4 + length <= data_length, "408 DataOutside", at_data + data, length)
-    for _, at in references:
-        name = field(fork, at + 2, 2)
-        start = name_list + name
-        fits = name == 0xFFFF or start + 1 <= map_length and start + 1 + fork[at_map + start] <= map_length
-        require(fits, "409 NameOutside", at_map + start, name)
-    for k, (kind, _, _, at) in enumerate(types):
-        require(kind not in [other[0] for other in types[:k]], "410 Repeated", at, field(kind, 0, 4))
-    keys = set()
-    for kind, at in references:
-        key = (kind, field(fork, at, 2))
-        require(key not in keys, "410 Repeated", at, key[1])
-        keys.add(key)
-    return [resource_at(fork, kind, at, at_data, at_map + name_list) for kind, at in references]
-
-
-def resource_at(fork, kind, at, at_data, at_names):
-    ident, name, data = field(fork, at, 2), field(fork, at + 2, 2), at_data + field(fork, at + 5, 3)
-    start = at_names + name
-    text = b"" if name == 0xFFFF else fork[start + 1:start + 1 + fork[start]]
-    content = fork[data + 4:data + 4 + field(fork, data, 4)]
-    return kind, ident - 65536 * (ident >= 32768), text, fork[at + 4], content
-
-
-# The text of derez.
-
-WORDS = [(0x40, "sysheap"), (0x20, "purgeable"), (0x10, "locked"), (8, "protected"), (4, "preload"), (2, "changed")]
-
-
-def text_of(kind, ident, name, attr, content):
-    """A `data` statement and an empty line."""
-    head = str(ident)
-    if len(name) > 64:
-        head += "," + "".join("\n    " + quoted(name[at:at + 64], '"') for at in range(0, len(name), 64))
-    elif name:
-        head += ", " + quoted(name, '"')
-    if attr & 0x81:
-        head += ", $%02X" % attr
-    else:
-        head += "".join(", " + word for bit, word in WORDS if attr & bit)
-    rows = [content[at:at + 16].hex().upper() for at in range(0, len(content), 16)] or [""]
-    lines = ['    $"%s"\n' % " ".join(row[at:at + 4] for at in range(0, len(row), 4)) for row in rows]
-    return "data %s (%s) {\n%s};\n\n" % (quoted(kind, "'"), head, "".join(lines))
-
 
 def some_bytes(count):
     return bytes(random.choice([random.randrange(256), random.randrange(32, 127)]) for _ in range(count))
@@ -129,7 +37,7 @@ def some_fork():
     for each in (some_resource() for _ in range(random.choice([0, 1, 1, 2, 3, 5]))):
         resources.setdefault(each[:2], each)
     fork = bytearray(fork_of(list(resources.values())))
-    at_map = field(fork, 4, 4)
+    at_map = int.from_bytes(fork[4:8], "big")
     for _ in range(random.choice([0, 0, 1, 1, 1, 2, 3])):
         ranges = [(0, 16), (at_map + 16, len(fork)), (at_map + 16, len(fork)), (256, len(fork))]
         at = random.randrange(*random.choice(ranges))
@@ -143,10 +51,10 @@ def fork_case(k):
     fork = some_fork()
     given = "case fork %d\nwords derez f -from raw\nfile bytes f\n%s" % (k, byte_lines(fork))
     try:
-        shown = "".join(text_of(*each) for each in admitted(fork))
-    except Broken as rule:
+        text = shown.derez(["f", "-from", "raw"], {"f": fork})
+    except Refused as rule:
         return given + "status 2\nerr text\n| rezkit: error %s\n" % rule
-    return given + "status 0\nout bytes\n" + byte_lines(shown.encode())
+    return given + "status 0\nout bytes\n" + byte_lines(text.encode())
 
 
 # Expressions.
@@ -170,16 +78,16 @@ UNARY = {"-": lambda a: -a, "~": lambda a: ~a, "!": lambda a: a == 0}
 
 
 def value_of(tree):
-    """The value of an expression, or its first fault as `Broken`."""
+    """The value of an expression, or its first fault."""
     if len(tree) == 1:
         return wrapped(tree[0])
     if len(tree) == 2:
         return wrapped(int(UNARY[tree[0]](value_of(tree[1]))))
     sign, left, right = tree[0], value_of(tree[1]), value_of(tree[2])
     if sign in ("/", "%") and right == 0:
-        raise Broken("211 ZeroDivisor")
+        raise Refused(211)
     if sign in ("<<", ">>") and not 0 <= right <= 31:
-        raise Broken("215 BadShift: %d" % right)
+        raise Refused(215, right)
     return wrapped(int(BINARY[sign](left, right)))
 
 
@@ -217,8 +125,8 @@ def id_case(text, tree):
     try:
         value = value_of(tree)
         if not -32768 <= value <= 32767:
-            raise Broken("204 BadId: %d" % value)
-    except Broken as fault:
+            raise Refused(204, value)
+    except Refused as fault:
         return given + "status 2\nerr text\n| rezkit: e.r:1: error %s\n" % fault
     return given + "status 0\nleaves bytes x\n" + byte_lines(fork_of([(b"Test", value, b"", 0, b"")]))
 
@@ -227,7 +135,7 @@ def condition_case(text, tree):
     given = "| #if %s\n| data 'Test' (1) { };\n| #endif\n" % text
     try:
         chosen = [(b"Test", 1, b"", 0, b"")] if value_of(tree) else []
-    except Broken:
+    except Refused:
         return given + "status 2\nerr text\n| rezkit: e.r:1: error 114 BadCondition\n"
     return given + "status 0\nleaves bytes x\n" + byte_lines(fork_of(chosen))
 

@@ -11,13 +11,10 @@ message, for five catalogues: that of the fork itself, and others with changed t
 too many, or with something changed in their bytes. Printed is how often each answer came. The status is 1 if another
 came. This is no part of the gate.
 """
-import collections
 import os
 import random
 import re
-import subprocess
 import sys
-import tempfile
 
 import top  # noqa: F401
 from random_rows import labelled, unlabelled
@@ -27,10 +24,10 @@ from model.fork import image
 from model.forms import File, written
 from model.type_files import declarations_of, tokens_of
 from running import program_to_run
+from runs import run_all
 
 FORMS = ("raw", "double", "single", "macbin", "hqx")
 LETTERS = [0, 34, 39, 92, 97, 98, 99, 233, 255]
-SECONDS = 60
 
 
 def some_text(old):
@@ -98,33 +95,25 @@ def told(command, words, files):
         return 2, None, ("rezkit: %s\n" % message(fault, words[1])).encode()
 
 
-class Runs:
-    """A program, how often each answer came, and how many others did."""
+def run(runs, number, words, files, command):
+    """Runs the program on files, of which the model of a command tells what it leaves."""
+    status, value, err = told(command, words[1:], files)
+    out = value.encode() if isinstance(value, str) else b""
+    made = dict([value]) if isinstance(value, tuple) else {}
+    answer = re.sub(rb".*error (\d+ \w+).*\n", rb"\1", err).decode() or "done"
+    runs.run(number, words, files, (status, out, err, made), answer)
 
-    def __init__(self, program, folder):
-        self.program, self.folder, self.answers, self.wrong = program, folder, collections.Counter(), 0
 
-    def run(self, number, words, files, wanted):
-        for name in os.listdir(self.folder):
-            os.remove(os.path.join(self.folder, name))
-        for name, data in files.items():
-            with open(os.path.join(self.folder, name), "wb") as file:
-                file.write(data)
-        ran = subprocess.run([self.program, *words], cwd=self.folder, stdin=subprocess.DEVNULL, stdout=subprocess.PIPE,
-                             stderr=subprocess.PIPE,
-                             timeout=SECONDS, env={**os.environ, "SOURCE_DATE_EPOCH": "0"})
-        left = {}
-        for name in os.listdir(self.folder):
-            with open(os.path.join(self.folder, name), "rb") as file:
-                left[name] = file.read()
-        status, value, err = wanted
-        out = value.encode() if isinstance(value, str) else b""
-        made = dict([value]) if isinstance(value, tuple) else {}
-        self.answers[words[0], re.sub(rb".*error (\d+ \w+).*\n", rb"\1", err).decode() or "done"] += 1
-        if (ran.returncode, ran.stdout, ran.stderr, left) != (status, out, err, {**files, **made}):
-            self.wrong += 1
-            print("%d: %s\n%s\n  wanted: %r %.300r %r\n  came:   %r %.300r %r" % (
-                number, " ".join(words), {name: data for name, data in files.items()}, status, out, err, ran.returncode, ran.stdout, ran.stderr))
+def steps(runs, count):
+    for number in range(count):
+        types, resources, data = some_file()
+        files = {"f": data, "t.r": types.encode()}
+        run(runs, number, ["strings", "f", "t.r"], files, strings)
+        table = declarations_of(tokens_of(re.sub(r"(?m)^#.*$", "", types)))
+        own = entries_in(table, resources)
+        for catalogue in catalogues(own):
+            words = ["f", "c", "t.r", "-o", "x"] + ["-ov"] * (random.random() < 0.5)
+            run(runs, number, ["restring", *words], {**files, "c": catalogue}, restring)
 
 
 def main():
@@ -132,22 +121,7 @@ def main():
     program = os.path.abspath(arguments[0] or program_to_run())
     count = int(arguments[1] or 2000)
     random.seed(int(arguments[2] or 1))
-    with tempfile.TemporaryDirectory(prefix="rezkit-catalogues-") as folder:
-        runs = Runs(program, folder)
-        for number in range(count):
-            types, resources, data = some_file()
-            files = {"f": data, "t.r": types.encode()}
-            runs.run(number, ["strings", "f", "t.r"], files, told(strings, ["f", "t.r"], files))
-            table = declarations_of(tokens_of(re.sub(r"(?m)^#.*$", "", types)))
-            own = entries_in(table, resources)
-            for catalogue in catalogues(own):
-                words = ["f", "c", "t.r", "-o", "x"] + ["-ov"] * (random.random() < 0.5)
-                given = {**files, "c": catalogue}
-                runs.run(number, ["restring", *words], given, told(restring, words, given))
-    for (command, answer), times in sorted(runs.answers.items()):
-        print("%-9s %-18s %6d" % (command, answer, times))
-    print("%d forks, %d runs, %d differences" % (count, sum(runs.answers.values()), runs.wrong))
-    sys.exit(1 if runs.wrong else 0)
+    run_all(program, "rezkit-catalogues-", lambda runs: steps(runs, count), "%d forks" % count)
 
 
 if __name__ == "__main__":

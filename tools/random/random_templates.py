@@ -10,12 +10,10 @@ bytes are of its fields, or nearly, or by chance; each text with a `resource` st
 give the fork. What comes has to be what templates.py and shown.py say, which know nothing of the code. Printed is how
 often each answer came. The status is 1 if another came. This is no part of the gate.
 """
-import collections
 import os
 import random
-import subprocess
+import re
 import sys
-import tempfile
 
 import top  # noqa: F401
 from model.faults import Refused
@@ -27,6 +25,7 @@ from model.shown import derez
 from model.templates import COUNTS, FIELDS, LISTS, types_of
 from model.type_files import Reader, tokens_of
 from running import program_to_run
+from runs import run_all
 
 CODES = [*FIELDS, *COUNTS, *LISTS, "LSTE"]
 OTHERS = ["BOOL", "BBIT", "LSTZ", "H010", "dbyt", "\0\0\0\0"]
@@ -176,43 +175,23 @@ def wanted(templates, make):
     return fork, derez(["f", "-tmpl", "t"], {"f": fork, "t": templates}), ""
 
 
-def put(folder, name, data):
-    with open(os.path.join(folder, name), "wb") as file:
-        file.write(data)
-
-
-def run(program, folder, *words):
-    ran = subprocess.run([program, *words], cwd=folder, stdout=subprocess.PIPE, stderr=subprocess.PIPE, timeout=60)
-    return ran.stdout, ran.stderr, ran.returncode
+def steps(runs, count, make):
+    for number in range(count):
+        templates = make.templates()
+        fork, out, err = wanted(templates, make)
+        answer = err[14:17] or ("by fields" if re.search("^resource ", out, re.M) else "by bytes")
+        files = {"f": fork, "t": templates}
+        good = runs.run(number, ["derez", "f", "-tmpl", "t"], files, (2 if err else 0, out.encode(), err.encode(), {}), answer)
+        if good and answer == "by fields":
+            files = {"a.r": out.encode(), "t": templates}
+            runs.run(number, ["rez", "a.r", "-tmpl", "t", "-o", "g"], files, (0, b"", b"", {"g": fork}), "again")
 
 
 def main():
     program = os.path.abspath(sys.argv[1] if sys.argv[1:] else program_to_run())
     count, seed = int((sys.argv[2:] + ["10000"])[0]), int((sys.argv[3:] + ["1"])[0])
-    make, seen, wrong = Maker(seed), collections.Counter(), 0
-    with tempfile.TemporaryDirectory(prefix="rezkit-templates-") as folder:
-        for number in range(count):
-            templates = make.templates()
-            fork, out, err = wanted(templates, make)
-            put(folder, "t", templates)
-            put(folder, "f", fork)
-            came = run(program, folder, "derez", "f", "-tmpl", "t")
-            good = came == (out.encode(), err.encode(), 2 if err else 0)
-            shown = out.count("\nresource ") + out.startswith("resource ")
-            seen[err[14:17] if err else "shown"] += 1
-            seen["resources by fields"] += shown
-            seen["resources as bytes"] += out.count("\ndata ") + out.startswith("data ")
-            if good and shown:
-                put(folder, "a.r", out.encode())
-                good = run(program, folder, "rez", "a.r", "-tmpl", "t", "-o", "g") == (b"", b"", 0)
-                with open(os.path.join(folder, "g"), "rb") as file:
-                    good = good and file.read() == fork
-                seen["compiled again"] += 1
-            if not good:
-                wrong += 1
-                print("list %d: %s\n%s\n%s\n%s" % (number, templates.hex(), fork.hex(), out + err, came))
-    print("%d lists, %d otherwise: %s" % (count, wrong, ", ".join("%s %d" % each for each in sorted(seen.items()))))
-    sys.exit(1 if wrong else 0)
+    make = Maker(seed)
+    run_all(program, "rezkit-templates-", lambda runs: steps(runs, count, make), "%d lists" % count)
 
 
 if __name__ == "__main__":

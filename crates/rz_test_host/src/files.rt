@@ -1,8 +1,8 @@
 //! Calls of the host's files, and what they give, as text.
 
 use crate::steps::{in_two, show_bytes, show_done};
+use crate::text::Text;
 use rz_folder::{Folder, RealFolder, Written};
-use rz_test_tables::Text;
 use std::alloc::Global;
 use std::fs::{OpenOptions, Permissions};
 use std::os::unix::fs::{PermissionsExt, symlink};

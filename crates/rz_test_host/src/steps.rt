@@ -4,13 +4,9 @@ ghost use Rattle.std.specs.Prelude.{◌<◌, ◌^◌, ℕ, List, length};
 
 use crate::failing::{Calls, FailingFiles};
 use crate::files::{show_file_call, show_rewrite};
-use crate::forks::show_fork;
-use crate::streams::{show_over, show_unread};
-use rz_folder::{
-    Folder, HeldSink, MemFolder, MemSink, Put, Read, RealFolder, RealSink, Shelf, Sink, TextSink,
-    Written,
-};
-use rz_test_tables::Text;
+use crate::streams::{show_over, show_stream, show_unread};
+use crate::text::Text;
+use rz_folder::{Folder, Put, Read, RealFolder, Sink, Written};
 use std::alloc::Global;
 use std::cell::Cell;
 use std::io::ErrorKind;
@@ -18,47 +14,17 @@ use std::io::ErrorKind;
 /// The most bytes of a content.
 const MOST: usize = 1_000_000;
 
-/// What the calls of a table are made on.
-#[derive(Drop)]
-pub struct World {
-    pub rt: HostRuntime,
-    pub memory: MemFolder,
-    pub shelf: Shelf,
-    pub sink: MemSink,
-    pub host: RealFolder<HostRuntime>,
-}
-
-impl World {
-    /// The world before the first step: nothing is in memory, and the host is as it is.
-    pub fn new(rt: HostRuntime) -> World {
-        World {
-            rt,
-            memory: MemFolder::new(rt.alloc()),
-            shelf: Shelf::new(rt.alloc()),
-            sink: MemSink::new(rt.alloc()),
-            host: RealFolder::new(rt),
-        }
-    }
-}
-
 /// Shows what a call gives. Its first word names what it is made on.
-pub fn show_call(world: &mut World, text: &str, came: &mut Text) {
-    let rt = world.rt;
+pub fn show_call(rt: HostRuntime, host: &mut RealFolder<HostRuntime>, text: &str, came: &mut Text) {
     let (on, call) = in_two(text);
     match on {
-        "memory" => show_memory(rt.alloc(), &mut world.memory, call, came),
-        "shelf" => show_shelf(rt.alloc(), &mut world.shelf, call, came),
-        "sink" => show_sink(&mut world.sink, call, came),
-        "host" => show_folder(rt.alloc(), &mut world.host, call, came),
-        "rewrite" => show_rewrite(rt, &mut world.host, call, came),
+        "host" => show_folder(rt.alloc(), host, call, came),
+        "rewrite" => show_rewrite(rt, host, call, came),
         "failing" => show_failing(rt, call, came),
         "files" => show_file_call(rt, call, came),
         "stream" => show_stream(rt, call, came),
         "over" => show_over(rt, call, came),
         "unread" => show_unread(rt, call, came),
-        "text" => show_text(rt.alloc(), call, came),
-        "held" => show_held(rt.alloc(), call, came),
-        "fork" => show_fork(rt.alloc(), call, came),
         _ => came.fail(),
     }
 }
@@ -66,14 +32,6 @@ pub fn show_call(world: &mut World, text: &str, came: &mut Text) {
 /// The two parts of a text on both sides of its first blank.
 pub fn in_two(text: &str) -> (&str, &str) {
     text.split_once(' ').unwrap_or((text, ""))
-}
-
-/// Shows what a piece on the standard output gives, and the faults after it.
-fn show_stream(rt: HostRuntime, piece: &str, came: &mut Text) {
-    let mut sink = RealSink::new(rt.alloc(), rt.stdout());
-    show_put(&mut sink, piece, came);
-    came.put(b" ");
-    came.number(sink.faults());
 }
 
 /// Shows what a piece gives.
@@ -96,44 +54,6 @@ fn show_end(ended: Put, came: &mut Text) {
     }
 }
 
-/// Shows what two pieces give on a stream over bytes of its own, a flush, the faults, and the bytes.
-fn show_text(alloc: Global, pieces: &str, came: &mut Text) {
-    let (first, second) = in_two(pieces);
-    let mut sink = TextSink::new(alloc);
-    show_put(&mut sink, first, came);
-    came.put(b" ");
-    show_put(&mut sink, second, came);
-    came.put(b" ");
-    show_flush(&mut sink, came);
-    came.put(b" ");
-    came.number(sink.faults());
-    came.put(b" ");
-    show_bytes(sink.into_bytes().as_slice(), came);
-}
-
-/// Shows what calls give on a stream in memory that holds bytes back and has room for six, of which the call of a
-/// number fails: `!` is a flush, and each other word a piece. After them stand the faults, the bytes that are out,
-/// and all bytes.
-fn show_held(alloc: Global, call: &str, came: &mut Text) {
-    let (failing, calls) = in_two(call);
-    let mut memory = MemSink::new(alloc);
-    show_done(memory.reserve(6), came);
-    memory.fail_at(u64::from(number_in(failing, came)), 1);
-    let mut sink = HeldSink::over(memory);
-    for call in calls.split(' ') {
-        match call {
-            "!" => show_flush(&mut sink, came),
-            piece => show_put(&mut sink, piece, came),
-        }
-        came.put(b" ");
-    }
-    came.number(sink.faults());
-    came.put(b" ");
-    show_bytes(sink.out(), came);
-    came.put(b" ");
-    show_bytes(sink.bytes(), came);
-}
-
 /// A number of a call.
 pub fn number_in(text: &str, came: &mut Text) -> u32 {
     match text.parse::<u32>() {
@@ -149,38 +69,6 @@ pub fn number_in(text: &str, came: &mut Text) -> u32 {
 pub fn show_done<E: Drop>(done: Result<(), E>, came: &mut Text) {
     if done.is_err() {
         came.put(b"refused");
-    }
-}
-
-/// Shows what a call of a folder in memory gives.
-fn show_memory(alloc: Global, folder: &mut MemFolder, call: &str, came: &mut Text) {
-    match in_two(call) {
-        ("insert", rest) => {
-            let (name, content) = content_in(rest, came);
-            show_done(folder.insert(name, content), came);
-        }
-        ("reserve", rest) => {
-            let (writes, bytes) = in_two(rest);
-            let (writes, bytes) = (number_in(writes, came), number_in(bytes, came));
-            show_done(folder.reserve(writes, bytes), came);
-        }
-        ("fail", rest) => folder.fail_at(u64::from(number_in(rest, came))),
-        ("bytes", name) => match folder.bytes(name) {
-            Some(bytes) => show_bytes(bytes, came),
-            None => came.put(b"none"),
-        },
-        _ => show_folder(alloc, folder, call, came),
-    }
-}
-
-/// Shows what a call of a shelf gives.
-fn show_shelf(alloc: Global, shelf: &mut Shelf, call: &str, came: &mut Text) {
-    match in_two(call) {
-        ("insert", rest) => {
-            let (name, content) = content_in(rest, came);
-            show_done(shelf.insert(name, content), came);
-        }
-        _ => show_folder(alloc, shelf, call, came),
     }
 }
 
@@ -223,26 +111,6 @@ fn show_write<F: Folder>(folder: &mut F, call: &str, came: &mut Text) {
     match folder.write(name, content) {
         Written::Done => came.put(b"Done"),
         Written::Failed => came.put(b"Failed"),
-    }
-}
-
-/// Shows what a call of a stream in memory gives.
-fn show_sink(sink: &mut MemSink, call: &str, came: &mut Text) {
-    match in_two(call) {
-        ("reserve", rest) => {
-            let bytes = number_in(rest, came);
-            show_done(sink.reserve(bytes), came);
-        }
-        ("fail", rest) => {
-            let (call, taken) = in_two(rest);
-            let (call, taken) = (number_in(call, came), number_in(taken, came));
-            sink.fail_at(u64::from(call), taken);
-        }
-        ("put", piece) => show_put(sink, piece, came),
-        ("flush", _) => show_flush(sink, came),
-        ("bytes", _) => show_bytes(sink.bytes(), came),
-        ("faults", _) => came.number(sink.faults()),
-        _ => came.fail(),
     }
 }
 

@@ -2,9 +2,9 @@
 
 use crate::failing::{Calls, FailingFiles};
 use crate::steps::{error_of, in_two, number_in, show_bytes, show_flush, show_put};
+use crate::text::Text;
 use rz_core::NoMemory;
 use rz_folder::{RealSink, Sink};
-use rz_test_tables::Text;
 use std::alloc::Global;
 use std::cell::Cell;
 use std::io::Write;
@@ -29,6 +29,14 @@ unread buffered ab ! cd => Done 0 Failed 0 Failed 0: 2
 
 /// The name of the file.
 const NAME: &str = "rezkit-test-of-a-stream";
+
+/// Shows what a piece on the standard output gives, and the faults after it.
+pub fn show_stream(rt: HostRuntime, piece: &str, came: &mut Text) {
+    let mut sink = RealSink::new(rt.alloc(), rt.stdout());
+    show_put(&mut sink, piece, came);
+    came.put(b" ");
+    came.number(sink.faults());
+}
 
 /// Shows what the calls of a stream over a new file give where the host's call of that number fails so.
 pub fn show_over(runtime: HostRuntime, call: &str, came: &mut Text) {
