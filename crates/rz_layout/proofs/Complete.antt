@@ -58,13 +58,13 @@ group_taken : (fixed : Option (List Term)) (value : Option Tree) → IsGrouped f
 group_taken None value it = ap is_some it.1
 group_taken (Some terms) value it = ap is_some it
 
-first_is : (takes : Bool) (value : Option Tree) (rest : List Tree) → is_some value ≡ takes → first_value takes (put value rest) ≡ value
+pub first_is : (takes : Bool) (value : Option Tree) (rest : List Tree) → is_some value ≡ takes → first_value takes (put value rest) ≡ value
 first_is true (Some value) rest is = refl
 first_is true None rest is = absurd cc
 first_is false (Some value) rest is = absurd cc
 first_is false None rest is = refl
 
-others_are : (takes : Bool) (value : Option Tree) (rest : List Tree) → is_some value ≡ takes → other_values takes (put value rest) ≡ rest
+pub others_are : (takes : Bool) (value : Option Tree) (rest : List Tree) → is_some value ≡ takes → other_values takes (put value rest) ≡ rest
 others_are true (Some value) rest is = refl
 others_are true None rest is = absurd cc
 others_are false (Some value) rest is = absurd cc
@@ -82,14 +82,14 @@ is_place (Place name) = true
 abbrev pub Unplaced : List Piece → Type 0
 Unplaced pieces = AllByRecursion (λ piece. is_place piece ≡ false) pieces
 
-unplaced_same : (piece : Piece) (passed : Passed) → is_place piece ≡ false → SamePlaces (met_piece piece passed.met) passed.met
+pub unplaced_same : (piece : Piece) (passed : Passed) → is_place piece ≡ false → SamePlaces (met_piece piece passed.met) passed.met
 unplaced_same (OneNumber number) passed none in_rows name = refl
 unplaced_same (OneText text) passed none in_rows name = refl
 unplaced_same (Zeros count) passed none in_rows name = refl
 unplaced_same (Filler unit) passed none in_rows name = refl
 unplaced_same (Place own) passed none in_rows name = absurd (true_false none)
 
-no_places : (piece : Piece) (at : ℕ) → is_place piece ≡ false → piece_places piece at ≡ []
+pub no_places : (piece : Piece) (at : ℕ) → is_place piece ≡ false → piece_places piece at ≡ []
 no_places (OneNumber number) at none = refl
 no_places (OneText text) at none = refl
 no_places (Zeros count) at none = refl
@@ -111,7 +111,7 @@ points_unplaced rect (Some terms) = fixed_unplaced terms
 pub same_behind : (piece : Piece) (passed : Passed) → SamePlaces passed.met (behind_piece piece passed).met
 same_behind piece passed in_rows name = ap (λ (met : Names). met (label_key in_rows name)) (sym (piece_met piece passed))
 
-places_then : (one two three : Names) → SamePlaces one two → SamePlaces two three → SamePlaces one three
+pub places_then : (one two three : Names) → SamePlaces one two → SamePlaces two three → SamePlaces one three
 places_then one two three first second in_rows name = first in_rows name ∙ second in_rows name
 
 pub places_back : (one two : Names) → SamePlaces one two → SamePlaces two one
@@ -132,7 +132,7 @@ own_give false x y z one other = other refl
 module _ (known : Facts) (all : List Bool) where
   -- Pieces.
 
-  piece_taken : (names : Environment) (passed : Passed) (piece : Piece) (value : Option Tree) (at after : ℕ) (late late_after : Late)
+  pub piece_taken : (names : Environment) (passed : Passed) (piece : Piece) (value : Option Tree) (at after : ℕ) (late late_after : Late)
       → PieceSpells anyhow known all names passed piece value at late after late_after → is_some value ≡ takes_one piece
   piece_taken names passed (OneNumber number) value at after late late_after it = number_taken passed number.form number.width number.fixed (sees known all names at) value it.bits it.stored
   piece_taken names passed (OneText text) value at after late late_after it = bytes_taken text.form known (sees known all names at) text.fixed it.stored.size value it.stored.bytes it.stored.are_bytes
@@ -211,7 +211,7 @@ module _ (known : Facts) (all : List Bool) where
         (CaseSpells anyhow known all others names passed value at late after late_after)
         (λ one. ap is_some one.1) (λ other. case_taken passed others value at after late late_after other) (is_case name value) it
 
-    field_taken : (passed : Passed) (field : PlainField) (value : Option Tree) (at after : ℕ) (late late_after : Late)
+    pub field_taken : (passed : Passed) (field : PlainField) (value : Option Tree) (at after : ℕ) (late late_after : Late)
         → FieldSpells anyhow known all field names passed value at late after late_after → is_some value ≡ takes_value field
     field_taken passed (Number number) value at after late late_after it = one_taken names passed (OneNumber number) value at after late late_after it.1
     field_taken passed (Text text) value at after late late_after it = one_taken names passed (OneText text) value at after late late_after it.1
@@ -236,7 +236,7 @@ module _ (known : Facts) (all : List Bool) where
         subst (λ (rows : List (List Tree)). IsCounted name (length rows) names) (sym (rows_are it.0) ∙ sym (ap rows_in it.1)) it.3
     field_counted passed (Switch cases) value at after late late_after it = tt
 
-    body_counted : (passed : Passed) (body : PlainBody) (values : List Tree) (at after : ℕ) (late late_after : Late)
+    pub body_counted : (passed : Passed) (body : PlainBody) (values : List Tree) (at after : ℕ) (late late_after : Late)
         → BodySpells anyhow known all body names passed values at late after late_after → AreCounted body values names
     body_counted passed no_fields values at after late late_after it = tt
     body_counted passed (field_and field fields) values at after late late_after (value, rest, mid, late_mid, are, one, others) =
@@ -256,7 +256,7 @@ module _ (known : Facts) (all : List Bool) where
       → BodySpells anyhow known all body own passed values at late after late_after → (draft : Draft) → Fits known all own passed.met at late draft → MetKnown passed.met draft.known
       → (places : List ℤ) × PlacesAre own body places × Goes known all own (met_all body passed.met) at late after late_after draft places (body_laid known draft body values)
 
-  entered_fits : (row : PlainBody) (which : Option RowOf) (names own : Environment) (met : Names) (line : List Tree) (at : ℕ) (late : Late) (draft : Draft) → Within row which names own → AreCounted row line own
+  pub entered_fits : (row : PlainBody) (which : Option RowOf) (names own : Environment) (met : Names) (line : List Tree) (at : ℕ) (late : Late) (draft : Draft) → Within row which names own → AreCounted row line own
       → Fits known all names met at late draft → Fits known all own (met_front row met) at late (enter which row line draft)
   entered_fits row which names own met line at late draft within counted fits = record {
     bits = fits.bits;
@@ -415,7 +415,7 @@ module _ (known : Facts) (all : List Bool) where
       → FieldStands (Label name) names at
   label_stands names passed name value at after late late_after (grouped, (own, rest, mid, late_mid, are, one, end)) = one.stored.1
 
-  field_stands : (names : Environment) (passed : Passed) (field : PlainField) (value : Option Tree) (at after : ℕ) (late late_after : Late) → FieldSpells anyhow known all field names passed value at late after late_after
+  pub field_stands : (names : Environment) (passed : Passed) (field : PlainField) (value : Option Tree) (at after : ℕ) (late late_after : Late) → FieldSpells anyhow known all field names passed value at late after late_after
       → FieldStands field names at
   field_stands names passed (Number number) value at after late late_after it = tt
   field_stands names passed (Text text) value at after late late_after it = tt

@@ -316,7 +316,7 @@ unstated : (name : Option Word) (count : Option ℤ) (key : Key) → is_count ke
 unstated name None key other = refl
 unstated name (Some count) key other = ap (λ (test : Bool). if test then Some count else None) (no_count name key other)
 
-stated_other : (body : PlainBody) (key : Key) → is_count key ≡ false → stated_in body key ≡ None
+pub stated_other : (body : PlainBody) (key : Key) → is_count key ≡ false → stated_in body key ≡ None
 stated_other no_fields key other = refl
 stated_other (field_and (Number number) fields) key other = stated_other fields key other
 stated_other (field_and (Text text) fields) key other = stated_other fields key other

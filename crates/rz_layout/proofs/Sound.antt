@@ -130,7 +130,7 @@ module _ (known : Facts) where
   abbrev HavePlaces : PlainBody → Option RowOf → Draft → Environment → Type 0
   HavePlaces row which inner names = (label : List ℕ) → has_label row label ≡ true → HasPlace which label names inner.known
 
-  inside_came : (row : PlainBody) → AreApart row → BodyCame row → (passed : Passed) (which : Option RowOf) (line : List Tree) → IsRow row line → (draft inner : Draft) → length draft.late ≡ length draft.bits → length draft.bits ≤ most_bits
+  pub inside_came : (row : PlainBody) → AreApart row → BodyCame row → (passed : Passed) (which : Option RowOf) (line : List Tree) → IsRow row line → (draft inner : Draft) → length draft.late ≡ length draft.bits → length draft.bits ≤ most_bits
       → MetKnown passed.met draft.known → body_laid known (enter which row line draft) row line ≡ Ok inner → Came known none passed.met (HavePlaces row which inner) draft (leave which row draft inner) (InsideIs row which passed line)
   inside_came row apart came passed which line is_row draft inner marks short met_known is =
       let c = came (at_front row passed) line (enter which row line draft) inner (fresh_front row passed.met) marks short (met_entered which row line passed.met draft.known met_known) is_row is in
@@ -401,7 +401,7 @@ module _ (known : Facts) where
     cases_came (case_and name row others) apart passed v (inr it) draft next marks short met_known is =
         others_came name row others apart.0 (cases_came others apart.2) passed v it draft next marks short met_known is
 
-    body_came : (body : PlainBody) → AreApart body → BodyCame body
+    pub body_came : (body : PlainBody) → AreApart body → BodyCame body
     body_came no_fields apart passed values draft next fresh marks short met_known is_row is =
         subst (λ (d : Draft). Came known none passed.met (AreCounted no_fields values) draft d (λ all names. BodySpells anyhow known all no_fields names passed values)) (same_ok draft next is)
         (record { adds = adds_none draft short; spells = λ all names fits holds counted. (is_row, refl, refl) })

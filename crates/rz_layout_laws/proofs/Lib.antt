@@ -3,3 +3,4 @@ pub mod First
 pub mod Where
 pub mod Counts
 pub mod Left
+pub mod LateNumbers
