@@ -116,7 +116,7 @@ module _ (list : List Resource) where
   fork_again attributes reserved = λ i. unless_fault (limit_of (length (kinds_again i)) (grouped_again i)) (image_again attributes reserved i)
 
 -- a fork within the limits is the image
-unlimited : (limit : Option LimitFault) (whole bytes : List ℕ) → unless_fault limit whole ≡ Ok bytes → (limit ≡ None) × (whole ≡ bytes)
+pub unlimited : (limit : Option LimitFault) (whole bytes : List ℕ) → unless_fault limit whole ≡ Ok bytes → (limit ≡ None) × (whole ≡ bytes)
 unlimited None whole bytes is = (refl, cc)
 unlimited (Some fault) whole bytes is = cc
 

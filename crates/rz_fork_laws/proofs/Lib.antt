@@ -1,3 +1,10 @@
+pub mod Bytes
 pub mod Blocks
+pub mod Checks
+pub mod Coded
+pub mod Faults
 pub mod Grouped
 pub mod Again
+pub mod Image
+pub mod Read
+pub mod Written

@@ -7,6 +7,7 @@ ghost use Rattle.rz_core.specs.declared.resource.Resource.{Resource};
 ghost use Rattle.rz_fork.specs.Admit.{admitted};
 ghost use Rattle.rz_fork.specs.Contents.{FitsFork, Fork};
 ghost use Rattle.rz_fork.specs.Image.{fork_of, grouped};
+ghost use Rattle.rz_fork_laws.specs.Kept.{AreBytes};
 
 /// A law, with nothing to run: an admitted fork has its resources type by type, the types in the order of their first
 /// resources: so to group them changes nothing.
@@ -25,4 +26,10 @@ pub fn written_forks_are_of_their_lists()
     ensures { (list : List Resource) (attributes : ℕ) (reserved bytes : List ℕ) → KeysDiffer [] list → AllByRecursion FitsFork list
         → attributes < 2 ^ 16 → length reserved ≤ 240 → fork_of list attributes reserved ≡ Ok bytes
         → (fork : Fork) × (admitted bytes ≡ Ok fork) × (fork.list ≡ grouped list) × (fork_of fork.list attributes reserved ≡ Ok bytes) }
+{}
+
+/// A law, with nothing to run: the fork of resources that a fork can hold is bytes.
+pub fn written_forks_are_bytes()
+    ensures { (list : List Resource) (attributes : ℕ) (reserved bytes : List ℕ) → AllByRecursion FitsFork list → AreBytes reserved
+        → fork_of list attributes reserved ≡ Ok bytes → AreBytes bytes }
 {}

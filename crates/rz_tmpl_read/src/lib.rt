@@ -9,5 +9,5 @@
 mod laws;
 mod read;
 
-pub use laws::said_rows_are_plain;
+pub use laws::{cut_bytes_say_their_rows, said_rows_are_plain};
 pub use read::tmpl_read;

@@ -285,10 +285,10 @@ record HasStatements (known : Known) (list : List Resource) (tokens : List Token
 
 module _ (laws : Laws) (known : Known) where
   -- each resource is one that a fork holds and rez takes
-  record IsFit (list : List Resource) : Type 0 where
-    stored : AllByRecursion IsStored list
-    fits : AllByRecursion FitsFork list
-    short : AreShort list
+  pub record IsFit (list : List Resource) : Type 0 where
+    pub stored : AllByRecursion IsStored list
+    pub fits : AllByRecursion FitsFork list
+    pub short : AreShort list
 
   has_statements : (list : List Resource) (showings : List Showing) (tokens : List Token) → AreShownBy known list showings → AreWhole tokens showings
       → AllByRecursion (Passes known.is_macro) (shapes_in tokens) → IsFit list → HasStatements known list tokens
@@ -321,7 +321,7 @@ module _ (laws : Laws) (known : Known) where
       statement_of (by_bytes resource) tokens whole = whole.is.statement
       statement_of (by_row resource body row) tokens whole = whole.statement
 
-  mean_resources : (list : List Resource) (showings : List Showing) (tokens : List Token) → AreShownBy known list showings → AreWhole tokens showings
+  pub mean_resources : (list : List Resource) (showings : List Showing) (tokens : List Token) → AreShownBy known list showings → AreWhole tokens showings
       → AllByRecursion (Passes known.is_macro) (shapes_in tokens) → IsFit list → KeysDiffer [] list → MeanResources known tokens list
   unfolding work
   mean_resources list showings tokens by whole words fit differ =

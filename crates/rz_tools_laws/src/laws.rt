@@ -88,7 +88,7 @@ pub fn declared_types_are_templates()
 
 /// A law, with nothing to run: after type files that `derez` reads without a fault, a resource is shown in a `resource`
 /// statement exactly if its bytes tell a row of the fields that are declared for it in which no case has the name of a
-/// macro, and then by this row; else in a `data` statement. Nothing more is asked of the fields.
+/// macro, and then by this row; else in a `data` statement.
 pub fn declared_rows_are_shown()
     ensures row { (words : List (List ℕ)) (asked : DeRezAsked) (files : Files) (moment : Moment) (compiled : Compiled)
         → IsDeRez words asked → TypesAre moment asked.types files (Ok compiled)
@@ -135,10 +135,10 @@ pub fn shown_forks_are_compiled_behind_types()
     definitions_are_free();
 }
 
-/// A law, with nothing to run: sources that have no statements but `type`, and don't ask which tool reads them, mean
-/// the same to both: if one of the tools reads them without a fault, so does the other, whatever else the words ask for
-/// and whatever there is to begin with; they declare the same types and macros, and leave the resources as they are.
-/// Where both or neither are asked to let types be declared again, they warn of the same.
+/// A law, with nothing to run: sources of `type` statements alone that don't ask which tool reads them mean the same to
+/// both: if one of the tools reads them without a fault, so does the other, whatever else the words ask for; they
+/// declare the same types and macros, change no resources, and, unless one alone lets types be declared again, warn of
+/// the same.
 pub fn type_files_agree()
     ensures { (around other : Around) (start : Work) (names paths : List (List ℕ)) (defs : List Def) (compiled : Compiled) → around.files ≡ other.files
         → AreTypesAlone around.files around.setting.tool names paths defs → AreCompiled around start names paths defs (Ok compiled)
@@ -146,11 +146,11 @@ pub fn type_files_agree()
         × (around.setting.redeclare ≡ other.setting.redeclare → warnings ≡ compiled.work.warnings) }
 {}
 
-/// A law, with nothing to run: what `derez` answers for a fork under type files, in a file after the same type files,
-/// is compiled by `rez` without `-a` to the file of the resources that were shown, or to the first fault of such a
-/// file: if the type files mean the same where that file stands, have no statements but `type` and don't ask which tool
-/// reads them, the words have the same paths, definitions and file of templates, the moment is the same, and each
-/// resource that is shown has at most 16,777,212 bytes.
+/// A law, with nothing to run: what `derez` answers for a fork under type files is, in a file after the same type
+/// files, compiled by `rez` without `-a` to the file of the resources that were shown, or to the first fault of such a
+/// file: if the type files mean the same there and are as [`type_files_agree`] has them, the words have the same paths,
+/// definitions and file of templates, the moment is the same, and each resource that is shown has at most 16,777,212
+/// bytes.
 pub fn shown_forks_are_read_back()
     ensures { (words others : List (List ℕ)) (shown : DeRezAsked) (asked : RezAsked) (files after : Files) (moment : Moment) (name bytes : List ℕ) (fork : Fork) (answer : Answer)
         → IsDeRez words shown → Answers words files moment answer → answer.outcome ≡ Done
@@ -170,10 +170,10 @@ pub fn shown_forks_are_read_back()
     one_command();
 }
 
-/// A law, with nothing to run: what `derez` answers for a fork under type files, in a file after the same type files, is
-/// written by `rez` as the fork's file again, byte for byte, and `rez` has no other answer: if that file is the fork of
-/// its own resources, raw, without attributes and reserved bytes, as `rez` writes a new one; if all resources are shown
-/// and `rez` is to write a raw file that isn't read only; and if the rest is as [`shown_forks_are_read_back`] has it.
+/// A law, with nothing to run: what `derez` answers for a fork under type files is, in a file after the same type
+/// files, written by `rez` as the fork's file again, byte for byte, and `rez` has no other answer: if that file is the
+/// raw fork of its own resources, without attributes and reserved bytes; if all resources are shown, and `rez` is to
+/// write a raw file that isn't read only; and if the rest is as [`shown_forks_are_read_back`] has it.
 pub fn shown_forks_are_written_back()
     ensures { (words others : List (List ℕ)) (shown : DeRezAsked) (asked : RezAsked) (files after : Files) (moment : Moment) (name bytes : List ℕ) (fork : Fork) (answer : Answer)
         → IsDeRez words shown → Answers words files moment answer → answer.outcome ≡ Done
@@ -197,12 +197,11 @@ pub fn bridges_are_asked_for_all()
         → IsBridge words asked ↔ ((items : List Item) × IsCommand words (record { name = Bridge; items = items }) × SayAll items asked) }
 {}
 
-/// A law, with nothing to run: what `strings` answers for a fork is, as the catalogue of `restring` for the same fork
-/// under the same type files, and at the same moment, answered by the file of the same resources: if the type files
-/// mean the same where that catalogue stands, and the fork isn't read only (220). Or, where protected resources may not
-/// be changed, it is the refusal (219) of the first entry for one; or the fault of what such a file may hold. If a file
-/// of the same resources is written, and the fork's file is raw and the image of its resources, it is that file byte
-/// for byte.
+/// A law, with nothing to run: what `strings` answers for a fork that isn't read only (220) is, as the catalogue of
+/// `restring` for the same fork, under type files that mean the same, and at the same moment, answered by the file of
+/// the same resources; if the fork's file is raw and the image of its resources, by that file byte for byte. Or, where
+/// protected resources may not be changed, by the refusal (219) of the first entry for one; or by the fault of what
+/// such a file may hold.
 pub fn own_strings_change_nothing()
     ensures answer { (words others : List (List ℕ)) (listed : StringsAsked) (asked : RestringAsked) (files after : Files) (moment : Moment) (bytes : List ℕ) (base : Base) (answer : Answer)
         → IsStrings words listed → Answers words files moment answer → answer.outcome ≡ Done

@@ -1,0 +1,3 @@
+pub mod Regrouped
+pub mod Read
+pub mod Again

@@ -1,0 +1,5 @@
+pub mod Keys
+pub mod Parts
+pub mod Twice
+pub mod Distinct
+pub mod Order

@@ -1,0 +1,9 @@
+pub mod Told
+pub mod Lines
+pub mod TypeLine
+pub mod Declares
+pub mod Image
+pub mod Reading
+pub mod Statements
+pub mod Sampled
+pub mod Answered
