@@ -13,12 +13,15 @@ use rz_lex::{Shape, Token};
 use rz_stmt_brackets::{Bracket, Divider, begins, bracketed, split_at};
 use std::alloc::Global;
 
+/// The most items for which there is room before the first is read.
+const FIRST_ROOM: usize = 16;
+
 /// The items that the tokens are.
 #[cycle(items)]
 pub fn read_items(alloc: Global, tokens: &[Token]) -> Result<Option<Items>, NoMemory>
     ensures { IfOk result (λ items. Decided (AreItems tokens.now) (option_map plain_items items)) }
 {
-    let mut items = Items::new(alloc);
+    let mut items = Items::with_capacity(alloc, room_for(tokens))?;
     let mut rest = tokens;
     while let Some(split) = split_at(rest, Divider::Separator) {
         let Some(item) = read_item(alloc, split.front)? else {
@@ -35,6 +38,11 @@ pub fn read_items(alloc: Global, tokens: &[Token]) -> Result<Option<Items>, NoMe
     };
     items.push(item)?;
     Ok(Some(items))
+}
+
+/// The items for which memory is taken at once: as many as there are if each is one token.
+fn room_for(tokens: &[Token]) -> usize {
+    tokens.len().div_ceil(2).min(FIRST_ROOM)
 }
 
 /// The item that the tokens are.

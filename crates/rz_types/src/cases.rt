@@ -35,7 +35,7 @@ fn stands_at(cases: &[Case], position: usize, name: &[u8]) -> bool
 }
 
 /// The position of the first case of a name, in whatever case. (MPW Rez.)
-pub fn first_named(cases: &[Case], name: &[u8]) -> Option<usize>
+fn first_named(cases: &[Case], name: &[u8]) -> Option<usize>
     ensures within { IfSome result (λ position. position < length cases.now) }
     ensures named { case_named name.now (plain_cases cases.now) ≡ option_map plain_case (option_and_then (slice_get cases.now) result) }
 {

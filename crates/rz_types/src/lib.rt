@@ -23,7 +23,7 @@ mod rules;
 mod template;
 pub mod values;
 
-pub use cases::{case_named, first_named};
+pub use cases::case_named;
 pub use laws::{first_broken_rule, keys_stand_apart, named_values_are_there, rules_hold_within};
 pub use readable::{is_body_readable, is_readable};
 pub use rules::TypeFault;

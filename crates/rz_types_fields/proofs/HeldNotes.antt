@@ -1,9 +1,10 @@
 -- The positions of the notes with a code, as they are held: with one note more, with fewer, and what is heard at them.
-use Rattle.std.proofs.Common.{◌≡◌, ℕ, zero, suc, ◌+◌, ◌-◌, ◌<◌, ◌≤◌, ◌==◌, Bool, true, false, if◌then◌else◌, List, [], ◌∷◌, ◌++◌, get_or, length, take, Some, None, refl, sym, ap, subst, ◌∙◌, arith}
+use Rattle.std.proofs.Common.{◌≡◌, ℕ, zero, suc, ◌+◌, ◌-◌, ◌<◌, ◌≤◌, ◌==◌, Bool, true, false, if◌then◌else◌, List, [], ◌∷◌, ◌++◌, drop, get_or, length, take, Some, None, refl, sym, ap, subst, ◌∙◌, arith}
 use Rattle.std.specs.HashMap.{HashMap}
-use Rattle.std.specs.Prelude.{slice_get, Vec}
+use Rattle.std.specs.Prelude.{slice_get, Err, Ok, OnErr, OnOk, Vec}
+use Rattle.std.specs.declared.result.Result.{Result}
 use Rattle.std.proofs.Math.Seq.{take-append_seam}
-use Rattle.std.proofs.lemmas.List.{append-nil, length-append, take_all, take_more}
+use Rattle.std.proofs.lemmas.List.{append-nil, drop-append-le, drop_all, length-append, take_all, take_more}
 use Rattle.std.proofs.lemmas.Option.{slice_get-get_or}
 use Rattle.rz_expr.specs.Environment.{Key}
 use Rattle.rz_types_fields.specs.Newest.{code_of, has_code, heard, held, newest, note_code, AreHeld}
@@ -31,7 +32,33 @@ first_notes (note ∷ notes) (suc count) =
     let more : length (note ∷ notes) - (length (note ∷ notes) - suc count) ≡ suc (length notes - (length notes - count)) = omega arith in
     ap (λ (n : ℕ). take n (note ∷ notes)) more ∙ ap (λ (l : List Note). note ∷ l) (first_notes notes count)
 
+-- what of the notes after the first so many is kept
+pub others_kept : {A : Type 0} (few count : ℕ) (xs : List A) → take (count - few) (drop few xs) ≡ drop few (take count xs)
+others_kept zero count xs = let same : count - 0 ≡ count = omega arith in ap (λ (n : ℕ). take n xs) same
+others_kept (suc few) zero xs = let none : 0 - suc few ≡ 0 = omega arith in ap (λ (n : ℕ). take n (drop (suc few) xs)) none
+others_kept (suc few) (suc count) [] = take_all (suc count - suc few) [] (omega arith)
+others_kept (suc few) (suc count) (x ∷ xs) =
+    let same : suc count - suc few ≡ count - few = omega arith in ap (λ (n : ℕ). take n (drop few xs)) same ∙ others_kept few count xs
+
+-- one note more after them
+pub other_more : (few : ℕ) (notes : List Note) (note : Note) → few ≤ length notes → drop few (notes ++ note ∷ []) ≡ drop few notes ++ note ∷ []
+other_more few notes note within = drop-append-le few notes (note ∷ []) within
+
+-- with one note more or, where memory is refused, as many there are no more than a few
+pub few_pushed : {O E : Type 0} (few : ℕ) (old new : List Note) (note : Note) (pushed : Result O E) → length old < few → OnOk pushed (new ≡ old ++ note ∷ [])
+    → OnErr pushed (new ≡ old) → length new ≤ few
+few_pushed few old new note (Ok done) less more same =
+    let long : length new ≡ length old + 1 = ap (λ (l : List Note). length l) more ∙ length-append old (note ∷ []) in omega (arith, less, long)
+few_pushed few old new note (Err refused) less more same =
+    let long : length new ≡ length old = ap (λ (l : List Note). length l) same in omega (arith, less, long)
+
 module _ {A S : Type 0} where
+  -- no more than a few: none of them is held
+  pub held_few : (few : ℕ) (old new : List Note) (places : HashMap ℕ (Vec ℕ A) S) → length old ≤ few → length new ≤ few → AreHeld (drop few old) places
+      → AreHeld (drop few new) places
+  held_few few old new places one other are =
+      subst (λ (l : List Note). AreHeld l places) (drop_all few old one ∙ sym (drop_all few new other)) are
+
   -- one note more, where its position was added
   pub held_more : (notes : List Note) (note : Note) (old new : HashMap ℕ (Vec ℕ A) S) → AreHeld notes old
       → ((other : ℕ) → held other new ≡ held other old ++ (if note_code note == other then length notes ∷ [] else [])) → AreHeld (notes ++ note ∷ []) new
@@ -111,3 +138,35 @@ module _ (told : Bool) (key : Key) (notes : List Note) (own : List ℕ) (is : ow
   none_newest newer all quiet =
       let none : 0 ≡ length own - newer = omega (arith, all) in
       ap (λ (n : ℕ). newest told key None (at_positions notes (take n own))) none ∙ quiet
+
+-- The same of all notes, read from the newest on.
+module _ (told : Bool) (key : Key) (notes : List Note) where
+  -- so far nothing was heard
+  abbrev pub IsStill : ℕ → Type 0
+  IsStill newer = newest told key None (take (length notes - newer) notes) ≡ newest told key None notes
+
+  pub still_first : IsStill 0
+  still_first = ap (newest told key None) (take_all (length notes - 0) notes (omega arith))
+
+  module _ (newer : ℕ) (note : Note) (less : newer < length notes) (item : note ≡ get_or notes (length notes - 1 - newer) note) (still : IsStill newer) where
+    one_walked : (if heard told note key then Some note else newest told key None (take (length notes - (newer + 1)) notes)) ≡ newest told key None notes
+    one_walked =
+        let older = length notes - 1 - newer in
+        let within : older < length notes = omega arith in
+        let same : older ≡ length notes - (newer + 1) = omega arith in
+        let next : older + 1 ≡ length notes - newer = omega arith in
+        ap (λ (n : ℕ). if heard told note key then Some note else newest told key None (take n notes)) (sym same)
+        ∙ sym (newest_more told key None (take older notes) note)
+        ∙ ap (newest told key None) (sym (take_more notes older note within ∙ ap (λ (one : Note). take older notes ++ one ∷ []) (sym item)))
+        ∙ ap (λ (n : ℕ). newest told key None (take n notes)) next
+        ∙ still
+
+    pub still_heard : true ≡ heard told note key → Some note ≡ newest told key None notes
+    still_heard hears = ap (λ (b : Bool). if b then Some note else newest told key None (take (length notes - (newer + 1)) notes)) hears ∙ one_walked
+
+    pub still_more : false ≡ heard told note key → IsStill (newer + 1)
+    still_more other = ap (λ (b : Bool). if b then Some note else newest told key None (take (length notes - (newer + 1)) notes)) other ∙ one_walked
+
+  pub still_all : (newer : ℕ) → length notes ≤ newer → IsStill newer → None ≡ newest told key None notes
+  still_all newer all still =
+      let none : 0 ≡ length notes - newer = omega (arith, all) in ap (λ (n : ℕ). newest told key None (take n notes)) none ∙ still

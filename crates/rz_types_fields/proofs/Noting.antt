@@ -1,10 +1,12 @@
 -- What is known and met after notes more, and by the newest of them.
-use Rattle.std.proofs.Common.{◌≡◌, ℕ, ◌&&◌, ◌||◌, ◌==◌, Bool, true, false, ℤ, List, [], ◌∷◌, ◌++◌, length, filter, take, Option, Some, None, refl, sym, ap, ◌∙◌, append_assoc}
+use Rattle.std.proofs.Common.{◌≡◌, ℕ, ◌&&◌, ◌||◌, ◌==◌, Bool, true, false, ℤ, List, [], ◌∷◌, ◌++◌, length, drop, filter, take, Option, Some, None, refl, sym, ap, ◌∙◌, append_assoc}
 use Rattle.std.specs.Option.{is_some}
 use Rattle.std.specs.Prelude.{if◌then◌else◌, not}
 use Rattle.std.proofs.Math.Seq.{take-append_seam}
+use Rattle.std.proofs.lemmas.List.{take-append-drop}
 use Rattle.std.proofs.lemmas.Bool.{eq-eqb}
 use Rattle.rz_core.proofs.Tests.{by_test, true_false}
+use Rattle.rz_core.specs.Lists.{or_else}
 use Rattle.rz_expr.specs.Constant.{predefined_key}
 use Rattle.rz_expr.specs.Environment.{count_key, count_of, place_in, place_key, place_of, row_in, row_key, rows_of, Key}
 use Rattle.rz_expr.specs.NameKey.{key_of}
@@ -123,6 +125,34 @@ pub newest_more : (told : Bool) (key : Key) (found : Option Note) (notes : List 
     → newest told key found (notes ++ note ∷ []) ≡ (if heard told note key then Some note else newest told key found notes)
 newest_more told key found [] note = refl
 newest_more told key found (first ∷ notes) note = newest_more told key (if heard told first key then Some first else found) notes note
+
+-- first those of the one list, then those of the other
+newest_append : (told : Bool) (key : Key) (found : Option Note) (one other : List Note)
+    → newest told key found (one ++ other) ≡ newest told key (newest told key found one) other
+newest_append told key found [] other = refl
+newest_append told key found (note ∷ one) other = newest_append told key (if heard told note key then Some note else found) one other
+
+-- what was found before counts where nothing is heard
+first_found : (a found : Option Note) (note : Note) → or_else a (Some note) ≡ or_else (or_else a (Some note)) found
+first_found None found note = refl
+first_found (Some one) found note = refl
+
+newest_found : (told : Bool) (key : Key) (found : Option Note) (notes : List Note) → newest told key found notes ≡ or_else (newest told key None notes) found
+newest_found told key found [] = refl
+newest_found told key found (note ∷ notes) = by (λ one. newest_found told key one notes) (heard told note key)
+  where
+    by : ((one : Option Note) → newest told key one notes ≡ or_else (newest told key None notes) one) → (b : Bool)
+        → newest told key (if b then Some note else found) notes ≡ or_else (newest told key (if b then Some note else None) notes) found
+    by same true = same (Some note) ∙ first_found (newest told key None notes) found note ∙ ap (λ (o : Option Note). or_else o found) (sym (same (Some note)))
+    by same false = same found
+
+-- the newest of all is that of the later ones, or else that of the first so many
+pub newest_parts : (told : Bool) (key : Key) (few : ℕ) (notes : List Note)
+    → or_else (newest told key None (drop few notes)) (newest told key None (take few notes)) ≡ newest told key None notes
+newest_parts told key few notes =
+    sym (newest_found told key (newest told key None (take few notes)) (drop few notes))
+    ∙ sym (newest_append told key None (take few notes) (drop few notes))
+    ∙ ap (newest told key None) (take-append-drop few notes)
 
 -- a note with another code doesn't speak of the key
 apart_code : (own key : Key) → (code_of own == code_of key) ≡ false → is_same_key own key ≡ false

@@ -1,6 +1,6 @@
 //! The list of notes with the positions at which they stand, by what they speak of. What is held is in `specs/Newest`.
 
-ghost use Rattle.std.specs.Prelude.{◌≡◌, ◌-◌, ◌==◌, ℕ, [], ◌∷◌, ◌++◌, length, if◌then◌else◌, take, None, OnErr, OnOk, option_map};
+ghost use Rattle.std.specs.Prelude.{◌≡◌, ◌-◌, ◌==◌, ℕ, [], ◌∷◌, ◌++◌, length, if◌then◌else◌, drop, take, None, OnErr, OnOk, option_map};
 ghost use Rattle.std.specs.Str.{str_to_ascii_lowercase};
 ghost use Rattle.rz_expr.specs.Environment.{IsSeenIn};
 ghost use Rattle.rz_expr.specs.NameKey.{key_of};
@@ -20,7 +20,10 @@ use std::mem;
 /// The factor by which the code of a name grows for each byte.
 const FACTOR: u64 = 1_099_511_628_211;
 
-/// The positions of notes in their list, from 0 and ascending, by the codes of what they speak of.
+/// So many notes, the oldest, are looked through one by one: most resources have no more. Those after them are found by their codes.
+const FEW: usize = 16;
+
+/// The positions of notes among those after the first few, from 0 and ascending, by the codes of what they speak of.
 type Places = HashMap<u64, Vec<usize>>;
 
 /// Notes, the oldest first: the newest that speaks of a name counts. It is found in constant time on average; for a label in the
@@ -31,11 +34,11 @@ pub struct Notes<'a> {
     pub items: Listing<Note<'a>>,
     places: Places,
     alloc: Global,
-    ghost held: { AreHeld items places },
+    ghost held: { AreHeld (drop 16 items) places },
 }
 
 impl<'a> Notes<'a> {
-    ghost use Rattle.std.specs.Prelude.{◌≡◌, ◌≤◌, [], ◌∷◌, ◌++◌, length, take, drop, None, IfOk, OnErr, OnOk, option_map};
+    ghost use Rattle.std.specs.Prelude.{◌≡◌, [], ◌∷◌, ◌++◌, length, take, drop, None, IfOk, OnErr, OnOk, option_map};
     ghost use Rattle.rz_expr.specs.NameKey.{key_of};
     ghost use Rattle.rz_types_fields.specs.Newest.{newest};
 
@@ -62,13 +65,12 @@ impl<'a> Notes<'a> {
         ensures items { OnOk result (self.new.items ≡ self.old.items ++ note.entry ∷ []) }
         ensures err { OnErr result (self.new.items ≡ self.old.items) }
     {
+        let count = self.items.len() as usize;
+        if count < FEW {
+            return self.items.push(note);
+        }
         let code = note_code(&note);
-        add(
-            self.alloc,
-            &mut self.places,
-            code,
-            self.items.len() as usize,
-        )?;
+        add(self.alloc, &mut self.places, code, count - FEW)?;
         match self.items.push(note) {
             Ok(()) => Ok(()),
             Err(refused) => {
@@ -88,15 +90,14 @@ impl<'a> Notes<'a> {
         drop(none);
     }
 
-    /// Takes out the notes after the first so many, and gives them. Where memory is refused they are dropped.
+    /// Takes out the notes after the first so many, if there are more, and gives them. Where memory is refused they are dropped.
     pub fn split_off(&mut self, count: usize) -> Result<Vec<Note<'a>>, NoMemory>
-        requires { count ≤ length self.old.items }
         ensures items { OnOk result (self.new.items ≡ take count self.old.items) }
         ensures tail { IfOk result (λ own. own.items ≡ drop count self.old.items) }
     {
         forget(&mut self.places, self.items.as_slice(), count);
         let mut notes = mem::replace(&mut self.items, Listing::new(self.alloc)).into_vec();
-        let own = notes.split_off(count);
+        let own = notes.split_off(count.min(notes.len()));
         notes.truncate(count);
         let none = mem::replace(&mut self.items, Listing::from_vec(notes));
         drop(none);
@@ -107,13 +108,36 @@ impl<'a> Notes<'a> {
     fn newest(&self, key: Key<'_>, told: bool) -> Option<&Note<'a>>
         ensures { option_map (λ note. note.now) result ≡ newest told (key_of key.entry) None self.now.items }
     {
-        newest_among(
-            self.items.as_slice(),
-            held(&self.places, code_of(key)),
-            key,
-            told,
-        )
+        match self.newest_other(key, told) {
+            Some(note) => Some(note),
+            None => newest_walked(few_of(self.items.as_slice()), key, told),
+        }
     }
+
+    /// The newest that is heard among the notes after the first few.
+    fn newest_other(&self, key: Key<'_>, told: bool) -> Option<&Note<'a>>
+        ensures { option_map (λ note. note.now) result ≡ newest told (key_of key.entry) None (drop 16 self.now.items) }
+    {
+        let others = others_of(self.items.as_slice());
+        if others.is_empty() {
+            return None;
+        }
+        newest_among(others, held(&self.places, code_of(key)), key, told)
+    }
+}
+
+/// The first few of these notes.
+fn few_of<'n, 'a>(notes: &'n [Note<'a>]) -> &'n [Note<'a>]
+    ensures { result.now ≡ take 16 notes.now }
+{
+    notes.split_at(FEW.min(notes.len())).0
+}
+
+/// The notes after the first few.
+fn others_of<'n, 'a>(notes: &'n [Note<'a>]) -> &'n [Note<'a>]
+    ensures { result.now ≡ drop 16 notes.now }
+{
+    notes.split_at(FEW.min(notes.len())).1
 }
 
 /// The value that is known of a key: a place in bits from the start of the resource, a number of rows, or that of a row around,
@@ -151,6 +175,19 @@ fn newest_among<'n, 'a>(
     for newer in 0..own.len() {
         let place = own[own.len() - 1 - newer];
         let note = &notes[place];
+        if is_heard(note, key, told) {
+            return Some(note);
+        }
+    }
+    None
+}
+
+/// The newest that is heard of these notes, looked through one by one.
+fn newest_walked<'n, 'a>(notes: &'n [Note<'a>], key: Key<'_>, told: bool) -> Option<&'n Note<'a>>
+    ensures { option_map (λ note. note.now) result ≡ newest told (key_of key.entry) None notes.now }
+{
+    for newer in 0..notes.len() {
+        let note = &notes[notes.len() - 1 - newer];
         if is_heard(note, key, told) {
             return Some(note);
         }
@@ -244,8 +281,16 @@ fn drop_last(places: &mut Places, code: u64)
     }
 }
 
-/// Takes out the positions of the notes after the first so many, the last first.
+/// Takes out the positions of the notes after the first so many.
 fn forget(places: &mut Places, notes: &[Note<'_>], count: usize)
+    requires { AreHeld (drop 16 notes.now) places.old }
+    ensures { AreHeld (drop 16 (take count notes.now)) places.new }
+{
+    forget_others(places, others_of(notes), count.saturating_sub(FEW));
+}
+
+/// The same of the notes after the first few, the last first.
+fn forget_others(places: &mut Places, notes: &[Note<'_>], count: usize)
     requires { AreHeld notes.now places.old }
     ensures { AreHeld (take count notes.now) places.new }
 {

@@ -47,7 +47,7 @@ read_item-returns-in-None t c =
 
 pub read_items-loop-split-init : goal.read_items-loop-split-init
 read_items-loop-split-init t c = record {
-  leads = subst (Leads c.args.tokens.now c.args.tokens.now) (sym (ap plain_items c.new-items.ensures)) (leads_first c.args.tokens.now);
+  leads = subst (Leads c.args.tokens.now c.args.tokens.now) (sym (ap plain_items c.in_ok-items.ensures)) (leads_first c.args.tokens.now);
   short = omega arith;
 }
 

@@ -1,25 +1,14 @@
-use Rattle.std.proofs.Common.{◌≡◌, ◌-◌, ◌<◌, ◌==◌, ℕ, List, length, take, sym, subst, arith}
-use Rattle.std.specs.Prelude.{if◌then◌else◌}
-use Rattle.std.proofs.lemmas.List.{take_all}
-use Rattle.rz_types_fields.specs.Newest.{held, AreHeld}
+use Rattle.std.proofs.Common.{◌≡◌, ◌-◌, List, drop, take, sym, ap, subst, ◌∙◌}
+use Rattle.rz_types_fields.specs.Newest.{AreHeld}
 use Rattle.rz_types_fields.specs.declared.names.Note.{Note}
-use Rattle.rz_types_fields.proofs.HeldNotes.{held_first, held_older}
+use Rattle.rz_types_fields.proofs.HeldNotes.{others_kept}
 use Rattle.rz_types_fields.proofs.notes.forget.Goals as goal
 
-pub loop-newer-init : goal.loop-newer-init
-loop-newer-init c =
-    subst (λ (l : List Note). AreHeld l c.args.places.now) (sym (take_all (length c.args.notes.now - 0) c.args.notes.now (omega arith))) c.requires
-
-pub loop-newer-preserved : goal.loop-newer-preserved
-loop-newer-preserved c =
-    let less : c.loop-newer.newer < length c.args.notes.now = omega (arith, c.loop-newer-test.true, c.saturating_sub-newer-end.ensures) in
-    held_older c.args.notes.now c.loop-newer.newer c.index-notes-notes.result c.loop-newer.places c.drop_last.new.places less c.index-notes-notes.is c.loop-newer.invariant
-    (subst
-    (λ (code : ℕ). (other : ℕ) → held other c.drop_last.new.places
-    ≡ (if code == other then take (length (held other c.loop-newer.places) - 1) (held other c.loop-newer.places) else held other c.loop-newer.places))
-    c.note_code.ensures c.drop_last.ensures)
+pub forget_others-requires : goal.forget_others-requires
+forget_others-requires c = subst (λ (l : List Note). AreHeld l c.args.places.now) (sym c.others_of.ensures) c.requires
 
 pub returns : goal.returns
 returns c =
-    let all : c.loop-newer.newer ≡ length c.args.notes.now - c.args.count = omega (arith, c.loop-newer-test.false, c.loop-newer.auto, c.saturating_sub-newer-end.ensures) in
-    held_first c.args.notes.now c.args.count c.loop-newer.newer c.loop-newer.places all c.loop-newer.invariant
+    subst (λ (l : List Note). AreHeld l c.forget_others.new.places)
+    ((λ i. take (c.saturating_sub.ensures i) (c.others_of.ensures i)) ∙ others_kept 16 c.args.count c.args.notes.now)
+    c.forget_others.ensures
