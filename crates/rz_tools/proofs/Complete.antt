@@ -87,8 +87,8 @@ module _ (words : List (List ℕ)) (moment : Moment) (before after : World) (res
         answer = done;
         only = record { answers = answers; only = λ other is. one words files moment other done is answers };
         carried = carried;
-        ended = ends;
-        ends = ends_or done carried ends;
+        unhindered_outcome = ends;
+        unhindered_run = ends_or done carried ends;
       }
 
   -- none was, so that each is carried out as far as any
@@ -101,8 +101,8 @@ module _ (words : List (List ℕ)) (moment : Moment) (before after : World) (res
           only = λ other is. one words files moment other answer is (every words files moment).1;
         };
         carried = carried answer;
-        ended = λ free. absurd (not free);
-        ends = ends_or answer (carried answer) (λ free. absurd (not free));
+        unhindered_outcome = λ free. absurd (not free);
+        unhindered_run = ends_or answer (carried answer) (λ free. absurd (not free));
       }
 
 -- A run that no answer was carried out in: a read failed, or memory was refused.

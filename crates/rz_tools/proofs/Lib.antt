@@ -1,4 +1,3 @@
-pub mod SampleRows
 pub mod SampleSteps
 pub mod Sampling
 pub mod OneAnswer

@@ -1,6 +1,6 @@
 -- A sample, from its steps.
-use Rattle.std.proofs.Common.{◌≡◌, ℕ, List, [], ◌∷◌, ◌++◌, Option, Some, Ok, Err, inl, ap, sym, subst, ◌∙◌, length, arith}
-use Rattle.std.specs.Prelude.{codes, IsErrAnd}
+use Rattle.std.proofs.Common.{◌≡◌, ℕ, List, [], ◌∷◌, ◌++◌, Option, Some, Ok, Err, inl, ap, sym, subst, ◌∙◌, arith}
+use Rattle.std.specs.Prelude.{IsErrAnd}
 use Rattle.std.specs.FinMap as finite
 use Rattle.std.specs.declared.result.Result.{Result}
 use Rattle.rz_core.proofs.Stops.{then_halts, then_yields}
@@ -23,7 +23,8 @@ use Rattle.rz_tools.specs.DeRez.{DeRezAsked, Shows}
 use Rattle.rz_tools.specs.Held.{ShowsText}
 use Rattle.rz_tools.specs.Rez.{Compiles, RezAsked}
 use Rattle.rz_tools.specs.declared.reply.ForkShown.{ForkShown}
-use Rattle.rz_tools.specs.Sample.{in_memory, number_line, sample_lines, CompilesAgain, CompilesSample, IsSampled, IsSampledBehind, IsSampledWith, ShowsSample}
+use Rattle.rz_tools_output.specs.SampleSource.{sample_lines}
+use Rattle.rz_tools.specs.Sample.{in_memory, CompilesAgain, CompilesSample, IsSampled, IsSampledBehind, IsSampledWith, ShowsSample}
 
 -- Files in memory, and names.
 
@@ -109,18 +110,6 @@ module _ (count : ℕ) (moment : Moment) (fork text : Making) (compiled : Compil
           ),
         ),
       )
-
--- the four lines, one after the other
-pub lines_written : (count counted : ℕ) (fork text again none first second third all : List ℕ) → none ≡ [] → counted ≡ count
-    → first ≡ none ++ number_line (codes "resources ") counted → second ≡ first ++ number_line (codes "fork ") (length fork)
-    → third ≡ second ++ number_line (codes "text ") (length text) → all ≡ third ++ number_line (codes "again ") (length again)
-    → all ≡ sample_lines count fork text again
-unfolding sample_lines
-lines_written count counted fork text again none first second third all empty same one two three four =
-    four ∙ ap (λ l. l ++ number_line (codes "again ") (length again))
-    (three ∙ ap (λ l. l ++ number_line (codes "text ") (length text))
-    (two ∙ ap (λ l. l ++ number_line (codes "fork ") (length fork))
-    (one ∙ ap (λ l. l ++ number_line (codes "resources ") counted) empty ∙ ap (λ (n : ℕ). number_line (codes "resources ") n) same)))
 
 -- the end of a call, as that of another
 module _ (end : Halt Failing) where

@@ -12,7 +12,7 @@ use Rattle.rz_tools_args.specs.Command.{ArePlaces}
 use Rattle.rz_tools_args.specs.declared.syntax.Places.TheVariants.{Count}
 use Rattle.rz_tools.specs.DeRez.{DeRezAsked, Shows}
 use Rattle.rz_tools.specs.Rez.{Compiles, RezAsked}
-use Rattle.rz_tools.specs.SampleSource.{sample_source, sample_types}
+use Rattle.rz_tools_output.specs.SampleSource.{sample_source, sample_types}
 use Rattle.rz_tools.specs.Sample.{derez_of, in_memory, rez_of, sample_lines, AnswersSample, CompilesAgain, CompilesSample, IsCount, IsSampled, ShowsSample}
 
 -- words are one number at most

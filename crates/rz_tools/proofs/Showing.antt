@@ -1,6 +1,6 @@
 -- The fork of a file, and its text.
 use Rattle.std.proofs.Common.{◌≡◌, ℕ, List, [], Option, Ok, Err, Some, None, inl, inr, refl, sym, ap, subst, ◌∙◌}
-use Rattle.std.specs.Prelude.{◌<◌, ◌^◌, length, IfOk, IfSome}
+use Rattle.std.specs.Prelude.{◌<◌, ◌^◌, length, IfSome}
 use Rattle.std.specs.FinMap as map
 use Rattle.std.specs.declared.result.Result.{Result}
 use Rattle.rz_bridge.specs.declared.file.MacFile.{MacFile}
@@ -155,10 +155,6 @@ shows_then first next answer (inl (compiled, made, shows)) = λ text is. inl (co
 shows_then first next answer (inr (failing, made, same)) = λ text is. inr (failing, made, ap (seen (making_with text)) same)
 
 -- A fork's file that is shown is as short as one.
-
-pub if_ok_so : {X E : Type 0} (P : Type 0) (result : Result X E) → P → IfOk result (λ _. P)
-if_ok_so P (Ok value) holds = holds
-if_ok_so P (Err error) holds = tt
 
 pub holds_file : (form : Option Form) (bytes data_file : List ℕ) → data_file ≡ [] → (file : MacFile) → file_in None form bytes data_file ≡ Ok file → IsFile file.res_fork → HoldsFile form bytes
 holds_file form bytes data_file empty file is short other too =

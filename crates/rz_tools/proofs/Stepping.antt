@@ -1,10 +1,10 @@
 -- Statements one after the other.
-use Rattle.std.proofs.Common.{◌≡◌, inl, inr, ℕ, zero, suc, ◌-◌, ◌<◌, ◌≤◌, List, [], ◌∷◌, ◌++◌, drop, get_or, length, map, slice_get, Some, None, take, Ok, Err, refl, sym, ap, subst, ◌∙◌, arith, length-append}
-use Rattle.std.specs.Prelude.{IfSome}
+use Rattle.std.proofs.Common.{◌≡◌, inl, inr, ℕ, zero, suc, ◌-◌, ◌<◌, ◌≤◌, List, [], ◌∷◌, ◌++◌, drop, length, map, slice_get, Some, None, take, Ok, Err, refl, sym, ap, subst, ◌∙◌, arith, length-append}
+use Rattle.std.specs.Prelude.{IfSome, IsErrAnd}
 use Rattle.std.specs.declared.option.Option.{Option}
 use Rattle.std.specs.declared.result.Result.{Result}
 use Rattle.std.proofs.lemmas.List.{take_all}
-use Rattle.std.proofs.lemmas.Option.{get_or_from_slice_get, same_Some}
+use Rattle.std.proofs.lemmas.Option.{same_Some}
 use Rattle.rz_lex.specs.Within.{AreWithin}
 use Rattle.rz_core.specs.declared.fault.Fault.{Fault}
 use Rattle.rz_core.specs.declared.fault.Mark.{Mark}
@@ -22,12 +22,11 @@ use Rattle.rz_stmt.specs.Statements.{AreStatements}
 use Rattle.rz_stmt.specs.Next.{BeginsWith}
 use Rattle.rz_lex.specs.Lexeme.{AreLexed}
 use Rattle.rz_tools_work.specs.ToolWords.{numbered}
-use Rattle.rz_stmt_brackets.specs.declared.span.Span.{Span}
 use Rattle.rz_core.specs.Answers.{Then}
 use Rattle.rz_folder.specs.Folder.{Files}
 use Rattle.rz_tools_values.specs.Around.{around, Around}
 use Rattle.rz_tools_work.specs.Work.{with_list, Work}
-use Rattle.rz_tools.specs.Step.{done_by, tokens_at, IsBehind, IsSpan, Means, Steps, WarnedFault, with_work}
+use Rattle.rz_tools.specs.Step.{done_by, IsBehind, Means, Steps, WarnedFault, with_work}
 use Rattle.rz_tools_values.specs.declared.setting.Setting.{Setting}
 
 -- whatever the rest of the statements means after this, all mean so
@@ -113,33 +112,27 @@ within_parts files (t ∷ front) left all = let parts = within_parts files front
 pub has_tokens : (front tokens left : List Token) → tokens ≡ front ++ left → length left < length tokens → 0 < length front
 has_tokens front tokens left are fewer = omega (arith, fewer, ap (λ (ts : List Token). length ts) are, length-append front left)
 
--- all of some tokens
-pub whole_span : (tokens : List Token) (size : ℕ) → size ≡ length tokens → tokens_at tokens (record { start = 0; end = size }) ≡ tokens
-whole_span tokens size is = ap (λ n. take n tokens) same ∙ take_all (length tokens) tokens (omega arith)
+-- all of the numbered tokens
+pub numbered_span : (tool : Tool) (statement tokens : List Token) (size : ℕ) → size ≡ length tokens → tokens ≡ map (numbered tool) statement
+    → take (size - 0) (drop 0 tokens) ≡ map (numbered tool) statement
+numbered_span tool statement tokens size is are = ap (λ n. take n tokens) same ∙ take_all (length tokens) tokens (omega arith) ∙ are
   where
     same : size - 0 ≡ length tokens
     same = omega (arith, is)
 
--- The tokens of a span.
+-- the first of them has the mark of all
+pub first_mark : (tool : Tool) (statement tokens : List Token) (first : Token) → tokens ≡ map (numbered tool) statement → slice_get tokens 0 ≡ Some first
+    → mark_of (map (numbered tool) statement) ≡ first.mark
+first_mark tool statement tokens first are at = subst (λ (ts : List Token). mark_of ts ≡ first.mark) are (by tokens at)
+  where
+    by : (ts : List Token) → slice_get ts 0 ≡ Some first → mark_of ts ≡ first.mark
+    by [] at = cc
+    by (t ∷ ts) at = ap (λ (x : Token). x.mark) (same_Some t first at)
 
-module _ (tokens : List Token) where
-  -- the first token of a span is that of its tokens
-  pub first_mark : (span : Span) (first : Token) → IsSpan tokens span → slice_get tokens span.start ≡ Some first → mark_of (tokens_at tokens span) ≡ first.mark
-  first_mark span first is at = by span.start span.end tokens is.some is.within (sym (get_or_from_slice_get tokens span.start first first at))
-    where
-      by : (start end : ℕ) (ts : List Token) → start < end → end ≤ length ts → first ≡ get_or ts start first → mark_of (take (end - start) (drop start ts)) ≡ first.mark
-      by start end [] below within at = absurd (omega (arith, below, within))
-      by zero zero (t ∷ ts) below within at = absurd (omega (arith, below))
-      by zero (suc end) (t ∷ ts) below within at = ap (λ n. mark_of (take n (t ∷ ts))) all ∙ ap (λ (x : Token). x.mark) (sym at)
-        where
-          all : suc end - 0 ≡ suc end
-          all = omega arith
-      by (suc start) zero (t ∷ ts) below within at = absurd (omega (arith, below))
-      by (suc start) (suc end) (t ∷ ts) below within at =
-          ap (λ n. mark_of (take n (drop start ts))) less ∙ by start end ts (omega (arith, below)) (omega (arith, within)) at
-        where
-          less : suc end - suc start ≡ end - start
-          less = omega arith
+-- the end of a call that reads no files
+pub halt_is : (stop : Stop Fault) (result : Result (Unit {0}) (Halt Fault)) → IsErrAnd result (λ halt. halt ≡ halt_of stop) → result ≡ Err (halt_of stop)
+halt_is stop (Ok nothing) is = absurd is
+halt_is stop (Err halt) is = ap (λ (h : Halt Fault). Err h) is
 
 -- One statement.
 

@@ -43,8 +43,8 @@ pub record IsExact (run : Run) (files : Files) : Type 0 where
   pub answer : Answer
   pub only : IsOnlyAnswer run.words files run.moment answer
   pub carried : CarriesOut answer run.before run.after run.result
-  pub ended : IsUnhindered run.result → EndsWith answer run.before run.after run.result
-  pub ends : (IsHindered run → ⊥) → (run.result ≡ NoMemory) ⊎ EndsWith answer run.before run.after run.result
+  pub unhindered_outcome : IsUnhindered run.result → EndsWith answer run.before run.after run.result
+  pub unhindered_run : (IsHindered run → ⊥) → (run.result ≡ NoMemory) ⊎ EndsWith answer run.before run.after run.result
 
 -- 3. Usage comes only where the words are no command, and there always, but for want of memory.
 pub record IsUsage (run : Run) (position : ℕ) : Type 0 where

@@ -26,8 +26,8 @@ use Rattle.rz_tools.specs.declared.reply.ForkShown.{ForkShown}
 use Rattle.rz_tools.specs.declared.restring.RestringWords.{RestringWords}
 use Rattle.rz_tools.specs.declared.rez.RezWords.{RezWords}
 use Rattle.rz_tools.specs.declared.sources.Compiled.{Compiled}
+use Rattle.rz_tools.specs.declared.sources.SourceWords.{SourceWords}
 use Rattle.rz_tools.specs.declared.strings.StringsWords.{StringsWords}
-use Rattle.rz_tools.specs.declared.types.TypesWords.{TypesWords}
 use Rattle.rz_tools_output.specs.Output.{target}
 use Rattle.rz_tools_text.specs.Held.{macros_held}
 use Rattle.rz_tools_text.specs.Put.{IsTextOf}
@@ -35,18 +35,18 @@ use Rattle.rz_tools_work.specs.Held.{work_of}
 
 abbrev pub rez : RezWords → RezAsked
 rez words = record {
-  files = words.files;
-  paths = words.paths;
+  files = words.sources.files;
+  paths = words.sources.paths;
   searches = words.searches;
-  defs = words.defs;
-  tmpl = option_map (λ name. name.now) words.tmpl;
-  redeclare = words.redeclare;
+  defs = words.sources.defs;
+  tmpl = option_map (λ name. name.now) words.sources.tmpl;
+  redeclare = words.sources.redeclare;
   append = words.append;
   over = words.over;
   target = target words.target;
 }
 
-abbrev pub types_asked : TypesWords → TypesAsked
+abbrev pub types_asked : SourceWords → TypesAsked
 types_asked words = record {
   files = words.files;
   paths = words.paths;

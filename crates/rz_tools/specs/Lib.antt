@@ -8,7 +8,6 @@ pub mod Reply
 pub mod Strings
 pub mod Restring
 pub mod Catalogues
-pub mod SampleSource
 pub mod Sample
 pub mod Again
 pub mod Program

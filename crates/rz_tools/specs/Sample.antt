@@ -1,6 +1,6 @@
 -- What `sample` means: a source of its own is compiled, the fork is shown, and the text compiled again; four numbers
 -- tell how much each is. All of it happens in memory: no file is read or written.
-use Rattle.std.specs.Prelude.{◌≡◌, ◌<◌, ◌^◌, ℕ, false, List, [], ◌∷◌, ◌++◌, length, codes, fold, None, Ok}
+use Rattle.std.specs.Prelude.{◌≡◌, ◌<◌, ◌^◌, ℕ, false, List, [], ◌∷◌, codes, fold, None, Ok}
 use Rattle.std.specs.FinMap as finite
 use Rattle.std.specs.declared.result.Result.{Result}
 use Rattle.rz_core.specs.Answers.{Then}
@@ -11,7 +11,7 @@ use Rattle.rz_tools_answer.specs.Answer.{Answer, Answered, Making, shown}
 use Rattle.rz_tools_answer.specs.declared.made.Failing.{Failing}
 use Rattle.rz_tools.specs.DeRez.{DeRezAsked, Shows}
 use Rattle.rz_tools.specs.Rez.{Compiles, RezAsked}
-use Rattle.rz_tools.specs.SampleSource.{sample_source, sample_types}
+use Rattle.rz_tools_output.specs.SampleSource.{sample_lines, sample_source, sample_types}
 
 -- files in memory: the later of one name counts
 abbrev pub in_memory : List (List ℕ × List ℕ) → Files
@@ -54,16 +54,6 @@ ShowsSample moment fork =
 abbrev pub CompilesAgain : Moment → List ℕ → Result Making Failing → Type 0
 CompilesAgain moment text =
     Compiles moment (rez_of (codes "types" ∷ codes "text" ∷ [])) (in_memory ((codes "types", sample_types) ∷ (codes "text", text) ∷ []))
-
--- a line: a word and a number
-abbrev pub number_line : List ℕ → ℕ → List ℕ
-number_line word number = word ++ decimal_of number ++ codes "\n"
-
--- the lines: how many resources there are, and how many bytes the fork, its text and the second fork have
-unfoldable pub sample_lines : ℕ → List ℕ → List ℕ → List ℕ → List ℕ
-sample_lines count fork text again =
-    number_line (codes "resources ") count ++ number_line (codes "fork ") (length fork) ++ number_line (codes "text ") (length text)
-    ++ number_line (codes "again ") (length again)
 
 -- the lines of a sample, after a fork and its text, and after a fork; warnings, of which none is known to come, aren't
 -- said

@@ -1,12 +1,11 @@
 -- What the statements of a program do, one after the other. (MPW Rez.)
-use Rattle.std.specs.Prelude.{◌≡◌, ◌<◌, ◌≤◌, ◌-◌, length, List, [], ◌∷◌, drop, map, take, Ok, Err}
+use Rattle.std.specs.Prelude.{◌≡◌, List, [], ◌∷◌, map, Ok, Err}
 use Rattle.std.specs.declared.result.Result.{Result}
 use Rattle.rz_core.specs.Answers.{Then}
 use Rattle.rz_core.specs.Stop.{left, refusal_seen}
 use Rattle.rz_core.specs.declared.fault.Fault.{Fault}
 use Rattle.rz_core.specs.declared.fault.Mark.{Mark}
 use Rattle.rz_core.specs.declared.resource.Resource.{Resource}
-use Rattle.rz_stmt_brackets.specs.declared.span.Span.{Span}
 use Rattle.rz_stmt_items.specs.Compile.{Compile}
 use Rattle.rz_lex.specs.declared.token.Token.{Token}
 use Rattle.rz_core.specs.declared.stop.Halt.{Halt}
@@ -71,16 +70,7 @@ Means around work [] answer = answer ≡ Ok work
 Means around work (tokens ∷ statements) answer =
     Then (Steps around work (map (numbered around.setting.tool) tokens)) (λ next. Means around next statements) answer
 
--- the tokens of a span
-abbrev pub tokens_at : List Token → Span → List Token
-tokens_at tokens span = take (span.end - span.start) (drop span.start tokens)
-
 -- What the code does at one statement.
-
--- a span of these tokens that isn't empty
-pub record IsSpan (tokens : List Token) (span : Span) : Type 0 where
-  pub some : span.start < span.end
-  pub within : span.end ≤ length tokens
 
 -- what a call gave, with the work that it left, or its fault after the warnings that are left
 abbrev pub with_work : Work → Result (Unit {0}) (Halt Fault) → Result Work (Halt WarnedFault)

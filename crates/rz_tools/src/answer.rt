@@ -74,34 +74,12 @@ fn answer_command<F: Folder>(
             drop(words);
             planned(plan)
         }
-        CommandName::DeRez => {
-            let words = DeRezWords::of(alloc, command)?;
-            answer_derez(alloc, folder, words, moment)
-        }
+        CommandName::DeRez => answer_derez(alloc, folder, DeRezWords::of(alloc, command)?, moment),
         CommandName::Bridge => {
-            let words = BridgeWords::of(alloc, &command);
-            drop(command);
-            let words = words?;
-            let plan = plan_bridge(alloc, folder, &words);
-            drop(words);
-            planned(plan)
+            planned(plan_bridge(alloc, folder, BridgeWords::of(alloc, command)?))
         }
-        CommandName::Det => {
-            let words = DetWords::of(alloc, &command);
-            drop(command);
-            let words = words?;
-            let plan = plan_det(alloc, folder, &words);
-            drop(words);
-            planned(plan)
-        }
-        CommandName::List => {
-            let words = DetWords::of(alloc, &command);
-            drop(command);
-            let words = words?;
-            let reply = answer_list(alloc, folder, &words);
-            drop(words);
-            reply
-        }
+        CommandName::Det => planned(plan_det(alloc, folder, DetWords::of(alloc, command)?)),
+        CommandName::List => answer_list(alloc, folder, DetWords::of(alloc, command)?),
         CommandName::Strings => {
             let words = StringsWords::of(alloc, command)?;
             let made = list_strings(alloc, folder, &words, moment);
@@ -118,8 +96,7 @@ fn answer_command<F: Folder>(
         CommandName::Sample => {
             let count = command.number();
             drop(command);
-            let made = sampled(alloc, count, moment);
-            planned(Plan::to_show(alloc, made))
+            planned(Plan::to_show(alloc, sampled(alloc, count, moment)))
         }
         CommandName::Help => {
             drop(command);

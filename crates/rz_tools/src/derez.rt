@@ -1,6 +1,6 @@
 //! `derez`: the type files, the fork of the file, and the text of its resources. What it answers is in `specs/DeRez`.
 
-ghost use Rattle.std.specs.Prelude.{◌≡◌, ◌≢◌, [], ◌<◌, ◌^◌, Ok, Err, ℕ, length, None, IfErr, IfOk, OnOk};
+ghost use Rattle.std.specs.Prelude.{◌≡◌, ◌≢◌, [], ◌<◌, ◌^◌, ℕ, length, None, IfOk};
 ghost use Rattle.std.specs.FinMap as map;
 ghost use Rattle.std.specs.String.{string_bytes};
 ghost use Rattle.rz_core.specs.Stop.{Meets, OnFault};
@@ -8,8 +8,7 @@ ghost use Rattle.rz_core.specs.Message.{IsNameable};
 ghost use Rattle.rz_folder.specs.Finds.{Finds};
 ghost use Rattle.rz_folder.specs.MayRead.{MayReadOf};
 ghost use Rattle.rz_folder_paths.specs.Names.{IsUnplaced};
-ghost use Rattle.rz_bridge_files.specs.Contents.{admit_fork, fork_in};
-ghost use Rattle.rz_fork.specs.Contents.{Fork};
+ghost use Rattle.rz_bridge_files.specs.Contents.{fork_in};
 ghost use Rattle.rz_pre.specs.Lexed.{HaveLexedTexts};
 ghost use Rattle.rz_tools.specs.Again.{HoldsFile, OfFile};
 ghost use Rattle.rz_tools.specs.Asked.{DeRezAsks};
@@ -22,15 +21,16 @@ ghost use Rattle.rz_tools_args.specs.Command.{places_of};
 ghost use Rattle.rz_tools_args.specs.Held.{items_of};
 
 use crate::reply::{ForkShown, Reply, planned};
-use crate::sources::Compiled;
-use crate::types::{TypesWords, compile_types};
-use rz_bridge_files::{admit_fork, file_in};
+use crate::sources::{Compiled, SourceWords};
+use crate::types::{compile_types, names_behind};
+use rz_bridge_files::file_in;
 use rz_bridge_form::Form;
 use rz_core::{Bytes, Fault, Halt, Moment, NoMemory, Stop};
 use rz_folder::Folder;
 use rz_folder_paths::read_present;
 use rz_tools_answer::{Failing, Made, Plan, say_beside};
 use rz_tools_args::{Command, Flag, Kinds};
+use rz_tools_output::check_fork;
 use rz_tools_text::{ForkText, Known};
 use rz_tools_work::Work;
 use std::alloc::Global;
@@ -48,7 +48,7 @@ pub struct DeRezWords<'a> {
     /// The types that aren't shown.
     pub skip: Kinds,
     /// The type files.
-    pub types: TypesWords<'a>,
+    pub types: SourceWords<'a>,
 }
 
 impl<'a> DeRezWords<'a> {
@@ -63,7 +63,7 @@ impl<'a> DeRezWords<'a> {
             from: command.form(Flag::From),
             only: command.kinds(alloc, Flag::Only)?,
             skip: command.kinds(alloc, Flag::Skip)?,
-            types: TypesWords::behind(alloc, &files, 1, command)?,
+            types: SourceWords::of(alloc, names_behind(alloc, &files, 1)?, command)?,
         })
     }
 }
@@ -162,29 +162,9 @@ fn fork_of(alloc: Global, bytes: Bytes, from: Option<Form>) -> Result<Bytes, Sto
     ensures nameable { (files : ℕ) → OnFault result (IsNameable files) }
 {
     let file = file_in(alloc, from, bytes, Bytes::new(alloc), None)?;
-    admitted_fork(file.res_fork)
-}
-
-/// These bytes, if they are a fork, or its fault.
-fn admitted_fork(fork: Bytes) -> Result<Bytes, Stop<Fault>>
-    requires { length fork < 2 ^ 32 }
-    ensures fork { Meets result (IsForkOf (admit_fork None fork)) }
-    ensures admitted { IfOk result IsFork }
-    ensures nameable { (files : ℕ) → OnFault result (IsNameable files) }
-{
+    let fork = file.res_fork;
     match check_fork(fork.as_slice()) {
         Ok(()) => Ok(fork),
         Err(fault) => Err(Stop::Refused(fault)),
     }
-}
-
-/// Tests whether bytes are a fork.
-fn check_fork(fork: &[u8]) -> Result<(), Fault>
-    requires { length fork.now < 2 ^ 32 }
-    ensures ok { OnOk result ((held : Fork) × (admit_fork None fork.now ≡ Ok held)) }
-    ensures err { IfErr result (λ fault. admit_fork None fork.now ≡ Err fault) }
-    ensures nameable { (files : ℕ) → IfErr result (IsNameable files) }
-{
-    admit_fork(fork, None)?;
-    Ok(())
 }

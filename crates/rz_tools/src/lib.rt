@@ -22,7 +22,6 @@ mod reply;
 mod restring;
 mod rez;
 mod sample;
-mod sample_source;
 mod sources;
 mod step;
 mod strings;

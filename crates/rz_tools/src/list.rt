@@ -17,12 +17,14 @@ use std::convert::Infallible;
 pub fn answer_list<F: Folder>(
     alloc: Global,
     folder: &mut F,
-    words: &DetWords,
+    words: DetWords,
 ) -> Result<Reply, Halt<Infallible>>
-    requires { F.may_read folder.old (det words.now).file }
-    ensures { IsReplyOf F.Folder folder.old folder.new result (AnswersList (det words.now)) }
+    requires { F.may_read folder.old (det words).file }
+    ensures { IsReplyOf F.Folder folder.old folder.new result (AnswersList (det words)) }
 {
-    match read_list(alloc, folder, words) {
+    let text = read_list(alloc, folder, &words);
+    drop(words);
+    match text {
         Ok(text) => Ok(Reply::List(text)),
         Err(halt) => {
             let warnings = Faults::new(alloc);

@@ -12,14 +12,13 @@ ghost use Rattle.rz_pre.specs.Lexed.{HaveLexedTexts};
 ghost use Rattle.rz_tools_answer.specs.Made.{making_of, FitsFile, IsSayable};
 ghost use Rattle.rz_tools_args.specs.Command.{places_of};
 ghost use Rattle.rz_tools_args.specs.Held.{items_of};
-ghost use Rattle.rz_tools_output.specs.Output.{target};
 ghost use Rattle.rz_tools.specs.Asked.{RestringAsks, RestringAsksAfter};
 ghost use Rattle.rz_tools.specs.Held.{restring};
-ghost use Rattle.rz_tools.specs.Restring.{restring_asked, target_named, HasCatalogueFile, IsRestrungUnder, Restrings};
+ghost use Rattle.rz_tools.specs.Restring.{restring_asked, HasCatalogueFile, IsRestrungUnder, Restrings};
 ghost use Rattle.rz_types_table.specs.TypeTable.{table_of};
 
-use crate::sources::Compiled;
-use crate::types::{TypesWords, compile_types};
+use crate::sources::{Compiled, SourceWords};
+use crate::types::{compile_types, names_behind};
 use rz_bridge_form::Form;
 use rz_catalog::{apply, entry_faults_are_told, resources_stay};
 use rz_catalog_entries::Entries;
@@ -48,7 +47,7 @@ pub struct RestringWords<'a> {
     /// The name of the file to write.
     pub output: &'a str,
     /// The type files.
-    pub types: TypesWords<'a>,
+    pub types: SourceWords<'a>,
 }
 
 impl<'a> RestringWords<'a> {
@@ -65,7 +64,7 @@ impl<'a> RestringWords<'a> {
             catalogue: files.at(1).to_string(alloc)?,
             over: command.has(Switch::Over),
             output: command.name(Flag::Output).unwrap_or("Rez.Out"),
-            types: TypesWords::behind(alloc, &files, 2, command)?,
+            types: SourceWords::of(alloc, names_behind(alloc, &files, 2)?, command)?,
         })
     }
 }
@@ -121,7 +120,7 @@ fn restrung<F: Folder>(
     let begun = read_held(alloc, folder, words.from, words.file.as_str())?;
     let entries = read_catalogue(alloc, folder, words.catalogue.as_str(), file)?;
     let changed = apply(alloc, types, &begun.list, &entries, moment, words.over)?;
-    let target = target_named(words.output);
+    let target = Target::named(words.output);
     Ok(write_output(alloc, &target, begun.base, &changed, moment)?)
 }
 
@@ -137,17 +136,4 @@ fn read_catalogue<F: Folder>(
 {
     let source = read_present(alloc, folder, name)?;
     Ok(entries_in(alloc, source, file)?)
-}
-
-/// The file of this name, of the form, the type and the creator that the fork's file has.
-fn target_named(name: &str) -> Target<'_>
-    ensures { target result ≡ target_named name.now }
-{
-    Target {
-        name,
-        form: None,
-        kind: None,
-        creator: None,
-        read_only: false,
-    }
 }

@@ -16,10 +16,10 @@ ghost use Rattle.rz_tools.specs.Asked.{RezAsks};
 ghost use Rattle.rz_tools.specs.Held.{compiled_of, rez};
 ghost use Rattle.rz_tools.specs.Rez.{rez_asked, target_asked, Compiles, HasOutput};
 
-use crate::sources::{Compiled, compile_program, read_program, unsaid};
+use crate::sources::{Compiled, SourceWords, compile_program, read_program, unsaid};
 use rz_core::{Bytes, Fault, FileNames, Halt, Moment, NoMemory};
 use rz_folder::Folder;
-use rz_pre::{Defs, Tool};
+use rz_pre::Tool;
 use rz_set::ResSet;
 use rz_tools_answer::{Failing, Made, say_beside};
 use rz_tools_args::{Command, Flag, Switch};
@@ -32,18 +32,10 @@ use std::alloc::Global;
 /// What `rez` is asked for.
 #[derive(Drop)]
 pub struct RezWords<'a> {
-    /// The names of the sources.
-    pub files: FileNames,
-    /// The paths for included files.
-    pub paths: FileNames,
+    /// The sources.
+    pub sources: SourceWords<'a>,
     /// The paths for the files of statements.
     pub searches: FileNames,
-    /// The definitions.
-    pub defs: Defs,
-    /// The name of the file of templates, where one is given.
-    pub tmpl: Option<&'a str>,
-    /// Types may be declared again without a warning.
-    pub redeclare: bool,
     /// The fork starts from the file that has the output's name.
     pub append: bool,
     /// Protected resources may be replaced, changed and removed.
@@ -58,15 +50,11 @@ impl<'a> RezWords<'a> {
         ensures { IfOk result (λ words. rez words ≡ rez_asked (items_of command.entry)) }
     {
         Ok(RezWords {
-            files: command.files(alloc)?,
-            paths: command.names(alloc, Flag::Path)?,
             searches: command.names(alloc, Flag::Search)?,
-            tmpl: command.name(Flag::Templates),
-            redeclare: command.has(Switch::Redeclare),
             append: command.has(Switch::Append),
             over: command.has(Switch::Over),
             target: target_of(&command),
-            defs: command.into_defs(alloc)?,
+            sources: SourceWords::of(alloc, command.files(alloc)?, command)?,
         })
     }
 }
@@ -93,19 +81,12 @@ pub fn compile<F: Folder>(
     words: &RezWords<'_>,
     moment: Moment,
 ) -> Result<Made, Halt<Failing>>
-    requires lexed { HaveLexedTexts words.now.defs }
+    requires lexed { HaveLexedTexts words.now.sources.defs }
     requires may { MayReadOf F.Folder folder.old (RezAsks (rez words.now)) }
     ensures { Finds F.Folder folder.old folder.new (seen making_of result) (Compiles moment (rez words.now)) FitsFile IsSayable }
 {
-    let program = read_program(
-        alloc,
-        folder,
-        Tool::Rez,
-        &words.files,
-        &words.paths,
-        &words.defs,
-    )?;
-    let types = match read_templates(alloc, folder, words.tmpl) {
+    let program = read_program(alloc, folder, Tool::Rez, &words.sources)?;
+    let types = match read_templates(alloc, folder, words.sources.tmpl) {
         Ok(types) => types,
         Err(halt) => return Err(unsaid(alloc, halt, program.files)),
     };
@@ -120,7 +101,7 @@ pub fn compile<F: Folder>(
     let start = Work::begun(alloc, types, list)?;
     let setting = Setting {
         tool: Tool::Rez,
-        redeclare: words.redeclare,
+        redeclare: words.sources.redeclare,
         append: words.append,
         over: words.over,
         moment,

@@ -1,6 +1,6 @@
 //! Sources as both commands take them: the program, and what its statements make. What they mean is in `specs/Sources`.
 
-ghost use Rattle.std.specs.Prelude.{◌≡◌, [], ℕ, List, length, Err};
+ghost use Rattle.std.specs.Prelude.{◌≡◌, [], ℕ, List, length, Err, IfOk};
 ghost use Rattle.rz_core.specs.Message.{IsNameable};
 ghost use Rattle.rz_core.specs.Stop.{seen, OnRefusal};
 ghost use Rattle.rz_tools_answer.specs.Made.{IsBeside, IsSayable};
@@ -17,18 +17,55 @@ ghost use Rattle.rz_pre.specs.Program.{ProgramGoes};
 ghost use Rattle.rz_pre.specs.Reading.{OfProgram};
 ghost use Rattle.rz_tools_work.specs.Held.{work_of};
 ghost use Rattle.rz_tools_values.specs.Around.{around};
-ghost use Rattle.rz_tools.specs.Held.{compiled_of, not_read, CanCompile, HasWarnings, OfState};
+ghost use Rattle.rz_tools.specs.Held.{compiled_of, not_read, types_asked, CanCompile, HasWarnings, OfState};
 ghost use Rattle.rz_tools.specs.Sources.{HasWork, Unsaid};
+ghost use Rattle.rz_tools.specs.Types.{types_items};
+ghost use Rattle.rz_tools_args.specs.Held.{items_of};
 
 use crate::step::compile_statements;
-use rz_core::{Bytes, Fault, FileNames, Halt, Words};
+use rz_core::{Bytes, Fault, FileNames, Halt, NoMemory, Words};
 use rz_folder::Folder;
 use rz_pre::{Defs, Failure, Program, Tool, preprocess};
 use rz_stmt::all_tokens_are_statements;
 use rz_tools_answer::{Failing, Faults, say_stop};
+use rz_tools_args::{Command, Flag, Switch};
 use rz_tools_values::Setting;
 use rz_tools_work::Work;
 use std::alloc::Global;
+
+/// The sources that a command is asked for: those of `rez`, or type files.
+#[derive(Drop)]
+pub struct SourceWords<'a> {
+    /// Their names.
+    pub files: FileNames,
+    /// The paths for included files.
+    pub paths: FileNames,
+    /// The definitions.
+    pub defs: Defs,
+    /// The name of the file of templates, where one is given.
+    pub tmpl: Option<&'a str>,
+    /// Types may be declared again without a warning.
+    pub redeclare: bool,
+}
+
+impl<'a> SourceWords<'a> {
+    /// What these items ask for, where these are the names of the sources.
+    pub fn of(
+        alloc: Global,
+        files: FileNames,
+        command: Command<'a>,
+    ) -> Result<SourceWords<'a>, NoMemory>
+        ensures { IfOk result (λ words. types_asked words ≡ types_items files (items_of command.entry)) }
+    {
+        Ok(SourceWords {
+            files,
+            paths: command.names(alloc, Flag::Path)?,
+            tmpl: command.name(Flag::Templates),
+            redeclare: command.has(Switch::Redeclare),
+            defs: command.into_defs(alloc)?,
+        })
+    }
+}
 
 /// What sources mean.
 #[derive(Drop)]
@@ -56,15 +93,13 @@ pub fn read_program<F: Folder>(
     alloc: Global,
     folder: &mut F,
     tool: Tool,
-    names: &FileNames,
-    paths: &FileNames,
-    defs: &Defs,
+    words: &SourceWords<'_>,
 ) -> Result<Program, Halt<Failing>>
-    requires lexed { HaveLexedTexts defs.now }
-    requires may { MayReadOf F.Folder folder.old (λ files. IsReached paths.now files (IsOneOf names.now)) }
-    ensures { Finds F.Folder folder.old folder.new result (λ files. OfProgram (Unsaid (ProgramGoes files tool names.now paths.now defs.now))) CanCompile IsSayable }
+    requires lexed { HaveLexedTexts words.now.defs }
+    requires may { MayReadOf F.Folder folder.old (λ files. IsReached words.now.paths files (IsOneOf words.now.files)) }
+    ensures { Finds F.Folder folder.old folder.new result (λ files. OfProgram (Unsaid (ProgramGoes files tool words.now.files words.now.paths words.now.defs))) CanCompile IsSayable }
 {
-    match preprocess(alloc, folder, tool, names, paths, defs) {
+    match preprocess(alloc, folder, tool, &words.files, &words.paths, &words.defs) {
         Ok(program) => Ok(program),
         Err(halt) => Err(not_read(alloc, halt)),
     }

@@ -3,7 +3,7 @@
 ghost use Rattle.std.specs.Prelude.{◌≡◌, ◌<◌, if◌then◌else◌, ℕ, List, length, map, Err, IfErr, IfOk, IfSome};
 ghost use Rattle.rz_tools_answer.specs.Warning.{AreWarnings};
 ghost use Rattle.rz_core.specs.Message.{IsNameable};
-ghost use Rattle.rz_core.specs.Stop.{OnFault, IsReadFault, Meets, OnRefusal, halted, left, seen, Yields};
+ghost use Rattle.rz_core.specs.Stop.{IsReadFault, OnRefusal, left, Yields};
 ghost use Rattle.rz_folder.specs.MayRead.{MayRead};
 ghost use Rattle.rz_folder_paths.specs.Names.{LooksFor};
 ghost use Rattle.rz_tools.specs.Asked.{AnyAsks, ParsedAsk};
@@ -11,15 +11,15 @@ ghost use Rattle.rz_folder.specs.OnlyReads.{OnlyReads};
 ghost use Rattle.rz_lex.specs.Lexeme.{AreLexed};
 ghost use Rattle.rz_lex.specs.Within.{AreWithin};
 ghost use Rattle.rz_lex.specs.declared.token.Token.{Token};
-ghost use Rattle.rz_stmt.specs.Grammar.{statement_of, Empty, IsPlacedStatement, IsShapedStatement, Parses};
+ghost use Rattle.rz_stmt.specs.Grammar.{statement_of, Empty};
 ghost use Rattle.rz_stmt.specs.Statements.{AreStatements};
 ghost use Rattle.rz_tools_values.specs.Around.{around};
 ghost use Rattle.rz_tools_work.specs.Held.{work_of};
 ghost use Rattle.rz_tools_work.specs.Put.{list_with};
 ghost use Rattle.rz_tools_work.specs.ToolWords.{numbered};
-ghost use Rattle.rz_tools.specs.Step.{done_by, tokens_at, IsSpan, Means, Steps, with_work};
+ghost use Rattle.rz_tools.specs.Step.{done_by, Means, Steps, with_work};
 
-use rz_core::{Fault, FileNames, Halt, Mark, Resource, Stop};
+use rz_core::{Fault, FileNames, Halt, Mark, Resource};
 use rz_folder::Folder;
 use rz_lex::Tokens;
 use rz_pre::Tool;
@@ -61,15 +61,13 @@ pub fn compile_statements<F: Folder>(
     one_cutting();
     let mut reader = tokens.into_reader();
     while let Some(statement) = next_statement(alloc, &mut reader)? {
-        match step(alloc, folder, paths, statement, setting, work) {
-            Ok(()) => {}
-            Err(halt) => return Err(halt),
-        }
+        step(alloc, folder, paths, statement, setting, work)?;
     }
     Ok(())
 }
 
-/// What one statement does, in which the words `rez` and `derez` become numbers.
+/// What one statement does, in which the words `rez` and `derez` become numbers. The tokens end where it is read, so
+/// that no one holds them while the statement is done.
 fn step<F: Folder>(
     alloc: Global,
     folder: &mut F,
@@ -87,71 +85,33 @@ fn step<F: Folder>(
     ensures reads { OnlyReads F.Folder folder.old folder.new (IsReadFault result) }
 {
     let tokens = number_tool_words(setting.tool, statement);
-    let span = Span {
-        start: 0,
-        end: tokens.len(),
-    };
-    step_at(alloc, folder, paths, tokens, span, setting, work)
-}
-
-/// What the statement does that stands there. The tokens end where it is read.
-fn step_at<F: Folder>(
-    alloc: Global,
-    folder: &mut F,
-    paths: &FileNames,
-    tokens: Tokens,
-    span: Span,
-    setting: Setting,
-    work: &mut Work,
-) -> Result<(), Halt<Fault>>
-    requires span { IsSpan tokens span }
-    requires lexed { AreLexed tokens }
-    requires may { MayRead F.Folder folder.old (LooksFor paths.now (ParsedAsk setting.tool (tokens_at tokens span))) }
-    ensures stepped { IfSome (F.files folder.old) (λ files. Yields (with_work (work_of work.new) result) (Steps (around setting paths.now files) (work_of work.old) (tokens_at tokens span))) }
-    ensures nameable { (files : ℕ) → AreWithin files tokens → OnRefusal result (IsNameable files) }
-    ensures warned { (files : ℕ) → AreWithin files tokens → AreWarnings files work.old.warnings → AreWarnings files work.new.warnings }
-    ensures reads { OnlyReads F.Folder folder.old folder.new (IsReadFault result) }
-{
-    let mark = tokens.at(span.start).mark;
+    let end = tokens.len();
+    let mark = tokens.at(0).mark;
+    let stmt = parse(alloc, &tokens, Span { start: 0, end });
+    drop(tokens);
+    let stmt = stmt?;
     let around = Around {
         paths,
         mark,
         setting,
     };
-    match statement_at(alloc, tokens, span) {
-        Ok(stmt) => match done_by(setting.tool, stmt) {
-            Stmt::Empty => Ok(()),
-            Stmt::Raw(raw) => {
-                let made = resource_of(alloc, folder, around, raw);
-                put_made(made, mark, setting, &mut work.resources)
-            }
-            Stmt::List(stmt) => {
-                let resources = &mut work.resources;
-                let ended = list_step(alloc, folder, around, &stmt, resources);
-                drop(stmt);
-                ended
-            }
-            Stmt::Compile(stmt) => {
-                let types = &work.types;
-                let made = resource_of_items(alloc, folder, around, stmt, types);
-                put_made(made, mark, setting, &mut work.resources)
-            }
-            Stmt::Declare(stmt) => halted(declare_type(alloc, stmt, mark, setting, work)),
-        },
-        Err(stop) => halted(Err(stop)),
+    match done_by(setting.tool, stmt) {
+        Stmt::Empty => Ok(()),
+        Stmt::Raw(raw) => {
+            let made = resource_of(alloc, folder, around, raw);
+            put_made(made, mark, setting, &mut work.resources)
+        }
+        Stmt::List(stmt) => {
+            let ended = list_step(alloc, folder, around, &stmt, &mut work.resources);
+            drop(stmt);
+            ended
+        }
+        Stmt::Compile(stmt) => {
+            let made = resource_of_items(alloc, folder, around, stmt, &work.types);
+            put_made(made, mark, setting, &mut work.resources)
+        }
+        Stmt::Declare(stmt) => Ok(declare_type(alloc, stmt, mark, setting, work)?),
     }
-}
-
-/// The statement that stands there, or its first fault; the tokens end with it, so that no one holds them while the
-/// statement is done.
-fn statement_at(alloc: Global, tokens: Tokens, span: Span) -> Result<Stmt, Stop<Fault>>
-    requires { IsSpan tokens span }
-    ensures parsed { Meets (seen statement_of result) (Parses (tokens_at tokens span)) }
-    ensures nameable { (files : ℕ) → AreWithin files tokens → OnFault result (IsNameable files) }
-    ensures shaped { AreLexed tokens → IfOk result (λ stmt. IsShapedStatement (statement_of stmt)) }
-    ensures placed { (files : ℕ) → AreWithin files tokens → IfOk result (λ stmt. IsPlacedStatement files (statement_of stmt)) }
-{
-    parse(alloc, &tokens, span)
 }
 
 /// What a tool does of a statement: DeRez declares types, and nothing else.
@@ -176,18 +136,6 @@ fn is_done_by(tool: Tool, stmt: &Stmt) -> bool
     }
 }
 
-/// The end of a call that reads no files, as that of one that does.
-fn halted(ended: Result<(), Stop<Fault>>) -> Result<(), Halt<Fault>>
-    ensures halted { result ≡ halted ended }
-    ensures nameable { (files : ℕ) → OnFault ended (IsNameable files) → OnRefusal result (IsNameable files) }
-    ensures unread { IsReadFault result → ⊥ }
-{
-    match ended {
-        Ok(()) => Ok(()),
-        Err(stop) => Err(Halt::from(stop)),
-    }
-}
-
 /// Puts the resource of a statement on this line, if one was made.
 fn put_made(
     made: Result<Resource, Halt<Fault>>,
@@ -202,7 +150,7 @@ fn put_made(
     ensures unread { IsReadFault result → IsReadFault made }
 {
     match made {
-        Ok(resource) => halted(put(resources, resource, setting.over, mark)),
+        Ok(resource) => Ok(put(resources, resource, setting.over, mark)?),
         Err(halt) => Err(halt),
     }
 }

@@ -19,8 +19,8 @@ ghost use Rattle.rz_tools.specs.Strings.{short_fork_in, strings_asked, HasCatalo
 ghost use Rattle.rz_types_table.specs.TypeTable.{table_of};
 
 use crate::listed::listed;
-use crate::sources::Compiled;
-use crate::types::{TypesWords, compile_types};
+use crate::sources::{Compiled, SourceWords};
+use crate::types::{compile_types, names_behind};
 use rz_bridge_files::{admit_fork, file_in};
 use rz_bridge_form::Form;
 use rz_core::{Bytes, Fault, Halt, Moment, NoMemory, Stop};
@@ -41,7 +41,7 @@ pub struct StringsWords<'a> {
     /// The form of the fork's file.
     pub from: Option<Form>,
     /// The type files.
-    pub types: TypesWords<'a>,
+    pub types: SourceWords<'a>,
 }
 
 impl<'a> StringsWords<'a> {
@@ -54,7 +54,7 @@ impl<'a> StringsWords<'a> {
         Ok(StringsWords {
             file: files.at(0).to_string(alloc)?,
             from: command.form(Flag::From),
-            types: TypesWords::behind(alloc, &files, 1, command)?,
+            types: SourceWords::of(alloc, names_behind(alloc, &files, 1)?, command)?,
         })
     }
 }

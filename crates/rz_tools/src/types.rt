@@ -7,59 +7,21 @@ ghost use Rattle.rz_folder.specs.MayRead.{MayReadOf};
 ghost use Rattle.rz_pre.specs.Lexed.{HaveLexedTexts};
 ghost use Rattle.rz_tools.specs.Asked.{TypesAsk};
 ghost use Rattle.rz_tools.specs.Held.{compiled_of, types_asked, HasWarnings};
-ghost use Rattle.rz_tools.specs.Types.{types_items, TypesAre};
-ghost use Rattle.rz_tools_args.specs.Held.{items_of};
+ghost use Rattle.rz_tools.specs.Types.{TypesAre};
 ghost use Rattle.rz_tools_answer.specs.Made.{IsSayable};
 
-use crate::sources::{Compiled, compile_program, read_program, unsaid};
+use crate::sources::{Compiled, SourceWords, compile_program, read_program, unsaid};
 use rz_core::{FileNames, Halt, Moment, NoMemory, Resources};
 use rz_folder::Folder;
-use rz_pre::{Defs, Tool};
+use rz_pre::Tool;
 use rz_tools_answer::Failing;
-use rz_tools_args::{Command, Flag, Switch};
 use rz_tools_tmpl::read_templates;
 use rz_tools_values::Setting;
 use rz_tools_work::Work;
 use std::alloc::Global;
 
-/// The type files that a command is asked for.
-#[derive(Drop)]
-pub struct TypesWords<'a> {
-    /// Their names.
-    pub files: FileNames,
-    /// The paths for included files.
-    pub paths: FileNames,
-    /// The definitions.
-    pub defs: Defs,
-    /// The name of the file of templates, where one is given.
-    pub tmpl: Option<&'a str>,
-    /// Types may be declared again without a warning.
-    pub redeclare: bool,
-}
-
-impl<'a> TypesWords<'a> {
-    /// What these items ask for, where the files after so many are the type files.
-    pub fn behind(
-        alloc: Global,
-        files: &FileNames,
-        count: u64,
-        command: Command<'a>,
-    ) -> Result<TypesWords<'a>, NoMemory>
-        requires { count ≤ length files.now }
-        ensures { IfOk result (λ words. types_asked words ≡ types_items (drop count files.now) (items_of command.entry)) }
-    {
-        Ok(TypesWords {
-            files: names_behind(alloc, files, count)?,
-            paths: command.names(alloc, Flag::Path)?,
-            tmpl: command.name(Flag::Templates),
-            redeclare: command.has(Switch::Redeclare),
-            defs: command.into_defs(alloc)?,
-        })
-    }
-}
-
 /// The names after so many.
-fn names_behind(alloc: Global, names: &FileNames, count: u64) -> Result<FileNames, NoMemory>
+pub fn names_behind(alloc: Global, names: &FileNames, count: u64) -> Result<FileNames, NoMemory>
     requires { count ≤ length names.now }
     ensures { IfOk result (λ behind. behind ≡ drop count names.now) }
 {
@@ -76,21 +38,14 @@ fn names_behind(alloc: Global, names: &FileNames, count: u64) -> Result<FileName
 pub fn compile_types<F: Folder>(
     alloc: Global,
     folder: &mut F,
-    words: &TypesWords<'_>,
+    words: &SourceWords<'_>,
     moment: Moment,
 ) -> Result<Compiled, Halt<Failing>>
     requires lexed { HaveLexedTexts words.now.defs }
     requires may { MayReadOf F.Folder folder.old (TypesAsk (types_asked words.now)) }
     ensures { Finds F.Folder folder.old folder.new (seen compiled_of result) (TypesAre moment (types_asked words.now)) HasWarnings IsSayable }
 {
-    let program = read_program(
-        alloc,
-        folder,
-        Tool::DeRez,
-        &words.files,
-        &words.paths,
-        &words.defs,
-    )?;
+    let program = read_program(alloc, folder, Tool::DeRez, words)?;
     let types = match read_templates(alloc, folder, words.tmpl) {
         Ok(types) => types,
         Err(halt) => return Err(unsaid(alloc, halt, program.files)),

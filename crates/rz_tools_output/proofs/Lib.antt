@@ -3,3 +3,4 @@ pub mod Begins
 pub mod Bridging
 pub mod Breaking
 pub mod Telling
+pub mod SampleRows

@@ -4,3 +4,4 @@ pub mod Halted
 pub mod Bridge
 pub mod Det
 pub mod List
+pub mod SampleSource

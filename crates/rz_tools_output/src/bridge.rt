@@ -14,6 +14,7 @@ ghost use Rattle.rz_folder.specs.Finds.{Finds};
 ghost use Rattle.rz_folder.specs.MayRead.{MayRead};
 ghost use Rattle.rz_folder_paths.specs.Names.{IsUnplaced};
 ghost use Rattle.rz_bridge_form.specs.DataFile.{IsDataFile};
+ghost use Rattle.rz_tools_args.specs.Command.{places_of};
 ghost use Rattle.rz_tools_args.specs.Held.{items_of};
 ghost use Rattle.rz_tools_output.specs.Bridge.{bridge, bridge_asked, writes_of, AnswersBridge, AreWrites, Bridges, HasBeside, IsRead, IsWrittenAs, BridgeAsks};
 
@@ -45,23 +46,28 @@ pub struct BridgeWords<'a> {
 impl<'a> BridgeWords<'a> {
     /// What a command asks for. One of `bridge` names a file, a file to write and a form; where another command names
     /// none, their names are empty and the form is raw.
-    pub fn of(alloc: Global, command: &Command<'a>) -> Result<BridgeWords<'a>, NoMemory>
-        ensures { IfOk result (λ words. bridge words ≡ bridge_asked (items_of command.now)) }
+    pub fn of(alloc: Global, command: Command<'a>) -> Result<BridgeWords<'a>, NoMemory>
+        ensures { IfOk result (λ words. bridge words ≡ bridge_asked (items_of command.entry)) }
     {
-        let files = command.files(alloc)?;
+        let output = command.name(Flag::Output).unwrap_or("");
+        let to = command.form(Flag::Into).unwrap_or(Form::Raw);
+        let from = command.form(Flag::From);
         Ok(BridgeWords {
-            file: first_of(alloc, &files)?,
-            output: command.name(Flag::Output).unwrap_or(""),
-            to: command.form(Flag::Into).unwrap_or(Form::Raw),
-            from: command.form(Flag::From),
+            file: first_file(alloc, command)?,
+            output,
+            to,
+            from,
         })
     }
 }
 
-/// The first name; that of no names is empty.
-pub fn first_of(alloc: Global, names: &FileNames) -> Result<String, NoMemory>
-    ensures { IfOk result (λ name. string_bytes name ≡ get_or names.now 0 []) }
+/// The first file of a command; where it names none, the name is empty.
+pub fn first_file(alloc: Global, command: Command<'_>) -> Result<String, NoMemory>
+    ensures { IfOk result (λ name. string_bytes name ≡ get_or (places_of (items_of command.entry)) 0 []) }
 {
+    let names = command.files(alloc);
+    drop(command);
+    let names = names?;
     if names.len() == 0 {
         Ok(String::new(alloc))
     } else {
@@ -80,12 +86,14 @@ pub fn first_of(alloc: Global, names: &FileNames) -> Result<String, NoMemory>
 pub fn plan_bridge<F: Folder>(
     alloc: Global,
     folder: &mut F,
-    words: &BridgeWords<'_>,
+    words: BridgeWords<'_>,
 ) -> Result<Plan, Halt<Infallible>>
-    requires { MayRead F.Folder folder.old (BridgeAsks (bridge words.now)) }
-    ensures { Plans F.Folder folder.old folder.new result (AnswersBridge (bridge words.now)) }
+    requires { MayRead F.Folder folder.old (BridgeAsks (bridge words)) }
+    ensures { Plans F.Folder folder.old folder.new result (AnswersBridge (bridge words.entry)) }
 {
-    match bridge_file(alloc, folder, words) {
+    let writes = bridge_file(alloc, folder, &words);
+    drop(words);
+    match writes {
         Ok(writes) => Ok(Plan::writing(alloc, writes)),
         Err(halt) => {
             let warnings = Faults::new(alloc);

@@ -7,7 +7,7 @@ ghost use Rattle.rz_tools_answer.specs.Plans.{Plans};
 ghost use Rattle.rz_tools_args.specs.Held.{items_of};
 ghost use Rattle.rz_tools_output.specs.Det.{det, det_asked, AnswersDet, HasBreaks};
 
-use crate::bridge::first_of;
+use crate::bridge::first_file;
 use rz_bridge_files::file_in;
 use rz_bridge_form::Form;
 use rz_core::{Bytes, Fault, FileNames, Halt, NoMemory};
@@ -30,14 +30,12 @@ pub struct DetWords {
 
 impl DetWords {
     /// What a command asks for. One of `det` names a file; where another command names none, the name is empty.
-    pub fn of(alloc: Global, command: &Command<'_>) -> Result<DetWords, NoMemory>
-        ensures { IfOk result (λ words. det words ≡ det_asked (items_of command.now)) }
+    pub fn of(alloc: Global, command: Command<'_>) -> Result<DetWords, NoMemory>
+        ensures { IfOk result (λ words. det words ≡ det_asked (items_of command.entry)) }
     {
-        let files = command.files(alloc)?;
-        Ok(DetWords {
-            file: first_of(alloc, &files)?,
-            from: command.form(Flag::From),
-        })
+        let from = command.form(Flag::From);
+        let file = first_file(alloc, command)?;
+        Ok(DetWords { file, from })
     }
 }
 
@@ -50,12 +48,13 @@ impl DetWords {
 pub fn plan_det<F: Folder>(
     alloc: Global,
     folder: &mut F,
-    words: &DetWords,
+    words: DetWords,
 ) -> Result<Plan, Halt<Infallible>>
-    requires { F.may_read folder.old (det words.now).file }
-    ensures { Plans F.Folder folder.old folder.new result (AnswersDet (det words.now)) }
+    requires { F.may_read folder.old (det words).file }
+    ensures { Plans F.Folder folder.old folder.new result (AnswersDet (det words)) }
 {
-    let text = read_breaks(alloc, folder, words);
+    let text = read_breaks(alloc, folder, &words);
+    drop(words);
     let warnings = Faults::new(alloc);
     let files = FileNames::new(alloc);
     let made = say_beside(alloc, text, &warnings, files);

@@ -4,6 +4,7 @@
 //! as a `Target` asks for it. `plan_bridge` carries a file from one form to another, as the `BridgeWords` of a command
 //! ask for it. `plan_det` tells each rule that the fork of a file breaks, as its `DetWords` ask for it, and `read_list`
 //! what the file holds, as the same words ask for it. Each gives exactly what its definition says, or the first fault.
+//! `sample_source` is the source that `sample` compiles, and `sample_lines` what it says.
 //! It rests on `rz_core`, `rz_folder`, `rz_fork`, `rz_det`, `rz_list`, `rz_set`, `rz_bridge`, `rz_bridge_form`,
 //! `rz_bridge_files`, `rz_folder_paths`, `rz_tools_args`, whose commands it asks, `rz_tools_answer`, whose plans it
 //! makes, and `bitflags`. `rez`, `strings`, `restring` and `answer` of `rz_tools` call it. A new option of the output
@@ -16,11 +17,13 @@ mod bridge;
 mod det;
 mod list;
 mod output;
+mod sample;
 mod target;
 
 pub use base::{Base, Beginning, all_short, read_base, read_held};
 pub use bridge::{BridgeWords, plan_bridge};
 pub use det::{DetWords, plan_det};
-pub use list::read_list;
+pub use list::{check_fork, read_list};
 pub use output::write_output;
+pub use sample::{sample_lines, sample_source, sample_types};
 pub use target::Target;

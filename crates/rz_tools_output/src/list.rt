@@ -54,8 +54,8 @@ fn text_in(alloc: Global, from: Option<Form>, bytes: Bytes) -> Result<FileText, 
     }
 }
 
-/// Tests whether bytes are a fork.
-fn check_fork(fork: &[u8]) -> Result<(), Fault>
+/// Tests whether bytes are a fork: the first rule that it breaks, 401 to 410, without a mark.
+pub fn check_fork(fork: &[u8]) -> Result<(), Fault>
     requires { length fork.now < 2 ^ 32 }
     ensures ok { OnOk result ((held : Fork) × (admit_fork None fork.now ≡ Ok held)) }
     ensures err { IfErr result (λ fault. admit_fork None fork.now ≡ Err fault) }

@@ -1,5 +1,8 @@
 //! The file that is to be written, as it is asked for.
 
+ghost use Rattle.std.specs.Prelude.{◌≡◌, false, None};
+ghost use Rattle.rz_tools_output.specs.Output.{target};
+
 use rz_bridge_form::Form;
 use rz_core::OsType;
 
@@ -16,4 +19,19 @@ pub struct Target<'a> {
     pub creator: Option<OsType>,
     /// The map of its fork becomes read only.
     pub read_only: bool,
+}
+
+impl<'a> Target<'a> {
+    /// The file of this name, of which nothing else is asked for.
+    pub fn named(name: &'a str) -> Target<'a>
+        ensures { target result ≡ record { name = name.now; form = None; kind = None; creator = None; read_only = false } }
+    {
+        Target {
+            name,
+            form: None,
+            kind: None,
+            creator: None,
+            read_only: false,
+        }
+    }
 }

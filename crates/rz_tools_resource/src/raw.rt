@@ -11,14 +11,13 @@ ghost use Rattle.rz_folder.specs.OnlyReads.{OnlyReads};
 ghost use Rattle.rz_core.specs.Stop.{IsReadFault, OnRefusal, Yields};
 ghost use Rattle.rz_tools_values.specs.Around.{around as among};
 ghost use Rattle.rz_tools_values.specs.Texts.{texts_given, texts_read};
-ghost use Rattle.rz_tools_resource.specs.Raw.{contents_read, resource_of, with_text};
+ghost use Rattle.rz_tools_resource.specs.Raw.{resource_of, with_text};
 
-use rz_core::{Bytes, Facts, Fault, FileNames, Halt, Mark, Resource};
+use rz_core::{Facts, Fault, FileNames, Halt, Mark, Resource};
 use rz_folder::Folder;
 use rz_stmt_data::RawStmt;
 use rz_tools_values::{
-    Around, bytes_halted, contents_of, facts_of, fileless_texts_stay, names_file, read_texts,
-    with_bytes,
+    Around, contents_of, facts_of, fileless_texts_stay, names_file, read_texts, with_bytes,
 };
 use rz_types_fields::Texts;
 use std::alloc::Global;
@@ -67,27 +66,9 @@ fn with_text<F: Folder>(
     ensures nameable { (files : ℕ) → mark.file < files → OnRefusal result (IsNameable files) }
     ensures reads { OnlyReads F.Folder folder.old folder.new (IsReadFault result) }
 {
-    let bytes = contents_read(alloc, folder, paths, texts, mark, &known)?;
+    let texts = with_files(alloc, folder, paths, texts, mark, &known)?;
+    let bytes = contents_of(alloc, &texts, mark, &known)?;
     Ok(with_bytes(known, bytes))
-}
-
-/// The contents that a text is, with what the files give that it names.
-fn contents_read<F: Folder>(
-    alloc: Global,
-    folder: &mut F,
-    paths: &FileNames,
-    texts: Texts,
-    mark: Mark,
-    known: &Facts,
-) -> Result<Bytes, Halt<Fault>>
-    requires { MayRead F.Folder folder.old (LooksFor paths.now (TextsAsk (plain_parts texts))) }
-    ensures contents { IfSome (F.files folder.old) (λ files.
-        Yields result (λ answer. answer ≡ contents_read paths.now files mark known.now (plain_parts texts))) }
-    ensures nameable { (files : ℕ) → mark.file < files → OnRefusal result (IsNameable files) }
-    ensures reads { OnlyReads F.Folder folder.old folder.new (IsReadFault result) }
-{
-    let texts = with_files(alloc, folder, paths, texts, mark, known)?;
-    bytes_halted(contents_of(alloc, &texts, mark, known))
 }
 
 /// The same text as `read_texts` gives; one that names no file is given back as it is, and no memory is taken.

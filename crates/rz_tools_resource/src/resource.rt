@@ -1,6 +1,6 @@
 //! The resource of a `resource` statement: header, type, files, row, bytes. Their order is that of `specs/Resource`.
 
-ghost use Rattle.std.specs.Prelude.{◌≡◌, ◌<◌, ℕ, true, length, option_map, IfOk, IfSome};
+ghost use Rattle.std.specs.Prelude.{◌≡◌, ◌<◌, ℕ, true, length, IfOk, IfSome};
 ghost use Rattle.rz_core.specs.Stop.{Meets, OnFault, IsReadFault, OnRefusal, Yields};
 ghost use Rattle.rz_core.specs.Message.{IsNameable};
 ghost use Rattle.rz_folder.specs.MayRead.{MayRead};
@@ -13,9 +13,8 @@ ghost use Rattle.rz_stmt_items.specs.Places.{AreItemsWithin};
 ghost use Rattle.rz_layout.specs.Compiled.{is_compile_fault};
 ghost use Rattle.rz_layout.specs.Fault.{refusal_of};
 ghost use Rattle.rz_tools_values.specs.Around.{around as among};
-ghost use Rattle.rz_tools_resource.specs.Resource.{no_type, row_fault, AreBytes, AreItemBytes, AreReadBytes, IsResource, IsSpelled};
+ghost use Rattle.rz_tools_resource.specs.Resource.{no_type, row_fault, AreBytes, AreItemBytes, IsResource, IsSpelled};
 ghost use Rattle.rz_types_fields.specs.Row.{IsRow};
-ghost use Rattle.rz_types_table.specs.Table.{found};
 ghost use Rattle.rz_types.specs.Template.{template_of};
 ghost use Rattle.rz_types_table.specs.TypeTable.{table_of};
 
@@ -56,7 +55,8 @@ pub fn resource_of_items<F: Folder>(
     Ok(with_bytes(known, bytes))
 }
 
-/// The bytes of items under the fields that are declared for the resource.
+/// The bytes of items under the fields that are declared for the resource, with what the files give that their texts
+/// name.
 fn bytes_of<F: Folder>(
     alloc: Global,
     folder: &mut F,
@@ -71,37 +71,13 @@ fn bytes_of<F: Folder>(
     ensures nameable { (files : ℕ) → around.entry.mark.file < files → AreItemsWithin files (plain_items items) → OnRefusal result (IsNameable files) }
     ensures reads { OnlyReads F.Folder folder.old folder.new (IsReadFault result) }
 {
-    match template_for(types, known) {
-        Some(template) => bytes_read(alloc, folder, around, items, known, template),
+    match types.find(known.kind, known.id) {
+        Some(template) => {
+            let items = with_files(alloc, folder, around.paths, items, around.mark, known)?;
+            Ok(bytes_under(alloc, &items, around.mark, known, template)?)
+        }
         None => Err(Halt::Refused(no_type(known, around.mark))),
     }
-}
-
-/// The template that is declared for the resource.
-fn template_for<'a>(types: &'a TypeTable, known: &Facts) -> Option<&'a Template>
-    ensures { option_map (λ template. template_of template.now) result
-        ≡ option_map (λ one. one.template) (found known.now.kind known.now.id (table_of types.now)) }
-{
-    types.find(known.kind, known.id)
-}
-
-/// The bytes of items under the fields of a template, with what the files give that their texts name.
-fn bytes_read<F: Folder>(
-    alloc: Global,
-    folder: &mut F,
-    around: Around<'_>,
-    items: Items,
-    known: &Facts,
-    template: &Template,
-) -> Result<Bytes, Halt<Fault>>
-    requires { MayRead F.Folder folder.old (LooksFor around.paths.now (ItemsAsk (plain_items items))) }
-    ensures bytes { IfSome (F.files folder.old) (λ files. Yields result
-        (AreReadBytes around.entry.paths.now files around.entry.mark known.now (plain_items items) (template_of template.now))) }
-    ensures nameable { (files : ℕ) → around.entry.mark.file < files → AreItemsWithin files (plain_items items) → OnRefusal result (IsNameable files) }
-    ensures reads { OnlyReads F.Folder folder.old folder.new (IsReadFault result) }
-{
-    let items = with_files(alloc, folder, around.paths, items, around.mark, known)?;
-    Ok(bytes_under(alloc, &items, around.mark, known, template)?)
 }
 
 /// The bytes of items under the fields of a template: those of the row that they fit.

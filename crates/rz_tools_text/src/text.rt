@@ -52,7 +52,7 @@ impl ForkText {
                 Put::Done => Ok(out.flush()),
                 Put::Failed => Ok(Put::Failed),
             },
-            Err(_) => Ok(Put::Done),
+            Err(_) => unreachable!(),
         }
     }
 

@@ -1,12 +1,11 @@
 //! The files that statements name: their bytes, and what these hold in the form that they tell, as `specs/Files` says.
 
-ghost use Rattle.std.specs.Prelude.{◌≡◌, ◌<◌, ◌^◌, ℕ, [], length, IfOk, IfSome, None, Some};
+ghost use Rattle.std.specs.Prelude.{◌≡◌, ◌<◌, ◌^◌, ℕ, length, IfOk, IfSome};
 ghost use Rattle.rz_core.specs.Message.{IsNameable};
 ghost use Rattle.rz_folder.specs.MayRead.{IsOneOf, MayRead};
 ghost use Rattle.rz_folder_paths.specs.Names.{names_of, utf8_name};
 ghost use Rattle.rz_folder.specs.OnlyReads.{OnlyReads};
 ghost use Rattle.rz_core.specs.Stop.{IsReadFault, OnRefusal, Yields, halted};
-ghost use Rattle.rz_bridge_files.specs.Contents.{file_in};
 ghost use Rattle.rz_tools_values.specs.Files.{file_named, file_of_name};
 
 use rz_bridge::MacFile;
@@ -64,19 +63,5 @@ pub fn file_of_name<F: Folder>(
     ensures reads { OnlyReads F.Folder folder.old folder.new (IsReadFault result) }
 {
     let bytes = file_named(alloc, folder, paths, name, mark)?;
-    file_told(alloc, bytes, mark)
-}
-
-/// The file in these bytes, read in the form that they tell.
-fn file_told(alloc: Global, bytes: Bytes, mark: Mark) -> Result<MacFile, Halt<Fault>>
-    requires short { length bytes < 2 ^ 32 }
-    ensures file { Yields result (λ answer. answer ≡ file_in (Some mark) None bytes []) }
-    ensures res_fork { IfOk result (λ file. length file.res_fork < 2 ^ 32) }
-    ensures nameable { (files : ℕ) → mark.file < files → OnRefusal result (IsNameable files) }
-    ensures unread { IsReadFault result → ⊥ }
-{
-    match file_in(alloc, None, bytes, Bytes::new(alloc), Some(mark)) {
-        Ok(file) => Ok(file),
-        Err(stop) => Err(Halt::from(stop)),
-    }
+    Ok(file_in(alloc, None, bytes, Bytes::new(alloc), Some(mark))?)
 }

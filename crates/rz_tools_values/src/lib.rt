@@ -24,7 +24,7 @@ mod texts;
 pub use around::Around;
 pub use chosen::{chosen_in_fork, chosen_in_set, id_said, sought_by};
 pub use contents::{contents_of, short_bytes, with_bytes};
-pub use files::{bytes_halted, file_named, file_of_name};
+pub use files::{file_named, file_of_name};
 pub use head::{bits_of, facts_of, head_facts, id_of, keeps_number, name_of};
 pub use laws::{fileless_texts_stay, list_named_is_of_the_file};
 pub use lent::{found_in, found_name_in, picked_in};

@@ -8,15 +8,13 @@ ghost use Rattle.rz_folder.specs.MayRead.{IsOneOf, MayRead};
 ghost use Rattle.rz_folder_paths.specs.Names.{names_of, utf8_name, LooksFor};
 ghost use Rattle.rz_tools_values.specs.Asked.{ArgumentAsks, ArgumentsAsk, PartAsks, TextsAsk};
 ghost use Rattle.rz_folder.specs.OnlyReads.{OnlyReads};
-ghost use Rattle.rz_tools_values.specs.Lent.{lent_one};
-ghost use Rattle.rz_tools_values.specs.Texts.{argument_given, argument_read, arguments_given, arguments_read, bytes_chosen, bytes_in, bytes_of_one, key_said, part_given, part_read, resource_bytes, resource_named, texts_given, texts_read};
+ghost use Rattle.rz_tools_values.specs.Texts.{argument_given, argument_read, arguments_given, arguments_read, bytes_in, key_said, part_given, part_read, resource_bytes, resource_named, texts_given, texts_read};
 
 use crate::chosen::{chosen_in_fork, id_said};
 use crate::files::{bytes_halted, file_named, file_of_name};
 use rz_bridge_files::admit_fork;
 use rz_core::{Bytes, Facts, Fault, FileNames, Halt, Mark, NoMemory, OsType, Stop};
 use rz_folder::Folder;
-use rz_fork::{ForkView, ResView};
 use rz_set::Pick;
 use rz_types_fields::{FormatArg, FormatArgs, ResKey, TextPart, Texts, text_of};
 use std::alloc::Global;
@@ -196,7 +194,7 @@ fn resource_bytes<F: Folder>(
     bytes_halted(bytes_in(alloc, told.res_fork.as_slice(), kind, pick, file.mark))
 }
 
-/// The bytes of the resource of a fork that a pick by id or name chooses.
+/// The bytes of the resource of a fork that a pick by id or name chooses: 218 where there is none.
 fn bytes_in(
     alloc: Global,
     fork: &[u8],
@@ -208,9 +206,13 @@ fn bytes_in(
     ensures bytes { Gives (bytes_in mark kind pick.now fork.now) result }
     ensures nameable { (files : ℕ) → mark.file < files → OnFault result (IsNameable files) }
 {
-    match admit_fork(fork, Some(mark)) {
-        Ok(fork) => bytes_chosen(alloc, &fork, kind, pick, mark),
-        Err(fault) => Err(Stop::Refused(fault)),
+    let fork = match admit_fork(fork, Some(mark)) {
+        Ok(fork) => fork,
+        Err(fault) => return Err(Stop::Refused(fault)),
+    };
+    match chosen_in_fork(alloc, &fork, kind, pick, mark)? {
+        Some(one) => Ok(Bytes::of(alloc, one.bytes)?),
+        None => Ok(Bytes::new(alloc)),
     }
 }
 
@@ -222,30 +224,5 @@ fn key_said(alloc: Global, key: &ResKey, mark: Mark, known: &Facts) -> Result<Pi
     match key {
         ResKey::Id(id) => Ok(Pick::Id(id_said(alloc, id, mark, known)?)),
         ResKey::Name(texts) => Ok(Pick::Name(text_of(alloc, texts, mark, known)?)),
-    }
-}
-
-/// The bytes of the resource that a pick by id or name chooses: 218 where there is none.
-fn bytes_chosen(
-    alloc: Global,
-    fork: &ForkView<'_>,
-    kind: OsType,
-    pick: &Pick,
-    mark: Mark,
-) -> Result<Bytes, Stop<Fault>>
-    ensures bytes { Gives (bytes_chosen mark kind pick.now fork.now.list) result }
-    ensures nameable { (files : ℕ) → mark.file < files → OnFault result (IsNameable files) }
-{
-    let one = chosen_in_fork(alloc, fork, kind, pick, mark)?;
-    Ok(bytes_of_one(alloc, &one)?)
-}
-
-/// A copy of the bytes of a resource that is lent, or none.
-fn bytes_of_one(alloc: Global, one: &Option<ResView<'_>>) -> Result<Bytes, NoMemory>
-    ensures { IfOk result (λ bytes. bytes ≡ bytes_of_one (lent_one one.now)) }
-{
-    match one {
-        Some(resource) => Bytes::of(alloc, resource.bytes),
-        None => Ok(Bytes::new(alloc)),
     }
 }

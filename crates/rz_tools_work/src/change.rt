@@ -8,7 +8,7 @@ ghost use Rattle.rz_stmt_lists.specs.Delete.{delete_of};
 ghost use Rattle.rz_stmt_lists.specs.Pick.{pick_of};
 ghost use Rattle.rz_set.specs.After.{HasShortName};
 ghost use Rattle.rz_set.specs.Change.{MayHaveId};
-ghost use Rattle.rz_tools_work.specs.Change.{change_said, list_changed, list_changing, list_deleting, list_without, not_appending, pick_to_change};
+ghost use Rattle.rz_tools_work.specs.Change.{change_said, list_changing, list_deleting, not_appending, pick_to_change};
 
 use crate::pick::pick_said;
 use crate::putting::on_line;
@@ -36,7 +36,9 @@ pub fn change_resources(
     ensures nameable { (files : ℕ) → mark.file < files → OnFault result (IsNameable files) }
 {
     let said = change_said(alloc, stmt, mark, setting, resources)?;
-    change_chosen(alloc, stmt.kind, &said, mark, setting, resources)
+    let sought = sought_by(alloc, stmt.kind, &said.pick)?;
+    let left = resources.change(stmt.kind, &said.pick, &said.head, setting.over);
+    on_line(left, mark, sought)
 }
 
 /// The pick of a `change` statement, and what the resources become that it chooses.
@@ -59,25 +61,6 @@ fn change_said(
     Ok(Renamed { pick, head })
 }
 
-/// Changes the resources of a type that are chosen.
-fn change_chosen(
-    alloc: Global,
-    kind: OsType,
-    said: &Renamed,
-    mark: Mark,
-    setting: Setting,
-    resources: &mut ResSet,
-) -> Result<(), Stop<Fault>>
-    requires short { HasShortName (Some said.now.head) }
-    requires id { MayHaveId said.now.pick said.now.head }
-    ensures changed { Meets (left resources.new result) (λ answer. answer ≡ list_changed setting mark resources.old kind said.now) }
-    ensures nameable { (files : ℕ) → mark.file < files → OnFault result (IsNameable files) }
-{
-    let sought = sought_by(alloc, kind, &said.pick)?;
-    let left = resources.change(kind, &said.pick, &said.head, setting.over);
-    on_line(left, mark, sought)
-}
-
 /// Does what a `delete` statement on this line says: the resources of the list that its pick chooses are taken out. The
 /// first fault is the answer: 205 where the list isn't that of a file that is appended to; of the ids of the pick 211, 215
 /// and 204; 218 for a pick by id or name that chooses none; and 219 for a protected resource, where protected ones aren't
@@ -93,23 +76,8 @@ pub fn delete_resources(
     ensures nameable { (files : ℕ) → mark.file < files → OnFault result (IsNameable files) }
 {
     let pick = pick_to_change(alloc, stmt.kind, &stmt.pick, mark, setting)?;
-    delete_picked(alloc, stmt.kind, &pick, mark, setting, resources)
-}
-
-/// Takes the resources of a type out that a pick chooses.
-fn delete_picked(
-    alloc: Global,
-    kind: OsType,
-    pick: &Pick,
-    mark: Mark,
-    setting: Setting,
-    resources: &mut ResSet,
-) -> Result<(), Stop<Fault>>
-    ensures deleted { Meets (left resources.new result) (λ answer. answer ≡ list_without setting mark resources.old kind pick.now) }
-    ensures nameable { (files : ℕ) → mark.file < files → OnFault result (IsNameable files) }
-{
-    let sought = sought_by(alloc, kind, pick)?;
-    let left = resources.remove(kind, pick, setting.over);
+    let sought = sought_by(alloc, stmt.kind, &pick)?;
+    let left = resources.remove(stmt.kind, &pick, setting.over);
     on_line(left, mark, sought)
 }
 

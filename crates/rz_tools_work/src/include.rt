@@ -10,7 +10,7 @@ ghost use Rattle.rz_stmt_lists.specs.Include.{include_of, part_of};
 ghost use Rattle.rz_set.specs.After.{HasShortName};
 ghost use Rattle.rz_set.specs.ResSet.{AreNamed};
 ghost use Rattle.rz_tools_values.specs.Around.{around as among};
-ghost use Rattle.rz_tools_work.specs.Include.{all_of, asked_by, asked_for, fork_included, included, list_including, list_with_asked};
+ghost use Rattle.rz_tools_work.specs.Include.{all_of, asked_by, asked_for, fork_included, included, list_including};
 
 use crate::lent::include_lent;
 use crate::pick::pick_said;
@@ -110,37 +110,15 @@ fn include_part(
     ensures nameable { (files : ℕ) → mark.file < files → OnFault result (IsNameable files) }
 {
     let asked = asked_by(alloc, source, part, mark, setting)?;
-    include_asked(alloc, source, asked, mark, setting, resources)
-}
-
-/// Puts the resources that are asked for of a fork into the list.
-fn include_asked(
-    alloc: Global,
-    source: &ForkView<'_>,
-    asked: Asked,
-    mark: Mark,
-    setting: Setting,
-    resources: &mut ResSet,
-) -> Result<(), Stop<Fault>>
-    requires named { AreNamed source.now.list }
-    requires short { HasShortName asked.head }
-    ensures included { Meets (left resources.new result) (λ answer. answer ≡ list_with_asked setting mark resources.old source.now.list asked) }
-    ensures nameable { (files : ℕ) → mark.file < files → OnFault result (IsNameable files) }
-{
-    let Asked {
-        choice,
-        head,
-        sought,
-    } = asked;
     let left = include_lent(
         alloc,
         source,
-        &choice,
-        head.as_ref(),
+        &asked.choice,
+        asked.head.as_ref(),
         setting.over,
         resources,
     );
-    on_line(left, mark, sought)
+    on_line(left, mark, asked.sought)
 }
 
 /// What a part asks for of a fork.

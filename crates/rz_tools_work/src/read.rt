@@ -8,12 +8,10 @@ ghost use Rattle.rz_folder.specs.OnlyReads.{OnlyReads};
 ghost use Rattle.rz_stmt_lists.specs.Read.{read_of};
 ghost use Rattle.rz_core.specs.Stop.{IsReadFault, OnRefusal, Yields, halted, left};
 ghost use Rattle.rz_tools_values.specs.Around.{around as among};
-ghost use Rattle.rz_tools_values.specs.Contents.{short_bytes};
-ghost use Rattle.rz_tools_values.specs.Files.{file_named};
-ghost use Rattle.rz_tools_work.specs.Read.{contents_named, list_reading, resource_read, with_file};
+ghost use Rattle.rz_tools_work.specs.Read.{list_reading, resource_read};
 
 use crate::putting::put;
-use rz_core::{Bytes, Facts, Fault, FileNames, Halt, Mark, Resource, Stop};
+use rz_core::{Fault, Halt, Resource, Stop};
 use rz_folder::Folder;
 use rz_set::ResSet;
 use rz_stmt_lists::ReadStmt;
@@ -57,61 +55,10 @@ fn resource_read<F: Folder>(
     ensures reads { OnlyReads F.Folder folder.old folder.new (IsReadFault result) }
 {
     let known = facts_of(alloc, stmt.kind, &stmt.head, around.mark, around.setting)?;
-    with_file(
-        alloc,
-        folder,
-        around.paths,
-        known,
-        stmt.file.as_slice(),
-        around.mark,
-    )
-}
-
-/// The resource of which this is known, with the contents of a file.
-fn with_file<F: Folder>(
-    alloc: Global,
-    folder: &mut F,
-    paths: &FileNames,
-    known: Facts,
-    name: &[u8],
-    mark: Mark,
-) -> Result<Resource, Halt<Fault>>
-    requires named { length known.name < 256 }
-    requires may { MayRead F.Folder folder.old (IsOneOf (names_of paths.now (utf8_name name.now))) }
-    ensures read { IfSome (F.files folder.old) (λ files. Yields result (λ answer. answer ≡ with_file paths.now files mark name.now known)) }
-    ensures named { IfOk result (λ resource. length resource.name < 256) }
-    ensures nameable { (files : ℕ) → mark.file < files → OnRefusal result (IsNameable files) }
-    ensures reads { OnlyReads F.Folder folder.old folder.new (IsReadFault result) }
-{
-    let bytes = contents_named(alloc, folder, paths, name, mark)?;
-    Ok(with_bytes(known, bytes))
-}
-
-/// The contents of a file, as many as a resource may have: 301.
-fn contents_named<F: Folder>(
-    alloc: Global,
-    folder: &mut F,
-    paths: &FileNames,
-    name: &[u8],
-    mark: Mark,
-) -> Result<Bytes, Halt<Fault>>
-    requires { MayRead F.Folder folder.old (IsOneOf (names_of paths.now (utf8_name name.now))) }
-    ensures read { IfSome (F.files folder.old) (λ files. Yields result (λ answer. answer ≡ contents_named paths.now files mark name.now)) }
-    ensures nameable { (files : ℕ) → mark.file < files → OnRefusal result (IsNameable files) }
-    ensures reads { OnlyReads F.Folder folder.old folder.new (IsReadFault result) }
-{
-    let bytes = file_named(alloc, folder, paths, name, mark)?;
-    short_contents(bytes, mark)
-}
-
-/// Contents, as many as a resource may have: 301.
-fn short_contents(bytes: Bytes, mark: Mark) -> Result<Bytes, Halt<Fault>>
-    ensures bytes { Yields result (λ answer. answer ≡ short_bytes mark bytes) }
-    ensures nameable { (files : ℕ) → mark.file < files → OnRefusal result (IsNameable files) }
-    ensures unread { IsReadFault result → ⊥ }
-{
-    match short_bytes(bytes, mark) {
-        Ok(bytes) => Ok(bytes),
+    let name = stmt.file.as_slice();
+    let bytes = file_named(alloc, folder, around.paths, name, around.mark)?;
+    match short_bytes(bytes, around.mark) {
+        Ok(bytes) => Ok(with_bytes(known, bytes)),
         Err(fault) => Err(Halt::Refused(fault)),
     }
 }

@@ -32,7 +32,7 @@ compile-made-requires-clause-may g c =
 
 pub answer_derez-requires-clause-may : goal.answer_derez-requires-clause-may
 answer_derez-requires-clause-may g c =
-    subst (λ (a : DeRezAsked). MayReadOf g.F.Folder c.args.folder.now (DeRezAsks a)) (sym c.in_ok-words-in-DeRez.ensures)
+    subst (λ (a : DeRezAsked). MayReadOf g.F.Folder c.args.folder.now (DeRezAsks a)) (sym c.in_ok-of-in-DeRez.ensures)
     (subst (λ (name : CommandName). MayReadOf g.F.Folder c.args.folder.now (CommandAsks name (items_of c.args.command))) c.in-DeRez.is c.requires.may)
 
 pub list_strings-made-requires-clause-may : goal.list_strings-made-requires-clause-may
@@ -45,23 +45,23 @@ restring_fork-made-requires-clause-may g c =
     subst (λ (a : RestringAsked). MayReadOf g.F.Folder c.args.folder.now (RestringAsks a)) (sym c.in_ok-words-in-Restring.ensures)
     (subst (λ (name : CommandName). MayReadOf g.F.Folder c.args.folder.now (CommandAsks name (items_of c.args.command))) c.in-Restring.is c.requires.may)
 
-pub plan_bridge-plan-requires : goal.plan_bridge-plan-requires
-plan_bridge-plan-requires g c =
-    subst (λ (a : BridgeAsked). MayRead g.F.Folder c.args.folder.now (BridgeAsks a)) (sym c.in_ok-words-in-Bridge.ensures)
+pub plan_bridge-requires : goal.plan_bridge-requires
+plan_bridge-requires g c =
+    subst (λ (a : BridgeAsked). MayRead g.F.Folder c.args.folder.now (BridgeAsks a)) (sym c.in_ok-of-in-Bridge.ensures)
     (may_read_these g.F.Folder (CommandAsks names.Bridge (items_of c.args.command))
     (subst (λ (name : CommandName). MayReadOf g.F.Folder c.args.folder.now (CommandAsks name (items_of c.args.command))) c.in-Bridge.is c.requires.may)
     (BridgeAsks (bridge_asked (items_of c.args.command))) (λ files told name is. is))
 
-pub plan_det-plan-requires : goal.plan_det-plan-requires
-plan_det-plan-requires g c =
-    subst (λ (a : DetAsked). g.F.Folder.may_read c.args.folder.now a.file) (sym c.in_ok-words-in-Det.ensures)
+pub plan_det-requires : goal.plan_det-requires
+plan_det-requires g c =
+    subst (λ (a : DetAsked). g.F.Folder.may_read c.args.folder.now a.file) (sym c.in_ok-of-in-Det.ensures)
     (may_read_these g.F.Folder (CommandAsks names.Det (items_of c.args.command))
     (subst (λ (name : CommandName). MayReadOf g.F.Folder c.args.folder.now (CommandAsks name (items_of c.args.command))) c.in-Det.is c.requires.may)
     (λ name. name ≡ (det_asked (items_of c.args.command)).file) (λ files told name is. is) (det_asked (items_of c.args.command)).file refl)
 
-pub answer_list-reply-requires : goal.answer_list-reply-requires
-answer_list-reply-requires g c =
-    subst (λ (a : DetAsked). g.F.Folder.may_read c.args.folder.now a.file) (sym c.in_ok-words-in-List.ensures)
+pub answer_list-requires : goal.answer_list-requires
+answer_list-requires g c =
+    subst (λ (a : DetAsked). g.F.Folder.may_read c.args.folder.now a.file) (sym c.in_ok-of-in-List.ensures)
     (may_read_these g.F.Folder (CommandAsks names.List (items_of c.args.command))
     (subst (λ (name : CommandName). MayReadOf g.F.Folder c.args.folder.now (CommandAsks name (items_of c.args.command))) c.in-List.is c.requires.may)
     (λ name. name ≡ (det_asked (items_of c.args.command)).file) (λ files told name is. is) (det_asked (items_of c.args.command)).file refl)
@@ -70,7 +70,7 @@ pub compile-made-requires-clause-lexed : goal.compile-made-requires-clause-lexed
 compile-made-requires-clause-lexed g c = subst HaveLexedTexts (sym (ap (λ (a : RezAsked). a.defs) c.in_ok-words-in-Rez.ensures)) c.requires.lexed
 
 pub answer_derez-requires-clause-lexed : goal.answer_derez-requires-clause-lexed
-answer_derez-requires-clause-lexed g c = subst HaveLexedTexts (sym (ap (λ (a : DeRezAsked). a.types.defs) c.in_ok-words-in-DeRez.ensures)) c.requires.lexed
+answer_derez-requires-clause-lexed g c = subst HaveLexedTexts (sym (ap (λ (a : DeRezAsked). a.types.defs) c.in_ok-of-in-DeRez.ensures)) c.requires.lexed
 
 pub list_strings-made-requires-clause-lexed : goal.list_strings-made-requires-clause-lexed
 list_strings-made-requires-clause-lexed g c = subst HaveLexedTexts (sym (ap (λ (a : StringsAsked). a.types.defs) c.in_ok-words-in-Strings.ensures)) c.requires.lexed
@@ -86,25 +86,25 @@ returns-in_ok-words-in-Rez-clause-replies g c =
     (plans_made g.F.Folder (written (rez c.in_ok-words-in-Rez.words).target.name) (Compiles c.args.moment (rez c.in_ok-words-in-Rez.words)) c.compile-made.result c.compile-made.ensures c.to_write-plan.ensures)
     (λ files answer is. (subst (λ (a : RezAsked). AnswersRez a files c.args.moment answer) c.in_ok-words-in-Rez.ensures is, tt))
 
-pub returns-in_ok-words-in-DeRez-clause-replies : goal.returns-in_ok-words-in-DeRez-clause-replies
-returns-in_ok-words-in-DeRez-clause-replies g c =
+pub returns-in_ok-of-in-DeRez-clause-replies : goal.returns-in_ok-of-in-DeRez-clause-replies
+returns-in_ok-of-in-DeRez-clause-replies g c =
     named g.F.Folder c.args.command.name names.DeRez (items_of c.args.command) c.args.moment c.in-DeRez.is c.answer_derez.result c.answer_derez.ensures
-    (λ files answer is. subst (λ (a : DeRezAsked). AnswersDeRez a files c.args.moment answer × ShowsFile a.file a.from files answer) c.in_ok-words-in-DeRez.ensures is)
+    (λ files answer is. subst (λ (a : DeRezAsked). AnswersDeRez a files c.args.moment answer × ShowsFile a.file a.from files answer) c.in_ok-of-in-DeRez.ensures is)
 
-pub returns-in_ok-words-in-Bridge-clause-replies : goal.returns-in_ok-words-in-Bridge-clause-replies
-returns-in_ok-words-in-Bridge-clause-replies g c =
-    planned_as g.F.Folder c.args.command.name names.Bridge (items_of c.args.command) c.args.moment c.in-Bridge.is c.plan_bridge-plan.result c.planned-in-Bridge.result c.planned-in-Bridge.ensures
-    c.plan_bridge-plan.ensures (λ files answer is. (subst (λ (a : BridgeAsked). AnswersBridge a files answer) c.in_ok-words-in-Bridge.ensures is, tt))
+pub returns-in_ok-of-in-Bridge-clause-replies : goal.returns-in_ok-of-in-Bridge-clause-replies
+returns-in_ok-of-in-Bridge-clause-replies g c =
+    planned_as g.F.Folder c.args.command.name names.Bridge (items_of c.args.command) c.args.moment c.in-Bridge.is c.plan_bridge.result c.planned-in-Bridge.result c.planned-in-Bridge.ensures
+    c.plan_bridge.ensures (λ files answer is. (subst (λ (a : BridgeAsked). AnswersBridge a files answer) c.in_ok-of-in-Bridge.ensures is, tt))
 
-pub returns-in_ok-words-in-Det-clause-replies : goal.returns-in_ok-words-in-Det-clause-replies
-returns-in_ok-words-in-Det-clause-replies g c =
-    planned_as g.F.Folder c.args.command.name names.Det (items_of c.args.command) c.args.moment c.in-Det.is c.plan_det-plan.result c.planned-in-Det.result c.planned-in-Det.ensures
-    c.plan_det-plan.ensures (λ files answer is. (subst (λ (a : DetAsked). AnswersDet a files answer) c.in_ok-words-in-Det.ensures is, tt))
+pub returns-in_ok-of-in-Det-clause-replies : goal.returns-in_ok-of-in-Det-clause-replies
+returns-in_ok-of-in-Det-clause-replies g c =
+    planned_as g.F.Folder c.args.command.name names.Det (items_of c.args.command) c.args.moment c.in-Det.is c.plan_det.result c.planned-in-Det.result c.planned-in-Det.ensures
+    c.plan_det.ensures (λ files answer is. (subst (λ (a : DetAsked). AnswersDet a files answer) c.in_ok-of-in-Det.ensures is, tt))
 
-pub returns-in_ok-words-in-List-clause-replies : goal.returns-in_ok-words-in-List-clause-replies
-returns-in_ok-words-in-List-clause-replies g c =
-    named g.F.Folder c.args.command.name names.List (items_of c.args.command) c.args.moment c.in-List.is c.answer_list-reply.result c.answer_list-reply.ensures
-    (λ files answer is. (subst (λ (a : DetAsked). AnswersList a files answer) c.in_ok-words-in-List.ensures is, tt))
+pub returns-in_ok-of-in-List-clause-replies : goal.returns-in_ok-of-in-List-clause-replies
+returns-in_ok-of-in-List-clause-replies g c =
+    named g.F.Folder c.args.command.name names.List (items_of c.args.command) c.args.moment c.in-List.is c.answer_list.result c.answer_list.ensures
+    (λ files answer is. (subst (λ (a : DetAsked). AnswersList a files answer) c.in_ok-of-in-List.ensures is, tt))
 
 pub returns-in_ok-words-in-Strings-clause-replies : goal.returns-in_ok-words-in-Strings-clause-replies
 returns-in_ok-words-in-Strings-clause-replies g c =
@@ -124,17 +124,17 @@ returns-in_ok-words-in-Restring-clause-replies g c =
 pub returns-in_ok-words-in-Rez-clause-fileless : goal.returns-in_ok-words-in-Rez-clause-fileless
 returns-in_ok-words-in-Rez-clause-fileless g c is = absurd (subst IsFileless c.in-Rez.is is)
 
-pub returns-in_ok-words-in-DeRez-clause-fileless : goal.returns-in_ok-words-in-DeRez-clause-fileless
-returns-in_ok-words-in-DeRez-clause-fileless g c is = absurd (subst IsFileless c.in-DeRez.is is)
+pub returns-in_ok-of-in-DeRez-clause-fileless : goal.returns-in_ok-of-in-DeRez-clause-fileless
+returns-in_ok-of-in-DeRez-clause-fileless g c is = absurd (subst IsFileless c.in-DeRez.is is)
 
-pub returns-in_ok-words-in-Bridge-clause-fileless : goal.returns-in_ok-words-in-Bridge-clause-fileless
-returns-in_ok-words-in-Bridge-clause-fileless g c is = absurd (subst IsFileless c.in-Bridge.is is)
+pub returns-in_ok-of-in-Bridge-clause-fileless : goal.returns-in_ok-of-in-Bridge-clause-fileless
+returns-in_ok-of-in-Bridge-clause-fileless g c is = absurd (subst IsFileless c.in-Bridge.is is)
 
-pub returns-in_ok-words-in-Det-clause-fileless : goal.returns-in_ok-words-in-Det-clause-fileless
-returns-in_ok-words-in-Det-clause-fileless g c is = absurd (subst IsFileless c.in-Det.is is)
+pub returns-in_ok-of-in-Det-clause-fileless : goal.returns-in_ok-of-in-Det-clause-fileless
+returns-in_ok-of-in-Det-clause-fileless g c is = absurd (subst IsFileless c.in-Det.is is)
 
-pub returns-in_ok-words-in-List-clause-fileless : goal.returns-in_ok-words-in-List-clause-fileless
-returns-in_ok-words-in-List-clause-fileless g c is = absurd (subst IsFileless c.in-List.is is)
+pub returns-in_ok-of-in-List-clause-fileless : goal.returns-in_ok-of-in-List-clause-fileless
+returns-in_ok-of-in-List-clause-fileless g c is = absurd (subst IsFileless c.in-List.is is)
 
 pub returns-in_ok-words-in-Strings-clause-fileless : goal.returns-in_ok-words-in-Strings-clause-fileless
 returns-in_ok-words-in-Strings-clause-fileless g c is = absurd (subst IsFileless c.in-Strings.is is)
@@ -163,24 +163,24 @@ pub to_write-plan-requires-in-Restring-clause-bad : goal.to_write-plan-requires-
 to_write-plan-requires-in-Restring-clause-bad g c = c.restring_fork-made.ensures.bad
 
 pub to_show-requires-in-Sample-clause-good : goal.to_show-requires-in-Sample-clause-good
-to_show-requires-in-Sample-clause-good g c = c.sampled-made.ensures.good
+to_show-requires-in-Sample-clause-good g c = c.sampled.ensures.good
 
 pub to_show-requires-in-Sample-clause-bad : goal.to_show-requires-in-Sample-clause-bad
-to_show-requires-in-Sample-clause-bad g c = c.sampled-made.ensures.bad
+to_show-requires-in-Sample-clause-bad g c = c.sampled.ensures.bad
 
 -- A sample.
 
 pub returns-in-Sample-clause-replies : goal.returns-in-Sample-clause-replies
 returns-in-Sample-clause-replies g c =
     sampled_replies g.F.Folder c.args.command.name (items_of c.args.command) c.args.moment c.in-Sample.is c.number-count.result (omega arith) c.number-count.ensures
-    c.sampled-made.result c.sampled-made.ensures.lines c.sampled-made.ensures.unread c.to_show-in-Sample.result c.to_show-in-Sample.ensures
+    c.sampled.result c.sampled.ensures.lines c.sampled.ensures.unread c.to_show-in-Sample.result c.to_show-in-Sample.ensures
     c.planned-in-Sample.result c.planned-in-Sample.ensures
 
 pub returns-in-Sample-clause-fileless : goal.returns-in-Sample-clause-fileless
 returns-in-Sample-clause-fileless g c is files =
     subst (λ (n : CommandName). IfOk c.planned-in-Sample.result (λ reply. EachAnswer reply (AnswersItems n (items_of c.args.command) files c.args.moment))) (sym c.in-Sample.is)
     (sampled_answers c.number-count.result c.args.moment (omega arith) (places_of (items_of c.args.command)) c.number-count.ensures
-    c.sampled-made.result c.sampled-made.ensures.lines c.to_show-in-Sample.result c.to_show-in-Sample.ensures.answered c.planned-in-Sample.result c.planned-in-Sample.ensures)
+    c.sampled.result c.sampled.ensures.lines c.to_show-in-Sample.result c.to_show-in-Sample.ensures.answered c.planned-in-Sample.result c.planned-in-Sample.ensures)
 
 -- Texts that are there.
 

@@ -14,10 +14,10 @@ pub say_stop-requires-clause-warnings : goal.say_stop-requires-clause-warnings
 say_stop-requires-clause-warnings g c = subst (λ (ws : List Fault). AreWarnings (length c.new-files.result) ws) (sym c.new-warnings.ensures) tt
 
 pub returns-in-Ok : goal.returns-in-Ok
-returns-in-Ok g c = list_replies g.F.Folder (det c.args.words.now) c.in-Ok.text c.in-Ok.ensures.text c.in-Ok.ensures.whole
+returns-in-Ok g c = list_replies g.F.Folder (det c.args.words) c.in-Ok.text c.in-Ok.ensures.text c.in-Ok.ensures.whole
 
 pub returns-in-Err : goal.returns-in-Err
 returns-in-Err g c =
     plan_replies g.F.Folder c.stopped.result c.planned.result c.planned.ensures
-    (list_stopped g.F.Folder (det c.args.words.now) c.new-files.result c.new-warnings.result c.new-files.ensures c.new-warnings.ensures c.in-Err.halt c.say_stop.result c.say_stop.ensures
+    (list_stopped g.F.Folder (det c.args.words) c.new-files.result c.new-warnings.result c.new-files.ensures c.new-warnings.ensures c.in-Err.halt c.say_stop.result c.say_stop.ensures
     c.stopped.result c.stopped.ensures.refused c.stopped.ensures.well_formed c.stopped.ensures.writable c.stopped.ensures.no_usage c.stopped.ensures.read_fault c.in-Err.ensures.text)

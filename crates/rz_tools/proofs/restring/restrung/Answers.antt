@@ -81,7 +81,7 @@ returns-in_err-write_output g c =
     (finds_value g.F.Folder (Applied (table_of c.args.types.now) c.args.moment words.over begun.list c.in_ok-entries.entries) (λ changed. Unit {0}) changed c.in_ok-changed.ensures tt)
     (finds_end g.F.Folder c.from_residual-in_err-write_output.result c.from_residual-in_err-write_output.ensures.1
     (finds_fault g.F.Folder (IsOutput (target_named words.output.now) c.args.moment (begun_of begun) changed) (λ bytes. length bytes < 2 ^ 32) stop
-    (subst (λ (t : Target). Meets {X = List ℕ} (Err stop) (IsOutput t c.args.moment (begun_of begun) changed)) c.target_named-target.ensures (c.in_err-write_output.ensures.output begun.list))
+    (subst (λ (t : Target). Meets {X = List ℕ} (Err stop) (IsOutput t c.args.moment (begun_of begun) changed)) c.named-target.ensures (c.in_err-write_output.ensures.output begun.list))
     (c.in_err-write_output.ensures.nameable (c.args.file + 1))))))
 
 pub returns : goal.returns
@@ -95,5 +95,5 @@ returns g c =
     (finds_then g.F.Folder (λ files. Applied (table_of c.args.types.now) c.args.moment words.over begun.list c.in_ok-entries.entries) _
     (finds_value g.F.Folder (Applied (table_of c.args.types.now) c.args.moment words.over begun.list c.in_ok-entries.entries) (λ changed. Unit {0}) changed c.in_ok-changed.ensures tt)
     (finds_value g.F.Folder (IsOutput (target_named words.output.now) c.args.moment (begun_of begun) changed) (λ bytes. length bytes < 2 ^ 32) c.in_ok-write_output.field-0
-    (subst (λ (t : Target). IsOutput t c.args.moment (begun_of begun) changed (Ok c.in_ok-write_output.field-0)) c.target_named-target.ensures (c.in_ok-write_output.ensures.output begun.list))
+    (subst (λ (t : Target). IsOutput t c.args.moment (begun_of begun) changed (Ok c.in_ok-write_output.field-0)) c.named-target.ensures (c.in_ok-write_output.ensures.output begun.list))
     c.in_ok-write_output.ensures.short)))

@@ -14,14 +14,14 @@ returns-clause-made c =
     let made = c.in_ok-whole_text.field-0 in
     subst (λ (said : List ℕ). ShowsSample c.args.moment c.args.fork.now (Ok (record { bytes = made.bytes; said = said }))) (sym c.in_ok-whole_text.ensures.said)
     (shows_so c.args.moment _ _ _ _ c.in_ok-derez_words.ensures.asked
-    (two_files _ _ _ _ _ _ _ _ _ c.new-shelf.ensures.files c.as_slice.ensures c.in_ok-hold.ensures c.types.ensures c.in_ok-hold-2.ensures) (Ok (making_with made.bytes c.in_ok-shown.shown))
+    (two_files _ _ _ _ _ _ _ _ _ c.new-shelf.ensures.files c.as_slice.ensures c.in_ok-hold.ensures c.sample_types.ensures c.in_ok-hold-2.ensures) (Ok (making_with made.bytes c.in_ok-shown.shown))
     (c.in_ok-shown.ensures.answered.0 made.bytes c.in_ok-whole_text.ensures.text))
 
 pub returns-in_err-shown-clause-made : goal.returns-in_err-shown-clause-made
 returns-in_err-shown-clause-made c =
     ended_made c.in_err-shown.field-0.0 (ShowsSample c.args.moment c.args.fork.now) c.from_residual-in_err-shown.result c.from_residual-in_err-shown.ensures.1
     (shows_so c.args.moment _ _ _ _ c.in_ok-derez_words.ensures.asked
-    (two_files _ _ _ _ _ _ _ _ _ c.new-shelf.ensures.files c.as_slice.ensures c.in_ok-hold.ensures c.types.ensures c.in_ok-hold-2.ensures) (Err c.in_err-shown.field-0.0)
+    (two_files _ _ _ _ _ _ _ _ _ c.new-shelf.ensures.files c.as_slice.ensures c.in_ok-hold.ensures c.sample_types.ensures c.in_ok-hold-2.ensures) (Err c.in_err-shown.field-0.0)
     (same_end c.in_ok-derez_words.field-0.from (string_bytes c.in_ok-derez_words.field-0.file) (Shows c.args.moment (derez c.in_ok-derez_words.field-0)) c.hold-2.new.shelf.files
     c.in_err-shown.field-0.0 c.in_err-shown.ensures.answered))
 

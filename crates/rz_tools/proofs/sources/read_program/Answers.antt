@@ -28,9 +28,9 @@ returns-in-Ok g c = record {
 pub returns-in-Err : goal.returns-in-Err
 returns-in-Err g c =
     subst (λ (halt : Halt Failing). Finds g.F.Folder c.args.folder.now c.preprocess.new.folder (Err halt)
-    (λ files. OfProgram (Unsaid (ProgramGoes files c.args.tool c.args.names.now c.args.paths.now c.args.defs.now))) CanCompile IsSayable) (sym c.not_read.ensures)
+    (λ files. OfProgram (Unsaid (ProgramGoes files c.args.tool c.args.words.now.files c.args.words.now.paths c.args.words.now.defs))) CanCompile IsSayable) (sym c.not_read.ensures)
     (record {
-      answered = no_program c.args.tool c.args.names.now c.args.paths.now c.args.defs.now c.in-Err.halt (g.F.Folder.files c.args.folder.now) c.in-Err.ensures.program;
+      answered = no_program c.args.tool c.args.words.now.files c.args.words.now.paths c.args.words.now.defs c.in-Err.halt (g.F.Folder.files c.args.folder.now) c.in-Err.ensures.program;
       good = tt;
       bad = not_read_sayable c.in-Err.halt c.in-Err.ensures.nameable;
       reads = record {

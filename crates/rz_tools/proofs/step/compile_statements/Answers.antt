@@ -1,4 +1,5 @@
 use Rattle.std.proofs.Common.{List, subst, map}
+use Rattle.std.proofs.lemmas.Result.{err_from_is_err_and}
 use Rattle.std.specs.declared.option.Option.{Option}
 use Rattle.rz_folder.proofs.Reading.{reads_on}
 use Rattle.rz_lex.specs.Lexeme.{AreLexed}
@@ -35,34 +36,36 @@ loop-reader-preserved g c =
       leads = leads_on c.args.setting c.args.paths.now (work_of c.args.work.now) c.args.tokens c.loop-reader.reader c.next_statement.new.reader c.in-Some.statement (work_of c.loop-reader.work)
           (λ statements are. subst (λ (o : Option (List Token)). BeginsWith o statements c.next_statement.new.reader) c.in-Some.is (c.in_ok-statement.ensures.first statements are))
           (g.F.Folder.files c.args.folder.now) (g.F.Folder.files c.loop-reader.folder) c.loop-reader.invariant.reads.unchanged c.loop-reader.invariant.leads
-          (work_of c.step.new.work) c.in-Ok.ensures.stepped;
-      reads = reads_on g.F.Folder _ _ _ _ _ ⊥ c.loop-reader.invariant.reads c.in-Ok.ensures.reads (λ never. absurd never);
+          (work_of c.step.new.work) c.in_ok-step.ensures.stepped;
+      reads = reads_on g.F.Folder _ _ _ _ _ ⊥ c.loop-reader.invariant.reads c.in_ok-step.ensures.reads (λ never. absurd never);
       asks = λ own asks. c.loop-reader.invariant.asks own
           (any_later c.all_tokens_are_statements.ensures c.one_cutting.ensures c.args.setting.tool c.loop-reader.reader c.next_statement.new.reader c.in-Some.statement
           (λ statements are. subst (λ (o : Option (List Token)). BeginsWith o statements c.next_statement.new.reader) c.in-Some.is (c.in_ok-statement.ensures.first statements are)) own asks);
       lexed = (lexed_parts c.in-Some.statement c.next_statement.new.reader (subst AreLexed front.0 c.loop-reader.invariant.lexed)).1;
       within = λ files within. (within_parts files c.in-Some.statement c.next_statement.new.reader (subst (AreWithin files) front.0 (c.loop-reader.invariant.within files within))).1;
       warned = λ files within are.
-          c.in-Ok.ensures.warned files (within_parts files c.in-Some.statement c.next_statement.new.reader (subst (AreWithin files) front.0 (c.loop-reader.invariant.within files within))).0
+          c.in_ok-step.ensures.warned files (within_parts files c.in-Some.statement c.next_statement.new.reader (subst (AreWithin files) front.0 (c.loop-reader.invariant.within files within))).0
           (c.loop-reader.invariant.warned files within are);
     }
 
-pub returns-in-Err-clause-work : goal.returns-in-Err-clause-work
-returns-in-Err-clause-work g c =
-    leads_to_stop c.args.setting c.args.paths.now (work_of c.args.work.now) c.args.tokens c.loop-reader.reader c.next_statement.new.reader c.in-Some.statement (work_of c.loop-reader.work)
+pub returns-in_err-step-clause-work : goal.returns-in_err-step-clause-work
+returns-in_err-step-clause-work g c =
+    let p = err_from_is_err_and c.from_residual-in_err-step.result c.from_residual-in_err-step.ensures.1 in
+    rw (p.1, p.2) (leads_to_stop c.args.setting c.args.paths.now (work_of c.args.work.now) c.args.tokens c.loop-reader.reader c.next_statement.new.reader c.in-Some.statement (work_of c.loop-reader.work)
     (λ statements are. subst (λ (o : Option (List Token)). BeginsWith o statements c.next_statement.new.reader) c.in-Some.is (c.in_ok-statement.ensures.first statements are))
     (g.F.Folder.files c.args.folder.now) (g.F.Folder.files c.loop-reader.folder) c.loop-reader.invariant.reads.unchanged c.loop-reader.invariant.leads
-    c.in-Err.halt (work_of c.step.new.work) c.in-Err.ensures.stepped
+    c.in_err-step.field-0.0 (work_of c.step.new.work) c.in_err-step.ensures.stepped)
 
-pub returns-in-Err-clause-nameable : goal.returns-in-Err-clause-nameable
-returns-in-Err-clause-nameable g c files within =
+pub returns-in_err-step-clause-nameable : goal.returns-in_err-step-clause-nameable
+returns-in_err-step-clause-nameable g c files within =
     let front = rw c.in-Some.is at c.in_ok-statement.ensures.front in
-    c.in-Err.ensures.nameable files
-    (within_parts files c.in-Some.statement c.next_statement.new.reader (subst (AreWithin files) front.0 (c.loop-reader.invariant.within files within))).0
+    let p = err_from_is_err_and c.from_residual-in_err-step.result c.from_residual-in_err-step.ensures.1 in
+    rw (p.1, p.2) (c.in_err-step.ensures.nameable files
+    (within_parts files c.in-Some.statement c.next_statement.new.reader (subst (AreWithin files) front.0 (c.loop-reader.invariant.within files within))).0)
 
-pub returns-in-Err-clause-warned : goal.returns-in-Err-clause-warned
-returns-in-Err-clause-warned g c files within are =
+pub returns-in_err-step-clause-warned : goal.returns-in_err-step-clause-warned
+returns-in_err-step-clause-warned g c files within are =
     let front = rw c.in-Some.is at c.in_ok-statement.ensures.front in
-    c.in-Err.ensures.warned files
+    c.in_err-step.ensures.warned files
     (within_parts files c.in-Some.statement c.next_statement.new.reader (subst (AreWithin files) front.0 (c.loop-reader.invariant.within files within))).0
     (c.loop-reader.invariant.warned files within are)

@@ -11,7 +11,7 @@ use Rattle.rz_tools_output.proofs.Bridging.{plans_refusal, plans_writes}
 use Rattle.rz_tools_output.proofs.bridge.plan_bridge.Goals as goal
 
 pub returns-in-Ok : goal.returns-in-Ok
-returns-in-Ok g c = plans_writes g.F.Folder (bridge c.args.words.now) (map write_of c.in-Ok.writes) c.in-Ok.ensures c.writing.result c.writing.ensures
+returns-in-Ok g c = plans_writes g.F.Folder (bridge c.args.words) (map write_of c.in-Ok.writes) c.in-Ok.ensures c.writing.result c.writing.ensures
 
 pub say_stop-stop-requires-clause-fault : goal.say_stop-stop-requires-clause-fault
 say_stop-stop-requires-clause-fault g c = halt_placed (List Write) (List ℕ) (length c.new.result) c.in-Err.halt c.in-Err.ensures.bad
@@ -24,7 +24,7 @@ stopped-requires g c = stop_sayable (Err c.say_stop-stop.result) c.say_stop-stop
 
 pub returns-in-Err : goal.returns-in-Err
 returns-in-Err g c =
-    plans_refusal g.F.Folder (bridge c.args.words.now) c.in-Err.ensures
+    plans_refusal g.F.Folder (bridge c.args.words) c.in-Err.ensures
     (subst (λ (names : List (List ℕ)). IsBeside names [] (Err c.in-Err.halt) (Err c.say_stop-stop.result)) c.new.ensures
     (subst (λ (ws : List Fault). IsBeside c.new.result ws (Err c.in-Err.halt) (Err c.say_stop-stop.result)) c.new-warnings.ensures c.say_stop-stop.ensures))
     c.stopped.result c.stopped.ensures.refused

@@ -17,7 +17,7 @@ say_beside-made-requires-clause-warnings g c = subst (λ (ws : List Fault). AreW
 
 pub returns : goal.returns
 returns g c =
-    let asked = det c.args.words.now in
+    let asked = det c.args.words in
     plans_as g.F.Folder c.to_show.result
     (plans_made g.F.Folder shown (λ files. SaidWith c.new-files.result c.new-warnings.result (HasBreaks asked files)) c.say_beside-made.result
     (finds_beside g.F.Folder c.say_beside-made.result (finds_at g.F.Folder (length c.new-files.result) c.read_breaks-text.ensures) c.say_beside-made.ensures)

@@ -1,30 +1,64 @@
-use Rattle.std.proofs.Common.{◌≡◌, ℕ, List, IfSome, sym, subst}
+use Rattle.std.proofs.Common.{◌≡◌, ℕ, List, Ok, Err, IfSome, ap, sym, subst}
 use Rattle.std.proofs.lemmas.Option.{IfSome_then}
 use Rattle.std.proofs.lemmas.Result.{err_from_is_err_and}
 use Rattle.rz_core.specs.Message.{IsNameable}
 use Rattle.rz_core.specs.declared.facts.Facts.{Facts}
 use Rattle.rz_core.specs.declared.resource.Resource.{Resource}
+use Rattle.rz_core.specs.declared.stop.Halt.TheVariants.{Refused}
 use Rattle.rz_stmt_data.specs.Head.{head_of}
 use Rattle.rz_core.specs.Stop.{IsReadFault, Yields}
 use Rattle.rz_folder_paths.proofs.Found.{if_some}
+use Rattle.rz_tools_values.specs.Contents.{short_bytes, with_bytes}
+use Rattle.rz_tools_values.specs.Files.{file_named}
 use Rattle.rz_tools_values.specs.Head.{facts_of}
-use Rattle.rz_tools_work.specs.Read.{with_file}
-use Rattle.rz_tools_values.proofs.Calls.{reads_nothing, refuses_so, stop_unread, yields_on, yields_stop}
+use Rattle.rz_tools_work.specs.Read.{contents_named, with_file}
+use Rattle.rz_tools_values.proofs.Calls.{reads_nothing, refuses_so, stop_unread, yields_halt, yields_on, yields_stop}
 use Rattle.rz_folder.specs.MayRead.{IsOneOf, MayRead}
 use Rattle.rz_folder_paths.specs.Names.{names_of, utf8_name}
 use Rattle.rz_tools_work.proofs.read.resource_read.Goals as goal
 
-pub with_file-requires-clause-may : goal.with_file-requires-clause-may
-with_file-requires-clause-may g c = subst (λ (own : List ℕ). MayRead g.F.Folder c.args.folder.now (IsOneOf (names_of c.args.around.paths.now (utf8_name own)))) (sym c.as_slice.ensures) c.requires
+pub file_named-requires : goal.file_named-requires
+file_named-requires g c = subst (λ (own : List ℕ). MayRead g.F.Folder c.args.folder.now (IsOneOf (names_of c.args.around.paths.now (utf8_name own)))) (sym c.as_slice-name.ensures) c.requires
 
-pub returns-clause-read : goal.returns-clause-read
-returns-clause-read g c =
-    let read = subst (λ (name : List ℕ). IfSome (g.F.Folder.files c.args.folder.now) (λ files.
-    Yields c.with_file.result (λ answer. answer ≡ with_file c.args.around.paths.now files c.args.around.mark name c.in_ok-known.known))) c.as_slice.ensures c.with_file.ensures.read in
+pub returns-in-Ok-clause-read : goal.returns-in-Ok-clause-read
+returns-in-Ok-clause-read g c =
+    let mark = c.args.around.mark in
+    let known = c.in_ok-known.known in
+    let made = Ok c.with_bytes.result in
+    let read = rw c.as_slice-name.ensures at c.in_ok-bytes.ensures.read in
     IfSome_then (g.F.Folder.files c.args.folder.now) read (λ files yields.
-    yields_on (facts_of c.args.around.setting c.args.around.mark c.args.stmt.now.kind.code (head_of c.args.stmt.now.head))
-    (with_file c.args.around.paths.now files c.args.around.mark c.args.stmt.now.file)
-    c.in_ok-known.known c.with_file.result (sym c.in_ok-known.ensures.facts) yields)
+    let file = file_named c.args.around.paths.now files mark c.args.stmt.now.file in
+    yields_on (facts_of c.args.around.setting mark c.args.stmt.now.kind.code (head_of c.args.stmt.now.head)) (with_file c.args.around.paths.now files mark c.args.stmt.now.file)
+    known made (sym c.in_ok-known.ensures.facts)
+    (yields_on (contents_named c.args.around.paths.now files mark c.args.stmt.now.file) (λ (bytes : List ℕ). Ok (with_bytes known bytes)) c.in-Ok.bytes made
+    (yields_on file (short_bytes mark) c.in_ok-bytes.bytes (Ok c.in-Ok.bytes) yields c.in-Ok.ensures.bytes) (ap (λ (r : Resource). Ok r) c.with_bytes.ensures)))
+
+pub returns-in-Err-clause-read : goal.returns-in-Err-clause-read
+returns-in-Err-clause-read g c =
+    let mark = c.args.around.mark in
+    let known = c.in_ok-known.known in
+    let halt = Refused c.in-Err.fault in
+    let read = rw c.as_slice-name.ensures at c.in_ok-bytes.ensures.read in
+    IfSome_then (g.F.Folder.files c.args.folder.now) read (λ files yields.
+    let file = file_named c.args.around.paths.now files mark c.args.stmt.now.file in
+    yields_on {Y = Resource} (facts_of c.args.around.setting mark c.args.stmt.now.kind.code (head_of c.args.stmt.now.head)) (with_file c.args.around.paths.now files mark c.args.stmt.now.file)
+    known (Err halt) (sym c.in_ok-known.ensures.facts)
+    (yields_halt (contents_named c.args.around.paths.now files mark c.args.stmt.now.file) (λ (bytes : List ℕ). Ok (with_bytes known bytes)) halt
+    (yields_on file (short_bytes mark) c.in_ok-bytes.bytes (Err halt) yields c.in-Err.ensures.bytes)))
+
+pub returns-in_err-bytes-clause-read : goal.returns-in_err-bytes-clause-read
+returns-in_err-bytes-clause-read g c =
+    let mark = c.args.around.mark in
+    let known = c.in_ok-known.known in
+    let halt = c.in_err-bytes.field-0.0 in
+    let p = err_from_is_err_and c.from_residual-in_err-bytes.result c.from_residual-in_err-bytes.ensures.1 in
+    let read = rw c.as_slice-name.ensures at c.in_err-bytes.ensures.read in
+    IfSome_then (g.F.Folder.files c.args.folder.now) read (λ files yields.
+    let file = file_named c.args.around.paths.now files mark c.args.stmt.now.file in
+    rw (p.1, p.2) (yields_on {Y = Resource} (facts_of c.args.around.setting mark c.args.stmt.now.kind.code (head_of c.args.stmt.now.head)) (with_file c.args.around.paths.now files mark c.args.stmt.now.file)
+    known (Err halt) (sym c.in_ok-known.ensures.facts)
+    (yields_halt (contents_named c.args.around.paths.now files mark c.args.stmt.now.file) (λ (bytes : List ℕ). Ok (with_bytes known bytes)) halt
+    (yields_halt file (short_bytes mark) halt yields))))
 
 pub returns-in_err-known-clause-read : goal.returns-in_err-known-clause-read
 returns-in_err-known-clause-read g c = if_some (g.F.Folder.files c.args.folder.now) _ (λ files told.

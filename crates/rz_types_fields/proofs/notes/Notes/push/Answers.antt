@@ -7,8 +7,8 @@ use Rattle.rz_types_fields.proofs.HeldNotes.{few_pushed, held_few, held_less, he
 use Rattle.rz_types_fields.proofs.notes.Notes.push.Goals as goal
 
 -- one of the first few is held by no code
-pub invariant_of-self-then-count-lt-FEW : goal.invariant_of-self-then-count-lt-FEW
-invariant_of-self-then-count-lt-FEW c =
+pub invariant_of-self : goal.invariant_of-self
+invariant_of-self c =
     let items = c.args.self.now.items in
     let fewer : length items ≤ 16 = omega (arith, c.if-count-lt-FEW.true, c.len-count.ensures) in
     record {
@@ -18,8 +18,8 @@ invariant_of-self-then-count-lt-FEW c =
     }
 
 -- the position of the note was added to those of its code
-pub invariant_of-self : goal.invariant_of-self
-invariant_of-self c = record { held = λ code. c.in_err-add.ensures.err code ∙ c.args.self.now.held code }
+pub invariant_of-self-in-Break-1 : goal.invariant_of-self-in-Break-1
+invariant_of-self-in-Break-1 c = record { held = λ code. c.in_err-add.ensures.err code ∙ c.args.self.now.held code }
 
 pub invariant_of-self-in-Ok : goal.invariant_of-self-in-Ok
 invariant_of-self-in-Ok c =

@@ -1,7 +1,7 @@
-use Rattle.rz_tools.specs.SampleSource.{sample_row}
-use Rattle.rz_tools.proofs.SampleRows.{first_written, next_written}
-use Rattle.rz_tools.proofs.sample_source.write_rows.Goals as goal
-use Rattle.rz_tools.proofs.sample_source.write_rows.Goals.{then-j-gt0+in_ok-append, else-j-gt0}
+use Rattle.rz_tools_output.specs.SampleSource.{sample_row}
+use Rattle.rz_tools_output.proofs.SampleRows.{first_written, next_written}
+use Rattle.rz_tools_output.proofs.sample.write_rows.Goals as goal
+use Rattle.rz_tools_output.proofs.sample.write_rows.Goals.{then-j-gt0+in_ok-append, else-j-gt0}
 use Rattle.std.proofs.Common.{ap, ◌∙◌, ◌++◌}
 
 pub loop-j-preserved : goal.loop-j-preserved

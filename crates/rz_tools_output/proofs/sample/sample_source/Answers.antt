@@ -1,8 +1,8 @@
 use Rattle.std.proofs.Common.{◌≡◌, ℕ, ◌++◌, ap, ◌∙◌, sym, append_assoc, arith}
 use Rattle.std.specs.List.{flat_map, range_with_len}
-use Rattle.rz_tools.specs.SampleSource.{sample_source, sample_statement, sample_types}
-use Rattle.rz_tools.proofs.SampleRows.{each_more}
-use Rattle.rz_tools.proofs.sample_source.source.Goals as goal
+use Rattle.rz_tools_output.specs.SampleSource.{sample_source, sample_statement, sample_types}
+use Rattle.rz_tools_output.proofs.SampleRows.{each_more}
+use Rattle.rz_tools_output.proofs.sample.sample_source.Goals as goal
 
 pub loop-k-preserved : goal.loop-k-preserved
 loop-k-preserved c =

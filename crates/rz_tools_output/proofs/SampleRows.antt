@@ -1,10 +1,10 @@
 -- Rows and statements of a sample, one more at the end, and what is written of them.
-use Rattle.std.proofs.Common.{◌≡◌, ℕ, ◌+◌, ◌<◌, ◌≤◌, suc, zero, List, [], ◌∷◌, ◌++◌, sym, ap, ◌∙◌, append_assoc, append-nil, arith}
+use Rattle.std.proofs.Common.{◌≡◌, ℕ, ◌+◌, ◌<◌, ◌≤◌, suc, zero, List, [], ◌∷◌, ◌++◌, sym, ap, ◌∙◌, append_assoc, append-nil, arith, length}
 use Rattle.std.specs.Prelude.{codes, map}
 use Rattle.std.specs.List.{flat_map, range_with_len}
 use Rattle.std.proofs.lemmas.Grind.{flat_map-append}
 use Rattle.std.proofs.lemmas.List.FromFn.{map-range_with_len_more}
-use Rattle.rz_tools.specs.SampleSource.{rows_text}
+use Rattle.rz_tools_output.specs.SampleSource.{number_line, rows_text, sample_lines}
 
 range_more : (a n j : ℕ) → a + n ≡ j → range_with_len a (suc n) ≡ range_with_len a n ++ j ∷ []
 range_more a zero j e = let at : a ≡ j = omega arith in ap (λ x. x ∷ []) at
@@ -53,3 +53,15 @@ pub five_written : (start a b c d e first second third fourth new : List ℕ)
     → new ≡ start ++ (a ++ b ++ c ++ d ++ e)
 five_written start a b c d e first second third fourth new one two three four end =
     end ∙ ap (λ l. l ++ e) (four ∙ ap (λ l. l ++ d) (three ∙ ap (λ l. l ++ c) (two ∙ ap (λ l. l ++ b) one))) ∙ simp append_assoc
+
+-- the four lines, one after the other
+pub lines_written : (count counted : ℕ) (fork text again none first second third all : List ℕ) → none ≡ [] → counted ≡ count
+    → first ≡ none ++ number_line (codes "resources ") counted → second ≡ first ++ number_line (codes "fork ") (length fork)
+    → third ≡ second ++ number_line (codes "text ") (length text) → all ≡ third ++ number_line (codes "again ") (length again)
+    → all ≡ sample_lines count fork text again
+unfolding sample_lines
+lines_written count counted fork text again none first second third all empty same one two three four =
+    four ∙ ap (λ l. l ++ number_line (codes "again ") (length again))
+    (three ∙ ap (λ l. l ++ number_line (codes "text ") (length text))
+    (two ∙ ap (λ l. l ++ number_line (codes "fork ") (length fork))
+    (one ∙ ap (λ l. l ++ number_line (codes "resources ") counted) empty ∙ ap (λ (n : ℕ). number_line (codes "resources ") n) same)))

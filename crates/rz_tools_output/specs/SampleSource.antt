@@ -1,5 +1,5 @@
--- The source of a sample: a type, and resources of it whose rows follow from their numbers.
-use Rattle.std.specs.Prelude.{ℕ, ◌+◌, ◌*◌, ◌%◌, List, [], ◌∷◌, ◌++◌, codes, map, replicate}
+-- The source of a sample: a type, and resources of it whose rows follow from their numbers; and the lines that are said of it.
+use Rattle.std.specs.Prelude.{ℕ, ◌+◌, ◌*◌, ◌%◌, List, [], ◌∷◌, ◌++◌, codes, length, map, replicate}
 use Rattle.std.specs.List.{flat_map, range_with_len}
 use Rattle.rz_core.specs.Decimal.{decimal_of}
 
@@ -27,3 +27,15 @@ sample_statement k = codes "resource 'Samp' (" ++ decimal_of k ++ codes ") { { "
 -- the type, and so many resources of it, from resource 0 on
 unfoldable pub sample_source : ℕ → List ℕ
 sample_source count = sample_types ++ flat_map sample_statement (range_with_len 0 count)
+
+-- What is said of it.
+
+-- a line: a word and a number
+abbrev pub number_line : List ℕ → ℕ → List ℕ
+number_line word number = word ++ decimal_of number ++ codes "\n"
+
+-- the lines: how many resources there are, and how many bytes the fork, its text and the second fork have
+unfoldable pub sample_lines : ℕ → List ℕ → List ℕ → List ℕ → List ℕ
+sample_lines count fork text again =
+    number_line (codes "resources ") count ++ number_line (codes "fork ") (length fork) ++ number_line (codes "text ") (length text)
+    ++ number_line (codes "again ") (length again)

@@ -1,8 +1,8 @@
 use Rattle.std.proofs.Common.{ℕ, ◌++◌, ap, ◌∙◌}
 use Rattle.rz_core.specs.Decimal.{decimal_of}
-use Rattle.rz_tools.specs.SampleSource.{sample_statement}
-use Rattle.rz_tools.proofs.SampleRows.{five_written}
-use Rattle.rz_tools.proofs.sample_source.write_statement.Goals as goal
+use Rattle.rz_tools_output.specs.SampleSource.{sample_statement}
+use Rattle.rz_tools_output.proofs.SampleRows.{five_written}
+use Rattle.rz_tools_output.proofs.sample.write_statement.Goals as goal
 
 pub returns : goal.returns
 unfolding sample_statement

@@ -1,8 +1,8 @@
 use Rattle.std.proofs.Common.{ℕ, ◌++◌, ap, ◌∙◌}
 use Rattle.std.specs.Prelude.{codes}
-use Rattle.rz_tools.specs.Sample.{number_line}
-use Rattle.rz_tools.proofs.SampleSteps.{lines_written}
-use Rattle.rz_tools.proofs.sample.lines.Goals as goal
+use Rattle.rz_tools_output.specs.SampleSource.{number_line}
+use Rattle.rz_tools_output.proofs.SampleRows.{lines_written}
+use Rattle.rz_tools_output.proofs.sample.sample_lines.Goals as goal
 
 pub returns : goal.returns
 returns c =
