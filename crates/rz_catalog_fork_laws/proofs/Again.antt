@@ -99,8 +99,7 @@ module _ (fit : ForksFit) (are_grouped : AreGrouped) (read : WrittenAreRead) (ar
       let short = fork_fits bytes small fork admits in
       let new_fit = all_fit decided types moment entries fork.list new each fits.1 in
       let again = read new fork.attributes fork.reserved output keys new_fit short.attributes short.room written in
-      let same : again.0.list ≡ new = again.2 ∙ stays_grouped fork.list new by keys (are_grouped bytes fork admits) in
-      (
+      let same : again.0.list ≡ new = again.2 ∙ stays_grouped fork.list new by keys (are_grouped bytes fork admits) in (
         again.0,
         again.1,
         same,

@@ -14,7 +14,7 @@ use rz_catalog::one_application;
 use rz_unlay::{one_tree, trees_are_decided};
 
 /// A law, with nothing to run: entries for some resources and then entries for others give the list that all of them
-/// give at once. Where one of the two ways is refused, so is the other, though not always by the same fault.
+/// give at once; where one of the two ways is refused, so is the other.
 pub fn apart_catalogues_are_both_at_once()
     ensures { (types : List Declaration) (moment : Moment) (over : Bool) (list new : List Resource) (entries others : List Entry)
         → AreApart entries others
@@ -25,8 +25,8 @@ pub fn apart_catalogues_are_both_at_once()
     trees_are_decided();
 }
 
-/// A law, with nothing to run: the same entries in another order give the same list, or are refused too: their order
-/// plays a part only for which refusal comes first.
+/// A law, with nothing to run: the same entries in another order give the same list, or are refused too, though maybe
+/// by another fault.
 pub fn order_plays_no_part()
     ensures list { (types : List Declaration) (moment : Moment) (over : Bool) (list new : List Resource) (entries others : List Entry)
         → IsPermutation entries others → Applied types moment over list entries (Ok new) → Applied types moment over list others (Ok new) }

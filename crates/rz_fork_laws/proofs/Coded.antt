@@ -68,9 +68,11 @@ meant_bytes [] are = tt
 meant_bytes (code ∷ codes) are =
     let counts = flat_map (λ count. 144 ∷ count ∷ []) code.counts in
     let parts = all_split (λ b. b < 256) (stored code) (flat_map stored codes) are in
-    let byte = literal_byte code.byte (all_split (λ b. b < 256) (literal code.byte) counts parts.0).0 in
-    (byte, together (flat_map (λ count. replicate (count - 1) code.byte) code.counts) (flat_map meant codes)
-    (mapped_bytes (λ count. replicate (count - 1) code.byte) (λ count. equal_bytes (count - 1) code.byte byte) code.counts) (meant_bytes codes parts.1))
+    let byte = literal_byte code.byte (all_split (λ b. b < 256) (literal code.byte) counts parts.0).0 in (
+      byte,
+      together (flat_map (λ count. replicate (count - 1) code.byte) code.counts) (flat_map meant codes)
+          (mapped_bytes (λ count. replicate (count - 1) code.byte) (λ count. equal_bytes (count - 1) code.byte byte) code.counts) (meant_bytes codes parts.1),
+    )
 
 pub unpacked_bytes : (coded bytes : List ℕ) → AreBytes coded → unpacked coded ≡ Ok bytes → AreBytes bytes
 unpacked_bytes coded bytes are is =

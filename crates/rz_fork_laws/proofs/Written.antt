@@ -40,8 +40,8 @@ module _ (file : MacFile) (kept : IsKept file) (short : IsShort file) where
     (
       omega (arith, short.name),
       then_number _ 4 file.finder.creator.code
-      (then_number _ 4 file.finder.kind.code
-      (together file.name (replicate (63 - length file.name) 0) kept.name (equal_bytes (63 - length file.name) 0 (omega arith)))),
+          (then_number _ 4 file.finder.kind.code
+          (together file.name (replicate (63 - length file.name) 0) kept.name (equal_bytes (63 - length file.name) 0 (omega arith)))),
     ),
   )
 
@@ -93,10 +93,10 @@ module _ (file : MacFile) (kept : IsKept file) (short : IsShort file) where
   fields_bytes = (
     omega (arith, short.name),
     then_number _ 4 (length file.res_fork)
-    (then_number _ 4 (length file.data_fork)
-    (then_number _ 2 file.finder.flags
-    (then_number _ 4 file.finder.creator.code
-    (then_number _ 4 file.finder.kind.code (together file.name (0 ∷ []) kept.name (omega arith, tt)))))),
+        (then_number _ 4 (length file.data_fork)
+        (then_number _ 2 file.finder.flags
+        (then_number _ 4 file.finder.creator.code
+        (then_number _ 4 file.finder.kind.code (together file.name (0 ∷ []) kept.name (omega arith, tt)))))),
   )
 
   checked_bytes : (bytes : List ℕ) → AreBytes bytes → AreBytes (with_check bytes)

@@ -6,8 +6,8 @@ ghost use Rattle.rz_bridge_form.specs.Forms.{carried_of, content_of, written_of}
 ghost use Rattle.rz_bridge_form.specs.declared.form.Form.{Form};
 ghost use Rattle.rz_fork_laws.specs.Kept.{AreBytes, IsKept};
 
-/// A law, with nothing to run: the bytes in which a file is written, in each of the five forms, are read as what the
-/// form carries of it.
+/// A law, with nothing to run: what is written of a file in one of the five forms, where its numbers have their widths
+/// and its texts and forks are bytes, is read as what the form carries of it.
 pub fn written_forms_are_read()
     ensures { (form : Form) (file : MacFile) (bytes : List ℕ) → IsKept file → written_of form file ≡ Ok bytes
         → content_of form bytes file.data_fork ≡ Ok (carried_of form file) }

@@ -11,7 +11,6 @@ use Rattle.rz_lex.specs.declared.sign.Sign.{Sign}
 use Rattle.rz_lex.specs.declared.sign.Sign.TheVariants as signs
 use Rattle.rz_lex.specs.declared.token.Shape.TheVariants as shapes
 use Rattle.rz_lex.specs.declared.token.Token.{Token}
-use Rattle.rz_pre.specs.declared.condition.Tool.TheVariants as tools
 use Rattle.rz_sample_laws.specs.Fields.{one_text, rows_name, sample_fields}
 use Rattle.rz_sample_laws.proofs.TypeLine.{type_shapes}
 use Rattle.rz_stmt.specs.Grammar.{Declares, Parses}

@@ -12,7 +12,7 @@ use Rattle.rz_lex.specs.declared.sign.Sign.TheVariants as signs
 use Rattle.rz_lex.specs.declared.token.Shape.{Shape}
 use Rattle.rz_lex.specs.declared.token.Shape.TheVariants as shapes
 use Rattle.rz_sample_laws.specs.Fields.{one_byte, row_fields, row_letters, row_number, row_values, sample_fields, sample_resource, sample_values}
-use Rattle.rz_tools.specs.SampleSource.{rows_text, sample_row, sample_rows, sample_statement}
+use Rattle.rz_tools_output.specs.SampleSource.{rows_text, sample_row, sample_rows, sample_statement}
 use Rattle.rz_show.proofs.Trees as Trees
 use Rattle.rz_show.proofs.Trees.{number_is, text_is}
 use Rattle.rz_show.specs.Number.{number_shown}

@@ -1,5 +1,5 @@
 -- A sample is made, shown and made again.
-use Rattle.std.proofs.Common.{◌≡◌, inl, inr, ℕ, ◌+◌, ◌<◌, ◌≤◌, ◌==◌, Bool, true, false, List, [], ◌∷◌, ◌++◌, map, Option, Some, None, Ok, refl, sym, ap, subst, ◌∙◌, arith, append_assoc}
+use Rattle.std.proofs.Common.{◌≡◌, inl, inr, ℕ, ◌<◌, ◌≤◌, ◌==◌, Bool, true, false, List, [], ◌∷◌, ◌++◌, map, Option, Some, None, Ok, refl, sym, ap, subst, ◌∙◌, arith, append_assoc}
 use Rattle.std.specs.Prelude.{codes, replicate}
 use Rattle.std.specs.FinMap as finite
 use Rattle.std.specs.FinMap.{get-insert}
@@ -33,7 +33,7 @@ use Rattle.rz_lex.specs.declared.token.Token.{Token}
 use Rattle.rz_pre.specs.Program.{nothing_live, start, NamesGo, State}
 use Rattle.rz_pre.specs.declared.condition.Tool.{Tool}
 use Rattle.rz_pre.specs.declared.condition.Tool.TheVariants as tools
-use Rattle.rz_pre_source.specs.Source.{mark, IsUnmarked}
+use Rattle.rz_pre_source.specs.Source.{IsUnmarked}
 use Rattle.rz_sample_laws.proofs.Declares.{type_declared, type_parses, type_statement, type_tokens}
 use Rattle.rz_sample_laws.proofs.Image.{admitted_as, all_fit, all_short, keys_differ, no_limit}
 use Rattle.rz_sample_laws.proofs.Reading.{cut_all, named_read, shapes_of, texts_of, ArePrintedLines, Line}
@@ -41,7 +41,7 @@ use Rattle.rz_sample_laws.proofs.Statements.{all_stored, lines_printed, page_is,
 use Rattle.rz_sample_laws.proofs.TypeLine.{type_line, type_line_is, type_shapes}
 use Rattle.rz_sample_laws.specs.Fields.{sample_list}
 use Rattle.rz_sample_laws.specs.Sampled.{alone, no_macro, sample_fork, sample_showing, sample_text, IsMadeAgain}
-use Rattle.rz_tools.specs.SampleSource.{sample_source, sample_types}
+use Rattle.rz_tools_output.specs.SampleSource.{sample_source, sample_types}
 use Rattle.rz_show_lines.specs.Written.{are_apart, line_shapes, line_text, IsWritten, Written}
 use Rattle.rz_show_lines_laws.proofs.Pages.{shapes_of_lines, tokens_of}
 use Rattle.rz_show_lines_laws.proofs.Split.{shapes_in}

@@ -32,7 +32,7 @@ use Rattle.rz_show_lines_laws.proofs.Split.{front_and_back, none_left, shapes_in
 use Rattle.rz_show_lines_laws.proofs.Tokens.{list_shapes}
 use Rattle.rz_show_lines_laws.specs.Good.{AreGood}
 use Rattle.rz_show_lines_laws.specs.Page.{IsPrinted}
-use Rattle.rz_tools.specs.SampleSource.{sample_statement}
+use Rattle.rz_tools_output.specs.SampleSource.{sample_statement}
 use Rattle.rz_tools.proofs.Again.{Laws}
 use Rattle.rz_tools_text.proofs.Showings.{AreShownBy}
 use Rattle.rz_tools_text.specs.Shown.{its_row, Known, TellsRow}

@@ -11,7 +11,7 @@ use Rattle.rz_lex.specs.declared.sign.Sign.{Sign}
 use Rattle.rz_lex.specs.declared.sign.Sign.TheVariants as signs
 use Rattle.rz_lex.specs.declared.token.Shape.{Shape}
 use Rattle.rz_lex.specs.declared.token.Shape.TheVariants as shapes
-use Rattle.rz_tools.specs.SampleSource.{sample_types}
+use Rattle.rz_tools_output.specs.SampleSource.{sample_types}
 use Rattle.rz_show_lines.specs.Written.{a_blank, a_sign, a_word, are_apart, line_shapes, line_text, IsWritten, Written}
 use Rattle.rz_show_lines_laws.proofs.CutLine.{CutBack}
 use Rattle.rz_show_lines_laws.proofs.Inside.{inside, inside_both}

@@ -4,8 +4,9 @@ use Rattle.std.specs.List.{range_with_len}
 use Rattle.rz_core.specs.declared.moment.Moment.{Moment}
 use Rattle.rz_fork.specs.Image.{image}
 use Rattle.rz_show.specs.Showing.{by_row, showings_text, Showing}
-use Rattle.rz_tools.specs.Sample.{sample_lines, CompilesAgain, CompilesSample, ShowsSample}
+use Rattle.rz_tools.specs.Sample.{CompilesAgain, CompilesSample, ShowsSample}
 use Rattle.rz_tools_answer.specs.Answer.{Making}
+use Rattle.rz_tools_output.specs.SampleSource.{sample_lines}
 use Rattle.rz_sample_laws.specs.Fields.{sample_fields, sample_list, sample_resource, sample_values}
 
 -- the fork: the one of the list, without attributes and reserved bytes

@@ -38,9 +38,8 @@ pub fn samples_are_made()
     statements_go_on();
 }
 
-/// A law, with nothing to run: words that ask for a sample are answered, whatever the files hold and at whatever
-/// moment: they name a number from 1 to 5,000, and the answer is Done with this number and the lengths of the fork of
-/// the list, of its text, and of the same fork again. So no sample is refused.
+/// A law, with nothing to run: a command `sample` names a count from 1 to 5,000, and its answer is Done: this count,
+/// and the lengths of the fork of a list, of its text, and of the same fork again.
 pub fn samples_are_answered()
     ensures { (words : List (List ℕ)) (items : List Item) (files : Files) (moment : Moment) (answer : Answer)
         → IsCommand words (record { name = Sample; items = items }) → Answers words files moment answer

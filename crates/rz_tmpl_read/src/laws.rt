@@ -23,8 +23,8 @@ pub fn said_rows_are_plain()
     spelled_bytes_are_few();
 }
 
-/// A law, with nothing to run, of bytes alone: where bytes, fewer than 2^64, are cut into entries, their template is
-/// readable exactly if the entries are closed, and a row spells bytes plainly under it exactly if the bytes say it.
+/// A law, with nothing to run: where bytes, fewer than 2^64, are cut into entries, their template is readable exactly
+/// if the entries are closed, and a row spells bytes plainly under it exactly if the bytes say it.
 pub fn cut_bytes_say_their_rows()
     ensures { (tmpl : List ℕ) (items : Items) → length tmpl < 2 ^ 64 → IsCut tmpl (Ok items)
         → (is_readable (tmpl_body items) ≡ is_closed items)

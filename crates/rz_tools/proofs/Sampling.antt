@@ -12,8 +12,8 @@ use Rattle.rz_tools_args.specs.Command.{ArePlaces}
 use Rattle.rz_tools_args.specs.declared.syntax.Places.TheVariants.{Count}
 use Rattle.rz_tools.specs.DeRez.{DeRezAsked, Shows}
 use Rattle.rz_tools.specs.Rez.{Compiles, RezAsked}
-use Rattle.rz_tools_output.specs.SampleSource.{sample_source, sample_types}
-use Rattle.rz_tools.specs.Sample.{derez_of, in_memory, rez_of, sample_lines, AnswersSample, CompilesAgain, CompilesSample, IsCount, IsSampled, ShowsSample}
+use Rattle.rz_tools_output.specs.SampleSource.{sample_lines, sample_source, sample_types}
+use Rattle.rz_tools.specs.Sample.{derez_of, in_memory, rez_of, AnswersSample, CompilesAgain, CompilesSample, IsCount, IsSampled, ShowsSample}
 
 -- words are one number at most
 same_decimal : (one other : ℕ) → one < 2 ^ 32 → other < 2 ^ 32 → decimal_of one ≡ decimal_of other → one ≡ other

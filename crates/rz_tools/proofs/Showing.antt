@@ -55,9 +55,6 @@ module _ (bytes piece : List ℕ) (same : piece ≡ bytes) where
   pub is_fork : length bytes < 2 ^ 32 → (held : Fork) × (admit_fork None piece ≡ Ok held) → IsFork bytes
   is_fork short is = let held = is_fork_of is in (short, (held.0, held.1))
 
-  pub not_fork_of : (fault : Fault) → admit_fork None piece ≡ Err fault → IsForkOf (admit_fork None bytes) (Err fault)
-  not_fork_of fault is = subst (λ (b : List ℕ). admit_fork None b ≡ Err fault) same is
-
 -- the fork of a file, and of one that is refused
 module _ (from : Option Form) (bytes data_file : List ℕ) (empty : data_file ≡ []) where
   pub file_fork : (file : MacFile) → file_in None from bytes data_file ≡ Ok file → (result : Result (List ℕ) (Stop Fault))

@@ -1,6 +1,6 @@
 //! The catalogue of a fork as text, where its resources lie. What it is is in `specs/Strings`.
 
-ghost use Rattle.std.specs.Prelude.{◌≡◌, ◌++◌, List, Option, IfOk, OnOk};
+ghost use Rattle.std.specs.Prelude.{◌≡◌, ◌++◌, List, Option, option_map, IfOk, OnOk};
 ghost use Rattle.rz_catalog.specs.Catalogue.{entries_of, IsCatalogue};
 ghost use Rattle.rz_catalog.specs.Stock.{texts_in, HasTree};
 ghost use Rattle.rz_catalog_entries.specs.declared.entry.Entry.{Entry};
@@ -8,6 +8,8 @@ ghost use Rattle.rz_catalog_text.specs.Text.{entries_text};
 ghost use Rattle.rz_core.specs.Decided.{Decided};
 ghost use Rattle.rz_fork.specs.View.{lent};
 ghost use Rattle.rz_types_fields.specs.declared.tree.Tree.{Tree};
+ghost use Rattle.rz_types.specs.Template.{template_of};
+ghost use Rattle.rz_types_table.specs.Table.{declared_for};
 ghost use Rattle.rz_types_table.specs.TypeTable.{table_of};
 
 use rz_catalog::{entries_under, every_catalogue};
@@ -16,6 +18,7 @@ use rz_catalog_text::{entries_go_on, write_entry};
 use rz_core::{Bytes, Moment, NoMemory};
 use rz_fork::{ForkView, ResView};
 use rz_tools_text::facts_of;
+use rz_types::Template;
 use rz_types_table::TypeTable;
 use std::alloc::Global;
 
@@ -50,9 +53,15 @@ fn append_one(
         → text.new ≡ text.old ++ entries_text (entries_of view.now.kind view.now.id (texts_in row))) }
 {
     let facts = facts_of(alloc, view, moment)?;
-    let template = types.find(view.kind, view.id);
-    let entries = entries_under(alloc, template, &facts, view.bytes)?;
+    let entries = entries_under(alloc, template_for(types, view), &facts, view.bytes)?;
     append_text(&entries, text)
+}
+
+/// The template that is declared for a resource that is lent.
+fn template_for<'a>(types: &'a TypeTable, view: &ResView<'_>) -> Option<&'a Template>
+    ensures { option_map (λ template. template_of template.now) result ≡ declared_for (table_of types.now) (lent view.now) }
+{
+    types.find(view.kind, view.id)
 }
 
 /// Appends the text of entries.

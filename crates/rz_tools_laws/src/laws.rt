@@ -104,7 +104,7 @@ pub fn declared_rows_are_shown()
 }
 
 /// A law, with nothing to run: what `rez` writes raw is found to be raw, and is read as a raw file without a word of
-/// its form, whatever the resources are, and whatever attributes and reserved bytes the file to begin with has.
+/// its form.
 pub fn raw_outputs_are_found()
     ensures form { (asked : Target) (moment : Moment) (base : Base) (list : List Resource) (bytes : List ℕ) → form_asked asked base ≡ Raw
         → IsOutput asked moment base list (Ok bytes) → form_of bytes ≡ Raw }
@@ -170,10 +170,10 @@ pub fn shown_forks_are_read_back()
     one_command();
 }
 
-/// A law, with nothing to run: what `derez` answers for a fork under type files is, in a file after the same type
-/// files, written by `rez` as the fork's file again, byte for byte, and `rez` has no other answer: if that file is the
-/// raw fork of its own resources, without attributes and reserved bytes; if all resources are shown, and `rez` is to
-/// write a raw file that isn't read only; and if the rest is as [`shown_forks_are_read_back`] has it.
+/// A law, with nothing to run: what `derez` answers for a fork is, in a file after the same type files, written by
+/// `rez` as the fork's file again, byte for byte, and `rez` has no other answer: if that file is the raw fork of its
+/// own resources, without attributes and reserved bytes; if all resources are shown, and `rez` is to write a raw file
+/// that isn't read only; and if the rest is as [`shown_forks_are_read_back`] has it.
 pub fn shown_forks_are_written_back()
     ensures { (words others : List (List ℕ)) (shown : DeRezAsked) (asked : RezAsked) (files after : Files) (moment : Moment) (name bytes : List ℕ) (fork : Fork) (answer : Answer)
         → IsDeRez words shown → Answers words files moment answer → answer.outcome ≡ Done

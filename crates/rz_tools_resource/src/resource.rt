@@ -1,6 +1,6 @@
 //! The resource of a `resource` statement: header, type, files, row, bytes. Their order is that of `specs/Resource`.
 
-ghost use Rattle.std.specs.Prelude.{◌≡◌, ◌<◌, ℕ, true, length, IfOk, IfSome};
+ghost use Rattle.std.specs.Prelude.{◌≡◌, ◌<◌, ℕ, true, length, option_map, IfOk, IfSome};
 ghost use Rattle.rz_core.specs.Stop.{Meets, OnFault, IsReadFault, OnRefusal, Yields};
 ghost use Rattle.rz_core.specs.Message.{IsNameable};
 ghost use Rattle.rz_folder.specs.MayRead.{MayRead};
@@ -15,6 +15,7 @@ ghost use Rattle.rz_layout.specs.Fault.{refusal_of};
 ghost use Rattle.rz_tools_values.specs.Around.{around as among};
 ghost use Rattle.rz_tools_resource.specs.Resource.{no_type, row_fault, AreBytes, AreItemBytes, IsResource, IsSpelled};
 ghost use Rattle.rz_types_fields.specs.Row.{IsRow};
+ghost use Rattle.rz_types_table.specs.Table.{found};
 ghost use Rattle.rz_types.specs.Template.{template_of};
 ghost use Rattle.rz_types_table.specs.TypeTable.{table_of};
 
@@ -71,13 +72,21 @@ fn bytes_of<F: Folder>(
     ensures nameable { (files : ℕ) → around.entry.mark.file < files → AreItemsWithin files (plain_items items) → OnRefusal result (IsNameable files) }
     ensures reads { OnlyReads F.Folder folder.old folder.new (IsReadFault result) }
 {
-    match types.find(known.kind, known.id) {
+    match template_for(types, known) {
         Some(template) => {
             let items = with_files(alloc, folder, around.paths, items, around.mark, known)?;
             Ok(bytes_under(alloc, &items, around.mark, known, template)?)
         }
         None => Err(Halt::Refused(no_type(known, around.mark))),
     }
+}
+
+/// The template that is declared for the resource.
+fn template_for<'a>(types: &'a TypeTable, known: &Facts) -> Option<&'a Template>
+    ensures { option_map (λ template. template_of template.now) result
+        ≡ option_map (λ one. one.template) (found known.now.kind known.now.id (table_of types.now)) }
+{
+    types.find(known.kind, known.id)
 }
 
 /// The bytes of items under the fields of a template: those of the row that they fit.

@@ -1,6 +1,6 @@
 //! One resource, put line by line: by a row of its type if there is one, else by its bytes, as `specs/Shown` says.
 
-ghost use Rattle.std.specs.Prelude.{◌≡◌, ◌≤◌, ℕ, if◌then◌else◌, List, Some, None, Ok, IfOk};
+ghost use Rattle.std.specs.Prelude.{◌≡◌, ◌≤◌, ℕ, if◌then◌else◌, List, Some, None, Ok, option_map, IfOk};
 ghost use Rattle.std.specs.List.{concat};
 ghost use Rattle.rz_core.specs.Decided.{Decided};
 ghost use Rattle.rz_folder.specs.Counts.{Rose};
@@ -54,6 +54,13 @@ impl Known {
             moment,
         })
     }
+
+    /// The template that is declared for a resource.
+    fn template_for(&self, view: &ResView<'_>) -> Option<&Template>
+        ensures { option_map (λ template. template_of template.now) result ≡ declared_for (table_of self.now.types) (lent view.now) }
+    {
+        self.types.find(view.kind, view.id)
+    }
 }
 
 /// Puts the lines of a resource that is lent: the `resource` statement with the row that its bytes tell under the type
@@ -73,7 +80,7 @@ pub fn put_resource<O: Sink>(
 {
     one_shown_text();
     let facts = facts_of(alloc, view, known.moment)?;
-    match known.types.find(view.kind, view.id) {
+    match known.template_for(view) {
         Some(template) => put_under(alloc, view, &facts, template, known, out),
         None => Ok(put_lines(ShowLines::of_bytes(&facts, view.bytes), out)),
     }

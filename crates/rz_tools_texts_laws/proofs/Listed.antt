@@ -90,12 +90,12 @@ module _ (texts : ForksHaveTheTexts) (every : EveryCatalogue) (stay : OthersStay
       (of_asked commands words (record { name = names.Restring; items = items }) is files moment answer answers) in
       let it = restrung asked files moment bytes base there begins answer output answered done writes in
       let types = it.compiled.work.types in
-      let begun = begun asked.from bytes base begins in
-      let kept = files_kept (form_or asked.from bytes) bytes [] begun.file are.0 tt begun.read in
+      let start = begun asked.from bytes base begins in
+      let kept = files_kept (form_or asked.from bytes) bytes [] start.file are.0 tt start.read in
       let own = every types moment base.fork.list in
-      let made = output_fork table back alone asked.output moment base (base_kept asked.from bytes base begun kept) it.new output it.is in
-      let again = texts types moment asked.over begun.file.res_fork made.0 base.fork it.entries own.0 it.new kept.res_fork begun.admits it.applied made.1 own.1 in
-      let news_short = all_short few decided types moment it.entries base.fork.list it.new (stay types moment asked.over base.fork.list it.new it.entries it.applied) begun.short in
+      let made = output_fork table back alone asked.output moment base (base_kept asked.from bytes base start kept) it.new output it.is in
+      let again = texts types moment asked.over start.file.res_fork made.0 base.fork it.entries own.0 it.new kept.res_fork start.admits it.applied made.1 own.1 in
+      let news_short = all_short few decided types moment it.entries base.fork.list it.new (stay types moment asked.over base.fork.list it.new it.entries it.applied) start.short in
       let short = ap (λ (l : List Resource). first_of (map too_long l)) again.2 ∙ news_short in
       let read = form_fork base.form listed.from output made.0 again.0 lists.form (made.2 again.4) again.1 in
       let held = short_fork listed.from output again.0 read short in

@@ -17,7 +17,6 @@ use Rattle.rz_catalog_entries.specs.declared.entry.Entry.{Entry}
 use Rattle.rz_core.proofs.Once.{ok_or_err, same_ok}
 use Rattle.rz_core.specs.Lists.{first_of}
 use Rattle.rz_core.specs.Roman.{roman_byte, IsOneToOne}
-use Rattle.rz_core.specs.Stop.{◌>>=◌}
 use Rattle.rz_core.specs.declared.fault.Fault.{Fault}
 use Rattle.rz_core.specs.declared.moment.Moment.{Moment}
 use Rattle.rz_core.specs.declared.resource.Resource.{Resource}

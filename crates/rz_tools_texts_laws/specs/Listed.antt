@@ -12,7 +12,7 @@ use Rattle.rz_tools.specs.Types.{TypesAre}
 
 -- The file that was written, these bytes, stands where `strings` reads it; it is read in the form in which it was
 -- written; and the type files mean there what they meant to `restring`.
-pub record ListsOutput (moment : Moment) (form : Form) (asked : RestringAsked) (files : Files) (listed : StringsAsked) (after : Files) (output : List ℕ) : Type 0 where
+pub record ListsOutput (moment : Moment) (written : Form) (asked : RestringAsked) (files : Files) (listed : StringsAsked) (after : Files) (output : List ℕ) : Type 0 where
   pub there : finite.get after listed.file ≡ Some output
-  pub form : form_or listed.from output ≡ form
+  pub form : form_or listed.from output ≡ written
   pub types : (compiled : Compiled) → TypesAre moment asked.types files (Ok compiled) → TypesAre moment listed.types after (Ok compiled)

@@ -27,9 +27,9 @@ use rz_fork_laws::{read_files_are_kept, read_forks_need_no_data_file, written_fo
 use rz_tools_args::one_command;
 use rz_unlay::{spelled_bytes_are_few, trees_are_decided};
 
-/// A law, with nothing to run: of the file that `restring` wrote, in each of the five forms, `strings` answers the old
-/// catalogue with the texts of the entries that were put in: if it reads the file in the form in which it was written,
-/// under type files that mean the same, and at the same moment.
+/// A law, with nothing to run: of the file that `restring` wrote, in each form, `strings` answers the old catalogue
+/// with the texts of the entries that were put in, if it reads it in that form, under type files that mean the same, at
+/// the same moment.
 pub fn changed_texts_are_listed()
     ensures { (words others : List (List ℕ)) (asked : RestringAsked) (listed : StringsAsked) (files after : Files) (moment : Moment) (bytes output : List ℕ) (base : Base) (answer : Answer)
         → IsRestring words asked → Answers words files moment answer → answer.outcome ≡ Done

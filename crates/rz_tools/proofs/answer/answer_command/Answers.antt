@@ -210,17 +210,17 @@ returns-in_ok-text-in-Version-clause-fileless g c is files answer same =
 pub returns-in_err-words-in-Rez-clause-replies : goal.returns-in_err-words-in-Rez-clause-replies
 returns-in_err-words-in-Rez-clause-replies g c = replies_none g.F.Folder c.from_residual.result c.from_residual.ensures.1
 
-pub returns-in_err-words-in-DeRez-clause-replies : goal.returns-in_err-words-in-DeRez-clause-replies
-returns-in_err-words-in-DeRez-clause-replies g c = replies_none g.F.Folder c.from_residual-in_err-words-in-DeRez.result c.from_residual-in_err-words-in-DeRez.ensures.1
+pub returns-in_err-of-in-DeRez-clause-replies : goal.returns-in_err-of-in-DeRez-clause-replies
+returns-in_err-of-in-DeRez-clause-replies g c = replies_none g.F.Folder c.from_residual-in_err-of-in-DeRez.result c.from_residual-in_err-of-in-DeRez.ensures.1
 
-pub returns-in_err-words-in-Bridge-clause-replies : goal.returns-in_err-words-in-Bridge-clause-replies
-returns-in_err-words-in-Bridge-clause-replies g c = replies_none g.F.Folder c.from_residual-in_err-words-in-Bridge.result c.from_residual-in_err-words-in-Bridge.ensures.1
+pub returns-in_err-of-in-Bridge-clause-replies : goal.returns-in_err-of-in-Bridge-clause-replies
+returns-in_err-of-in-Bridge-clause-replies g c = replies_none g.F.Folder c.from_residual-in_err-of-in-Bridge.result c.from_residual-in_err-of-in-Bridge.ensures.1
 
-pub returns-in_err-words-in-Det-clause-replies : goal.returns-in_err-words-in-Det-clause-replies
-returns-in_err-words-in-Det-clause-replies g c = replies_none g.F.Folder c.from_residual-in_err-words-in-Det.result c.from_residual-in_err-words-in-Det.ensures.1
+pub returns-in_err-of-in-Det-clause-replies : goal.returns-in_err-of-in-Det-clause-replies
+returns-in_err-of-in-Det-clause-replies g c = replies_none g.F.Folder c.from_residual-in_err-of-in-Det.result c.from_residual-in_err-of-in-Det.ensures.1
 
-pub returns-in_err-words-in-List-clause-replies : goal.returns-in_err-words-in-List-clause-replies
-returns-in_err-words-in-List-clause-replies g c = replies_none g.F.Folder c.from_residual-in_err-words-in-List.result c.from_residual-in_err-words-in-List.ensures.1
+pub returns-in_err-of-in-List-clause-replies : goal.returns-in_err-of-in-List-clause-replies
+returns-in_err-of-in-List-clause-replies g c = replies_none g.F.Folder c.from_residual-in_err-of-in-List.result c.from_residual-in_err-of-in-List.ensures.1
 
 pub returns-in_err-words-in-Strings-clause-replies : goal.returns-in_err-words-in-Strings-clause-replies
 returns-in_err-words-in-Strings-clause-replies g c = replies_none g.F.Folder c.from_residual-in_err-words-in-Strings.result c.from_residual-in_err-words-in-Strings.ensures.1

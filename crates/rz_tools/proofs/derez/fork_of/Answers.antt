@@ -1,7 +1,6 @@
 use Rattle.std.proofs.lemmas.Result.{err_from_is_err_and}
-use Rattle.std.proofs.Common.{Ok, Err}
-use Rattle.rz_core.specs.declared.stop.Stop.TheVariants.{Refused}
-use Rattle.rz_tools.proofs.Showing.{file_fork, file_refused, holds_file, is_fork, is_fork_of, not_fork_of}
+use Rattle.std.proofs.Common.{Ok}
+use Rattle.rz_tools.proofs.Showing.{file_fork, file_refused, holds_file, is_fork, is_fork_of}
 use Rattle.rz_tools.proofs.derez.fork_of.Goals as goal
 
 pub returns-in-Ok-clause-fork : goal.returns-in-Ok-clause-fork
@@ -14,11 +13,6 @@ returns-in-Ok-clause-held c = holds_file c.args.from c.args.bytes c.new.result c
 
 pub returns-in-Ok-clause-admitted : goal.returns-in-Ok-clause-admitted
 returns-in-Ok-clause-admitted c = is_fork c.in_ok-file.file.res_fork _ c.as_slice.ensures c.in_ok-file.ensures.res_fork.1 c.in-Ok.ensures.ok
-
-pub returns-in-Err-clause-fork : goal.returns-in-Err-clause-fork
-returns-in-Err-clause-fork c =
-    file_fork c.args.from c.args.bytes c.new.result c.new.ensures c.in_ok-file.file c.in_ok-file.ensures.file (Err (Refused c.in-Err.fault))
-    (not_fork_of c.in_ok-file.file.res_fork _ c.as_slice.ensures c.in-Err.fault c.in-Err.ensures.err)
 
 pub returns-in_err-file-clause-fork : goal.returns-in_err-file-clause-fork
 returns-in_err-file-clause-fork c =

@@ -20,7 +20,7 @@ returns c =
     (row : Option (List Tree)) → Decided (λ row. (body : PlainBody) × IsTree fields known c.args.view.now.bytes.now body row) row → entries ≡ entries_of known.kind known.id (texts_in row) in
     let listed : Lists (declared_for (table_of c.args.types.now) one) (facts_of c.args.moment one) c.in_ok-entries.entries =
     subst (λ (known : Facts). Lists (declared_for (table_of c.args.types.now) one) known c.in_ok-entries.entries) c.in_ok-facts.ensures
-    (subst (λ (fields : Option PlainBody). Lists fields c.in_ok-facts.facts c.in_ok-entries.entries) c.find-template.ensures c.in_ok-entries.ensures) in
+    (subst (λ (fields : Option PlainBody). Lists fields c.in_ok-facts.facts c.in_ok-entries.entries) c.template_for.ensures c.in_ok-entries.ensures) in
     text_added c.append_text.result c.args.text.now c.append_text.new.text c.in_ok-entries.entries c.append_text.ensures
     (λ row. Decided (λ row. (body : PlainBody) × IsTree (declared_for (table_of c.args.types.now) one) (facts_of c.args.moment one) one.bytes body row) row)
     (λ row. entries_of one.kind one.id (texts_in row)) listed

@@ -25,7 +25,8 @@ returns-in-Ok-clause-read g c =
     let mark = c.args.around.mark in
     let known = c.in_ok-known.known in
     let made = Ok c.with_bytes.result in
-    let read = rw c.as_slice-name.ensures at c.in_ok-bytes.ensures.read in
+    let read = subst (λ (name : List ℕ). IfSome (g.F.Folder.files c.args.folder.now) (λ files.
+    Yields {X = List ℕ} (Ok c.in_ok-bytes.bytes) (λ answer. answer ≡ file_named c.args.around.paths.now files mark name))) c.as_slice-name.ensures c.in_ok-bytes.ensures.read in
     IfSome_then (g.F.Folder.files c.args.folder.now) read (λ files yields.
     let file = file_named c.args.around.paths.now files mark c.args.stmt.now.file in
     yields_on (facts_of c.args.around.setting mark c.args.stmt.now.kind.code (head_of c.args.stmt.now.head)) (with_file c.args.around.paths.now files mark c.args.stmt.now.file)
@@ -38,7 +39,8 @@ returns-in-Err-clause-read g c =
     let mark = c.args.around.mark in
     let known = c.in_ok-known.known in
     let halt = Refused c.in-Err.fault in
-    let read = rw c.as_slice-name.ensures at c.in_ok-bytes.ensures.read in
+    let read = subst (λ (name : List ℕ). IfSome (g.F.Folder.files c.args.folder.now) (λ files.
+    Yields {X = List ℕ} (Ok c.in_ok-bytes.bytes) (λ answer. answer ≡ file_named c.args.around.paths.now files mark name))) c.as_slice-name.ensures c.in_ok-bytes.ensures.read in
     IfSome_then (g.F.Folder.files c.args.folder.now) read (λ files yields.
     let file = file_named c.args.around.paths.now files mark c.args.stmt.now.file in
     yields_on {Y = Resource} (facts_of c.args.around.setting mark c.args.stmt.now.kind.code (head_of c.args.stmt.now.head)) (with_file c.args.around.paths.now files mark c.args.stmt.now.file)
@@ -52,7 +54,8 @@ returns-in_err-bytes-clause-read g c =
     let known = c.in_ok-known.known in
     let halt = c.in_err-bytes.field-0.0 in
     let p = err_from_is_err_and c.from_residual-in_err-bytes.result c.from_residual-in_err-bytes.ensures.1 in
-    let read = rw c.as_slice-name.ensures at c.in_err-bytes.ensures.read in
+    let read = subst (λ (name : List ℕ). IfSome (g.F.Folder.files c.args.folder.now) (λ files.
+    Yields {X = List ℕ} (Err c.in_err-bytes.field-0.0) (λ answer. answer ≡ file_named c.args.around.paths.now files mark name))) c.as_slice-name.ensures c.in_err-bytes.ensures.read in
     IfSome_then (g.F.Folder.files c.args.folder.now) read (λ files yields.
     let file = file_named c.args.around.paths.now files mark c.args.stmt.now.file in
     rw (p.1, p.2) (yields_on {Y = Resource} (facts_of c.args.around.setting mark c.args.stmt.now.kind.code (head_of c.args.stmt.now.head)) (with_file c.args.around.paths.now files mark c.args.stmt.now.file)
