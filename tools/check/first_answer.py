@@ -169,7 +169,7 @@ def changed_sources(copy):
 def changed_crates(copy):
     path = copy.path("crates.txt")
     text = read(path)
-    write(path, text.replace(b"rz_tmpl_entries: rz_core arrayvec", b"rz_tmpl_entries: rz_core"))
+    write(path, text.replace(b"rz_set: rz_core indexmap", b"rz_set: rz_core"))
     copy.refuses("a line of crates.txt", CRATES)
     write(path, text + b"rz_new: rz_core\n")
     copy.answers("a crate that the program doesn't stand on")

@@ -5,8 +5,8 @@ use Rattle.rz_core.proofs.Has.{has_is, has_then, Has}
 use Rattle.rz_folder.specs.Temporary.{IsParted}
 use Rattle.rz_pre_source.specs.Source.{mark, IsBadAt, IsTextOf}
 use Rattle.rz_bridge.specs.declared.file.MacFile.{MacFile}
-use Rattle.rz_bridge_form.specs.declared.form.Form.{Form}
-use Rattle.rz_bridge_form.specs.declared.form.Form.TheVariants.{Raw, AppleDouble, AppleSingle, MacBinary, BinHex}
+use Rattle.rz_bridge_files.specs.declared.form.Form.{Form}
+use Rattle.rz_bridge_files.specs.declared.form.Form.TheVariants.{Raw, AppleDouble, AppleSingle, MacBinary, BinHex}
 use Rattle.rz_bridge_files.specs.Names.{bad_name, Named, TakesName}
 use Rattle.rz_bridge_files.specs.Names.Named.{own, raw, taken}
 use Rattle.rz_bridge_files.specs.Names.TakesName.{foreign, roman}

@@ -4,9 +4,9 @@ use Rattle.std.proofs.lemmas.Bool.{ne_eqb}
 use Rattle.std.specs.Prelude.{nat_le}
 use Rattle.rz_core.specs.Numbers.{be, number}
 use Rattle.rz_core.specs.declared.resource.Resource.{Resource}
-use Rattle.rz_bridge_form.specs.Forms.{form_of}
-use Rattle.rz_bridge_form.specs.declared.form.Form.{Form}
-use Rattle.rz_bridge_form.specs.declared.form.Form.TheVariants.{MacBinary, Raw}
+use Rattle.rz_bridge_files.specs.Forms.{form_of}
+use Rattle.rz_bridge_files.specs.declared.form.Form.{Form}
+use Rattle.rz_bridge_files.specs.declared.form.Form.TheVariants.{MacBinary, Raw}
 use Rattle.rz_fork.specs.Image.{header, image}
 
 -- no name has no bytes, so there is no header of MacBinary, however many bytes there are

@@ -8,8 +8,8 @@ use Rattle.rz_core.specs.Stop.{◌>>=◌}
 use Rattle.rz_core.specs.declared.fault.Fault.{Fault}
 use Rattle.rz_core.specs.declared.fault.Mark.{Mark}
 use Rattle.rz_bridge.specs.declared.file.MacFile.{MacFile}
-use Rattle.rz_bridge_form.specs.Forms.{content_of, form_of}
-use Rattle.rz_bridge_form.specs.declared.form.Form.{Form}
+use Rattle.rz_bridge_files.specs.Forms.{content_of, form_of}
+use Rattle.rz_bridge_files.specs.declared.form.Form.{Form}
 use Rattle.rz_fork.specs.Admit.{admitted}
 use Rattle.rz_fork.specs.Contents.{Fork}
 use Rattle.rz_bridge_files.specs.Faults.{or_broken, or_torn}

@@ -1,3 +1,5 @@
+pub mod Forms
+pub mod DataFile
 pub mod Faults
 pub mod Contents
 pub mod Written

@@ -9,8 +9,8 @@ use Rattle.rz_core.specs.declared.fault.Kept.TheVariants.{Number}
 use Rattle.rz_folder.specs.Temporary.{IsParted}
 use Rattle.rz_pre_source.specs.Source.{mark, IsTextOf}
 use Rattle.rz_bridge.specs.declared.file.MacFile.{MacFile}
-use Rattle.rz_bridge_form.specs.declared.form.Form.{Form}
-use Rattle.rz_bridge_form.specs.declared.form.Form.TheVariants.{Raw}
+use Rattle.rz_bridge_files.specs.declared.form.Form.{Form}
+use Rattle.rz_bridge_files.specs.declared.form.Form.TheVariants.{Raw}
 
 -- 425, with the number of characters of a name in UTF-8
 abbrev pub bad_name : List ℕ → Fault

@@ -7,13 +7,13 @@ ghost use Rattle.rz_core.specs.Resources.{KeysDiffer};
 ghost use Rattle.rz_core.specs.Stop.{Gives, OnFault};
 ghost use Rattle.rz_fork.specs.Contents.{FitsFork};
 ghost use Rattle.rz_fork.specs.Image.{AreNamed};
-ghost use Rattle.rz_bridge_form.specs.Forms.{content_of};
+ghost use Rattle.rz_bridge_files.specs.Forms.{content_of};
 ghost use Rattle.rz_bridge_files.specs.Contents.{admit_fork, file_in, form_or, IsFile};
 ghost use Rattle.rz_bridge_files.specs.Faults.{or_broken};
 
 use crate::fault::{fork_fault, form_fault};
+use crate::{Form, form_of, read_form};
 use rz_bridge::MacFile;
-use rz_bridge_form::{Form, form_of, read_form};
 use rz_core::{Bytes, Fault, Mark, Stop};
 use rz_fork::ForkView;
 use std::alloc::Global;

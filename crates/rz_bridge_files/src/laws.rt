@@ -5,12 +5,12 @@ ghost use Rattle.rz_core.specs.declared.fault.Fault.{Fault};
 ghost use Rattle.rz_core.specs.declared.resource.Resource.{Resource};
 ghost use Rattle.rz_fork.specs.Image.{image};
 ghost use Rattle.rz_bridge.specs.declared.file.MacFile.{MacFile};
-ghost use Rattle.rz_bridge_form.specs.Forms.{form_of};
-ghost use Rattle.rz_bridge_form.specs.declared.form.Form.{Form};
-ghost use Rattle.rz_bridge_form.specs.declared.form.Form.TheVariants.{Raw};
+ghost use Rattle.rz_bridge_files.specs.Forms.{form_of};
+ghost use Rattle.rz_bridge_files.specs.declared.form.Form.{Form};
+ghost use Rattle.rz_bridge_files.specs.declared.form.Form.TheVariants.{Raw};
 ghost use Rattle.rz_bridge_files.specs.Names.{Named, TakesName};
 
-use rz_bridge_form::{every_path_is_parted, one_parting};
+use crate::{every_path_is_parted, one_parting};
 use rz_pre_source::{every_source_is_read, one_text};
 
 /// A law, with nothing to run: a file takes one name from a path, or is refused with one fault.

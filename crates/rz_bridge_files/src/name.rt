@@ -7,8 +7,8 @@ ghost use Rattle.rz_core.specs.Message.{IsNameable};
 ghost use Rattle.rz_pre_source.specs.Source.{mark};
 ghost use Rattle.rz_bridge_files.specs.Names.{bad_name, Named, TakesName};
 
+use crate::{Form, last_name};
 use rz_bridge::MacFile;
-use rz_bridge_form::{Form, last_name};
 use rz_core::{Bytes, Fault, Kept, NoMemory, Stop};
 use rz_pre_source::{one_text, to_mac_roman};
 use std::alloc::Global;

@@ -3,12 +3,12 @@
 ghost use Rattle.std.specs.Prelude.{◌≡◌, ℕ, ◌<◌, ◌≤◌, ◌^◌, length, IfOk, Ok};
 ghost use Rattle.rz_core.specs.Message.{IsNameable};
 ghost use Rattle.rz_core.specs.Stop.{Gives, OnFault};
-ghost use Rattle.rz_bridge_form.specs.Forms.{carried_of, content_of};
+ghost use Rattle.rz_bridge_files.specs.Forms.{carried_of, content_of};
 ghost use Rattle.rz_bridge_files.specs.Written.{written_as};
 
 use crate::fault::form_fault;
+use crate::{Form, write_form};
 use rz_bridge::MacFile;
-use rz_bridge_form::{Form, write_form};
 use rz_core::{Bytes, Fault, Stop};
 use std::alloc::Global;
 

@@ -8,7 +8,7 @@ use Rattle.rz_core.specs.declared.resource.Resource.{Resource}
 use Rattle.rz_core.specs.declared.stop.Stop.{Stop}
 use Rattle.rz_core.specs.declared.stop.Stop.TheVariants.{Refused, NoMemory}
 use Rattle.rz_types_table.specs.Table.{Declaration}
-use Rattle.rz_catalog_entries.specs.declared.entry.Entry.{Entry}
+use Rattle.rz_catalog_text.specs.declared.entry.Entry.{Entry}
 use Rattle.rz_catalog.specs.Apply.{first_refused, Applied, IsAppliedTo}
 use Rattle.rz_catalog.specs.Stock.{AreStocked, Stocked}
 

@@ -25,8 +25,8 @@ use Rattle.rz_types_fields.specs.declared.field.TextForm.{TextForm}
 use Rattle.rz_types_fields.specs.declared.tree.Tree.{Tree}
 use Rattle.rz_types_fields.specs.declared.tree.Tree.TheVariants as trees
 use Rattle.rz_types_table.specs.Table.{declared_for, Declaration}
-use Rattle.rz_catalog_entries.specs.Stored.{IsStored}
-use Rattle.rz_catalog_entries.specs.declared.entry.Entry.{Entry}
+use Rattle.rz_catalog_text.specs.Stored.{IsStored}
+use Rattle.rz_catalog_text.specs.declared.entry.Entry.{Entry}
 use Rattle.rz_unlay.specs.Reading.{facts_of}
 use Rattle.rz_catalog.proofs.Few.{few_told}
 use Rattle.rz_catalog.proofs.Trees.{choice_leaves, rows_leaves}

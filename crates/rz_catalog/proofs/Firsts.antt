@@ -8,7 +8,7 @@ use Rattle.std.proofs.lemmas.Option.{same_Some, slice_get_past}
 use Rattle.rz_core.proofs.Tests.{both, same_sym}
 use Rattle.rz_core.specs.Lists.{or_else}
 use Rattle.rz_core.specs.declared.resource.Resource.{Resource}
-use Rattle.rz_catalog_entries.specs.declared.entry.Entry.{Entry}
+use Rattle.rz_catalog_text.specs.declared.entry.Entry.{Entry}
 use Rattle.rz_catalog.specs.Apply.{first_such, is_entry_for, text_for}
 use Rattle.rz_catalog.specs.Held.{entry_key, key_eq, leaf_eq, leaf_key, resource_key}
 use Rattle.rz_catalog.specs.Stock.{Stocked}

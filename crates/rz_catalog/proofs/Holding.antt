@@ -4,7 +4,7 @@ use Rattle.std.proofs.lemmas.List.{length-map, length-take-le, map-append}
 use Rattle.std.proofs.lemmas.Option.{slice_get_within}
 use Rattle.std.specs.List.{list_any, position_from}
 use Rattle.rz_core.proofs.Lists.{take_at_more}
-use Rattle.rz_catalog_entries.specs.declared.entry.Entry.{Entry}
+use Rattle.rz_catalog_text.specs.declared.entry.Entry.{Entry}
 use Rattle.rz_catalog.proofs.Firsts.{any_position}
 use Rattle.rz_catalog.specs.Apply.{same_leaf}
 use Rattle.rz_catalog.specs.Held.{leaf_eq, leaf_key}

@@ -6,7 +6,7 @@ use Rattle.std.specs.declared.result.Result.{Result}
 use Rattle.rz_core.specs.Answers.{Then}
 use Rattle.rz_core.proofs.Has.{has_is, has_then, Has}
 use Rattle.rz_core.proofs.Once.{once_is, once_then, Once}
-use Rattle.rz_catalog_entries.specs.InOrder.{EachInOrder}
+use Rattle.rz_catalog_text.specs.InOrder.{EachInOrder}
 
 module _ {A B F : Type 0} (answers : A → Result B F → Type 0) where
   pub once_each : ((x : A) → Once (answers x)) → (xs : List A) → Once (EachInOrder answers xs)

@@ -6,7 +6,7 @@ use Rattle.std.proofs.lemmas.List.{append-nil, append_assoc, at_drop_all}
 use Rattle.rz_core.specs.Stop.{seen, Meets}
 use Rattle.rz_core.specs.declared.stop.Stop.{Stop}
 use Rattle.rz_core.specs.declared.stop.Stop.TheVariants.{Refused, NoMemory}
-use Rattle.rz_catalog_entries.specs.InOrder.{EachInOrder}
+use Rattle.rz_catalog_text.specs.InOrder.{EachInOrder}
 use Rattle.rz_catalog.proofs.Fronts.{drop_one}
 
 module _ {A B F : Type 0} (answers : A → Result B F → Type 0) where

@@ -11,7 +11,7 @@ use Rattle.rz_core.specs.Lists.{with_front}
 use Rattle.rz_core.specs.Resources.{id_bits, same_key, KeysDiffer}
 use Rattle.rz_core.specs.declared.moment.Moment.{Moment}
 use Rattle.rz_core.specs.declared.resource.Resource.{Resource}
-use Rattle.rz_catalog_entries.specs.declared.entry.Entry.{Entry}
+use Rattle.rz_catalog_text.specs.declared.entry.Entry.{Entry}
 use Rattle.rz_types_table.specs.Table.{Declaration}
 use Rattle.rz_catalog.specs.Apply.{first_such, id_bits_of, is_entry_for, same_leaf}
 use Rattle.rz_catalog.specs.Catalogue.{catalogue, entries_of, entry_of}

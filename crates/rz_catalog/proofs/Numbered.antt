@@ -7,7 +7,7 @@ use Rattle.std.proofs.lemmas.List.{length-append}
 use Rattle.rz_core.proofs.Tests.{or_false}
 use Rattle.rz_core.specs.Lists.{with_front}
 use Rattle.rz_core.specs.declared.resource.Resource.{Resource}
-use Rattle.rz_catalog_entries.specs.declared.entry.Entry.{Entry}
+use Rattle.rz_catalog_text.specs.declared.entry.Entry.{Entry}
 use Rattle.rz_catalog.specs.Apply.{first_such, is_entry_for, placed, text_for}
 use Rattle.rz_catalog.specs.Catalogue.{entries_of, entry_of}
 use Rattle.rz_catalog.specs.Became.{with_text}

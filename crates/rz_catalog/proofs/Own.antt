@@ -13,8 +13,8 @@ use Rattle.rz_core.specs.Resources.{is_protected, same_key, KeysDiffer}
 use Rattle.rz_core.specs.declared.fault.Fault.{Fault}
 use Rattle.rz_core.specs.declared.moment.Moment.{Moment}
 use Rattle.rz_core.specs.declared.resource.Resource.{Resource}
-use Rattle.rz_catalog_entries.specs.Stored.{unmarked}
-use Rattle.rz_catalog_entries.specs.declared.entry.Entry.{Entry}
+use Rattle.rz_catalog_text.specs.Stored.{unmarked}
+use Rattle.rz_catalog_text.specs.declared.entry.Entry.{Entry}
 use Rattle.rz_types_fields.specs.declared.tree.Tree.{Tree}
 use Rattle.rz_types_table.specs.Table.{Declaration}
 use Rattle.rz_catalog.specs.Apply.{entry_fault, fault_for, fault_of, first_refused, first_such, is_entry_for, placed, refused_where, same_leaf, text_for, Applied, IsAppliedTo, IsPut, IsRestrung}

@@ -3,7 +3,7 @@ use Rattle.std.proofs.Common.{inl, inr, List, [], ◌∷◌, refl, sym, subst}
 use Rattle.std.specs.Prelude.{Ok}
 use Rattle.std.specs.declared.result.Result.{Result}
 use Rattle.rz_core.proofs.Once.{ok_or_err, same_ok}
-use Rattle.rz_catalog_entries.specs.InOrder.{EachInOrder}
+use Rattle.rz_catalog_text.specs.InOrder.{EachInOrder}
 
 -- item by item
 abbrev pub AreBy : {A B : Type 0} → (A → B → Type 0) → List A → List B → Type 0

@@ -14,10 +14,10 @@ use Rattle.rz_types_fields.specs.declared.tree.Tree.{Tree}
 use Rattle.rz_types_table.specs.Table.{Declaration}
 use Rattle.rz_catalog.specs.Apply.{entry_fault, fault_for, fault_of, first_refused, first_such, is_entry_for, refused_where, same_leaf, with_bytes, Applied, IsAppliedTo, IsPut, IsRestrung}
 use Rattle.rz_catalog.specs.Stays.{bare}
-use Rattle.rz_catalog_entries.specs.Stored.{AreEntriesIn}
+use Rattle.rz_catalog_text.specs.Stored.{AreEntriesIn}
 use Rattle.rz_catalog.specs.Stock.{texts_of, AreStocked, Stocked}
-use Rattle.rz_catalog_entries.specs.InOrder.{EachInOrder}
-use Rattle.rz_catalog_entries.specs.declared.entry.Entry.{Entry}
+use Rattle.rz_catalog_text.specs.InOrder.{EachInOrder}
+use Rattle.rz_catalog_text.specs.declared.entry.Entry.{Entry}
 
 -- Resources.
 

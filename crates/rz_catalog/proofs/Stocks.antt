@@ -9,7 +9,7 @@ use Rattle.rz_types.specs.Field.{PlainBody}
 use Rattle.rz_types_fields.specs.declared.tree.Tree.{Tree}
 use Rattle.rz_types_table.specs.Table.{declared_for, Declaration}
 use Rattle.rz_unlay.specs.Reading.{facts_of, IsTree}
-use Rattle.rz_catalog_entries.specs.declared.entry.Entry.{Entry}
+use Rattle.rz_catalog_text.specs.declared.entry.Entry.{Entry}
 use Rattle.rz_catalog.specs.Catalogue.{catalogue, IsCatalogue}
 use Rattle.rz_catalog.specs.Stock.{AreStocked, HasTree, Stocked}
 

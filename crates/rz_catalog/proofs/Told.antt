@@ -11,7 +11,7 @@ use Rattle.rz_core.proofs.Lists.{length-with_front}
 use Rattle.rz_core.specs.declared.fault.Fault.{Fault}
 use Rattle.rz_core.specs.declared.moment.Moment.{Moment}
 use Rattle.rz_core.specs.declared.resource.Resource.{Resource}
-use Rattle.rz_catalog_entries.specs.declared.entry.Entry.{Entry}
+use Rattle.rz_catalog_text.specs.declared.entry.Entry.{Entry}
 use Rattle.rz_types_table.specs.Table.{declared_for, Declaration}
 use Rattle.rz_layout.specs.Compiled.{IsCompiled}
 use Rattle.rz_types.specs.Field.{PlainBody}

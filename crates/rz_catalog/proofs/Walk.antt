@@ -6,7 +6,7 @@ use Rattle.rz_core.specs.Decided.{Decided}
 use Rattle.rz_core.specs.declared.moment.Moment.{Moment}
 use Rattle.rz_core.specs.declared.resource.Resource.{Resource}
 use Rattle.rz_types_table.specs.Table.{Declaration}
-use Rattle.rz_catalog_entries.specs.declared.entry.Entry.{Entry}
+use Rattle.rz_catalog_text.specs.declared.entry.Entry.{Entry}
 use Rattle.rz_catalog.specs.Catalogue.{catalogue, entries_of}
 use Rattle.rz_catalog.specs.Stock.{texts_of, AreStocked, HasTree, Stocked}
 use Rattle.rz_catalog.proofs.Places.{one_more}

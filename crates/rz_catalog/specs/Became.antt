@@ -6,7 +6,7 @@ use Rattle.rz_core.specs.declared.moment.Moment.{Moment}
 use Rattle.rz_core.specs.declared.resource.Resource.{Resource}
 use Rattle.rz_types_fields.specs.declared.tree.Tree.{Tree}
 use Rattle.rz_types_table.specs.Table.{Declaration}
-use Rattle.rz_catalog_entries.specs.declared.entry.Entry.{Entry}
+use Rattle.rz_catalog_text.specs.declared.entry.Entry.{Entry}
 use Rattle.rz_catalog.specs.Apply.{first_such, is_entry_for, placed, same_leaf, with_bytes}
 use Rattle.rz_catalog.specs.Leaves.{leaves, HasTexts}
 use Rattle.rz_catalog.specs.Stock.{HasTree}

@@ -5,7 +5,7 @@ use Rattle.rz_core.specs.Lists.{unless_fault}
 use Rattle.rz_core.specs.Resources.{is_protected}
 use Rattle.rz_core.specs.declared.fault.Fault.{Fault}
 use Rattle.rz_core.specs.declared.resource.Resource.{Resource}
-use Rattle.rz_catalog_entries.specs.declared.entry.Entry.{Entry}
+use Rattle.rz_catalog_text.specs.declared.entry.Entry.{Entry}
 use Rattle.rz_catalog.specs.Apply.{fault_of, first_such, is_entry_for}
 
 -- there is a resource, and it is protected

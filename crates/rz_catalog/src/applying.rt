@@ -4,14 +4,14 @@ ghost use Rattle.std.specs.Prelude.{List, map};
 ghost use Rattle.rz_core.specs.Stop.{Meets};
 ghost use Rattle.rz_types_table.specs.TypeTable.{table_of};
 ghost use Rattle.rz_catalog.specs.Apply.{Applied, IsRestrung};
-ghost use Rattle.rz_catalog_entries.specs.InOrder.{EachInOrder};
+ghost use Rattle.rz_catalog_text.specs.InOrder.{EachInOrder};
 ghost use Rattle.rz_catalog.specs.Held.{entry_key, key_eq, leaf_eq, leaf_key, AreFirst};
 ghost use Rattle.rz_catalog.specs.Stock.{AreStocked, Stocked};
 
 use crate::check::{Noted, note_entries};
 use crate::restring::restring;
 use crate::stock::Stock;
-use rz_catalog_entries::Entries;
+use rz_catalog_text::Entries;
 use rz_core::{Fault, Moment, Resources, Stop};
 use rz_types_table::TypeTable;
 use rz_unlay::trees_are_decided;

@@ -8,7 +8,7 @@ ghost use Rattle.rz_catalog.specs.Stock.{Stocked};
 
 use crate::held::{LeafPlaces, Places, entry_key, leaf_key, note, note_leaf};
 use crate::stock::{Held, Stock};
-use rz_catalog_entries::{Entries, Entry};
+use rz_catalog_text::{Entries, Entry};
 use rz_core::{Fault, Kept, Stop};
 use std::alloc::Global;
 

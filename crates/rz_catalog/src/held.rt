@@ -3,7 +3,7 @@
 ghost use Rattle.std.specs.Prelude.{◌≡◌, [], ◌∷◌, ◌++◌, ℕ, length, List, OnOk};
 ghost use Rattle.rz_catalog.specs.Held.{entry_key, key_eq, leaf_eq, leaf_key, resource_key, AreFirst};
 
-use rz_catalog_entries::Entry;
+use rz_catalog_text::Entry;
 use rz_core::{NoMemory, Resource};
 use std::collections::HashMap;
 

@@ -12,7 +12,7 @@ ghost use Rattle.rz_catalog.specs.Catalogue.{catalogue, entries_of, IsCatalogue}
 ghost use Rattle.rz_catalog.specs.Stock.{texts_in, AreStocked, Stocked};
 
 use crate::leaves::texts_of;
-use rz_catalog_entries::{Entries, Entry};
+use rz_catalog_text::{Entries, Entry};
 use rz_core::{Bytes, Facts, Listing, Mark, Moment, NoMemory, OsType, Resource, Resources};
 use rz_types::Template;
 use rz_types_table::TypeTable;

@@ -9,7 +9,7 @@ ghost use Rattle.rz_types_fields.specs.Row.{IsRow};
 ghost use Rattle.rz_types_fields.specs.declared.tree.Tree.{Tree};
 ghost use Rattle.rz_types_table.specs.TypeTable.{table_of};
 ghost use Rattle.rz_unlay.specs.Reading.{IsTree};
-ghost use Rattle.rz_catalog_entries.specs.declared.entry.Entry.{Entry};
+ghost use Rattle.rz_catalog_text.specs.declared.entry.Entry.{Entry};
 ghost use Rattle.rz_core.specs.declared.resource.Resource.{Resource};
 ghost use Rattle.rz_catalog.specs.Apply.{is_entry_for, placed, text_for, with_bytes, IsPut};
 ghost use Rattle.rz_catalog.specs.Held.{entry_key, key_eq, leaf_eq, leaf_key, resource_key, AreFirst, IsChangedUnder, IsPutUnder};
@@ -22,9 +22,9 @@ use crate::leaves::texts_of;
 use crate::listed::{facts_of, template_for};
 use crate::put::put_row;
 use crate::same::same_row;
-use rz_catalog_entries::{Entries, Entry};
+use rz_catalog_text::{Entries, Entry};
 use rz_core::{Bytes, Facts, Fault, Listing, Moment, NoMemory, Resource, Stop};
-use rz_layout::compile;
+use rz_layout::lay_row;
 use rz_types::Template;
 use rz_types_fields::Row;
 use rz_types_table::TypeTable;
@@ -194,7 +194,7 @@ fn text_for(
 }
 
 /// The bytes that tell a row as a tree under a template. `None` comes exactly where there are none: where the row is refused
-/// ([`compile`]), or its bytes tell another row, or none.
+/// ([`lay_row`]), or its bytes tell another row, or none.
 fn bytes_telling(
     alloc: Global,
     template: &Template,
@@ -205,7 +205,7 @@ fn bytes_telling(
     ensures { IfOk result (Decided (λ bytes. (body : PlainBody) × IsTree (Some (template_of template.now)) facts.now bytes body row.now)) }
 {
     plain_rows_are_spelled();
-    let bytes = match compile(alloc, template, row, facts) {
+    let bytes = match lay_row(alloc, template, row, facts) {
         Ok(bytes) => bytes,
         Err(Stop::Refused(_)) => return Ok(None),
         Err(Stop::NoMemory) => return Err(NoMemory),

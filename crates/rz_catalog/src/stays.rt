@@ -7,8 +7,8 @@ ghost use Rattle.rz_core.specs.declared.moment.Moment.{Moment};
 ghost use Rattle.rz_core.specs.declared.resource.Resource.{Resource};
 ghost use Rattle.rz_catalog.specs.Apply.{Applied};
 ghost use Rattle.rz_catalog.specs.Stays.{bare};
-ghost use Rattle.rz_catalog_entries.specs.Stored.{AreEntriesIn};
-ghost use Rattle.rz_catalog_entries.specs.declared.entry.Entry.{Entry};
+ghost use Rattle.rz_catalog_text.specs.Stored.{AreEntriesIn};
+ghost use Rattle.rz_catalog_text.specs.declared.entry.Entry.{Entry};
 ghost use Rattle.rz_types_table.specs.Table.{Declaration};
 
 /// A law, with nothing to run: after entries a list has the same resources in the same order, each with its type, its id, its

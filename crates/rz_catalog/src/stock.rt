@@ -10,7 +10,7 @@ ghost use Rattle.rz_catalog.specs.Stock.{AreStocked, HasTree, Stocked};
 
 use crate::held::{Places, entry_key, note, resource_key};
 use crate::listed::{facts_of, template_for, texts_under};
-use rz_catalog_entries::Entry;
+use rz_catalog_text::Entry;
 use rz_core::{Listing, Moment, NoMemory, Resource, Resources};
 use rz_types_table::TypeTable;
 use std::alloc::Global;

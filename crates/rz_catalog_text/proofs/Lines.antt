@@ -11,7 +11,7 @@ use Rattle.rz_show_lines.proofs.Pieces.{first_piece, last_piece}
 use Rattle.rz_show_lines.proofs.Writes.{signed_is, text_both}
 use Rattle.rz_show_lines.specs.Print.{signed_written}
 use Rattle.rz_show_lines.specs.Written.{a_blank, a_number, a_sign, line_text, lines_text, Written}
-use Rattle.rz_catalog_entries.specs.declared.entry.Entry.{Entry}
+use Rattle.rz_catalog_text.specs.declared.entry.Entry.{Entry}
 use Rattle.rz_catalog_text.specs.Text.{entries_text, entry_lines, head_line, head_text, piece_text, pieces_text}
 
 last_text : (text : List ℕ) → length text ≤ 64 → pieces_text text ≡ piece_text text (59 ∷ 10 ∷ [])

@@ -4,7 +4,7 @@ use Rattle.rz_core.specs.Decimal.{decimal_of, signed_of}
 use Rattle.rz_core.specs.Numbers.{be}
 use Rattle.rz_core.specs.Quoted.{literal_text, quoted}
 use Rattle.rz_lex.specs.declared.sign.Sign.TheVariants.{Semicolon}
-use Rattle.rz_catalog_entries.specs.declared.entry.Entry.{Entry}
+use Rattle.rz_catalog_text.specs.declared.entry.Entry.{Entry}
 use Rattle.rz_show_lines.specs.Print.{signed_written, text_lines}
 use Rattle.rz_show_lines.specs.Written.{a_blank, a_literal, a_number, a_sign, lines_text, Written}
 

@@ -3,7 +3,7 @@
 ghost use Rattle.std.specs.Prelude.{◌≡◌, [], ◌∷◌, ◌++◌, OnOk, OnErr};
 ghost use Rattle.rz_catalog_text.specs.Text.{entries_text, head_text, piece_text, pieces_text};
 
-use rz_catalog_entries::Entry;
+use crate::Entry;
 use rz_core::{Bytes, NoMemory, write_decimal, write_quoted, write_signed, write_type};
 
 /// The bytes of a text that stand on one line.

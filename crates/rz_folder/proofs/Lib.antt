@@ -7,3 +7,7 @@ pub mod FolderPart
 pub mod Streams
 pub mod Held
 pub mod Writers
+pub mod Found
+pub mod Named
+pub mod Looking
+pub mod Present

@@ -15,3 +15,4 @@ pub mod MayRead
 pub mod OnlyReads
 pub mod Finds
 pub mod Temporary
+pub mod Names

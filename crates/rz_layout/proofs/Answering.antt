@@ -1,4 +1,4 @@
--- What `compile` answers, from what is laid.
+-- What `lay_row` answers, from what is laid.
 use Rattle.std.proofs.Common.{◌≡◌, ℕ, ◌%◌, ◌<◌, Bool, true, List, length, Result, Ok, Err, refl, subst}
 use Rattle.std.specs.Prelude.{slice_index}
 use Rattle.rz_core.specs.Stop.{OnFault, Gives, Meets, fault_seen}

@@ -70,7 +70,7 @@ use std::mem;
 /// text at a time; and for late numbers: a bit for each bit up to the last of them, each with its expression, and what was
 /// noted in the bodies that have names of their own, or are rows of an array that has one, where late numbers stand. (MPW
 /// Rez.)
-pub fn compile(
+pub fn lay_row(
     alloc: Global,
     template: &Template,
     row: &Row,

@@ -1,4 +1,4 @@
-//! Rows as bytes: `compile` gives exactly the bytes that the values of a row spell under the fields of a type, or
+//! Rows as bytes: `lay_row` gives exactly the bytes that the values of a row spell under the fields of a type, or
 //! exactly the first refusal, and there is always one of the two.
 //! A row of an array and the case of a switch that is chosen are laid as bodies of their own: inside, the names of their
 //! arrays have the numbers of their rows, their labels the places where they stand, and the name of the array the number of
@@ -36,5 +36,5 @@ mod text;
 mod valued;
 
 pub use fault::LayFault;
-pub use fields::compile;
+pub use fields::lay_row;
 pub use laws::one_spelling;

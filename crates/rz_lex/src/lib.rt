@@ -2,7 +2,7 @@
 //! and `lex` give exactly the lines and the tokens of the definitions, or the first fault. The laws say that there is
 //! exactly one answer, and that tokens that are written are cut again as they were.
 //! It rests on `rz_core` and `memchr`.
-//! A new kind of token changes `token` and its definitions, `rz_pre_tokens`, which stores tokens, and
+//! A new kind of token changes `token` and its definitions, `rz_pre_source`, which stores tokens, and
 //! docs/LANGUAGE.md.
 //!
 //! Choices, and why:

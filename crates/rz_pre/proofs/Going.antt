@@ -27,7 +27,7 @@ use Rattle.rz_pre.specs.declared.program.Def.{Def}
 use Rattle.rz_pre.specs.declared.program.Program.{Program}
 use Rattle.rz_pre.specs.declared.reading.Reading.{Reading}
 use Rattle.rz_lex.specs.declared.token.Token.{Token}
-use Rattle.rz_folder_paths.specs.Names.{file_of, missing_file, names_of, utf8_name}
+use Rattle.rz_folder.specs.Names.{file_of, missing_file, names_of, utf8_name}
 use Rattle.rz_core.specs.declared.stop.Halt.{Halt}
 use Rattle.rz_core.specs.declared.stop.Halt.TheVariants as halts
 use Rattle.rz_pre.specs.declared.act.Act.TheVariants as acts

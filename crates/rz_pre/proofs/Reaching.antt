@@ -8,8 +8,8 @@ use Rattle.rz_folder.specs.Folder.{Files}
 use Rattle.rz_folder.specs.MayRead.{IsOneOf, MayRead, MayReadOf}
 use Rattle.rz_folder.specs.declared.folder.Folder.{Ghosts}
 use Rattle.rz_folder.proofs.Allowed.{may_read_fewer, may_read_these}
-use Rattle.rz_folder_paths.specs.Names.{file_of, missing_file, names_of, utf8_name}
-use Rattle.rz_folder_paths.proofs.Found.{found_under}
+use Rattle.rz_folder.specs.Names.{file_of, missing_file, names_of, utf8_name}
+use Rattle.rz_folder.proofs.Found.{found_under}
 use Rattle.rz_lex.specs.Joined.{joined}
 use Rattle.rz_lex.specs.Lines.{StandsBefore}
 use Rattle.rz_lex.specs.declared.joined.Placed.{Placed}

@@ -12,7 +12,7 @@ use Rattle.rz_lex.specs.declared.joined.Placed.{Placed}
 use Rattle.rz_lex.specs.declared.raw_line.RawLine.{RawLine}
 use Rattle.rz_lex.specs.declared.token.Token.{Token}
 use Rattle.rz_core.specs.Answers.{Then}
-use Rattle.rz_folder_paths.specs.Names.{file_of, missing_file, names_of, utf8_name}
+use Rattle.rz_folder.specs.Names.{file_of, missing_file, names_of, utf8_name}
 use Rattle.rz_pre.specs.Line.{Does}
 use Rattle.rz_pre.specs.Live.{put, shapes_of, Live}
 use Rattle.rz_pre_source.specs.Source.{IsBadAt, IsTextOf}

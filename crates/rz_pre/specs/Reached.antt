@@ -2,7 +2,7 @@
 use Rattle.std.specs.Prelude.{◌≡◌, ℕ, List, ◌∷◌, ◌++◌, Option, Some, Ok}
 use Rattle.std.specs.FinMap as finite
 use Rattle.rz_folder.specs.Folder.{Files}
-use Rattle.rz_folder_paths.specs.Names.{LooksFor}
+use Rattle.rz_folder.specs.Names.{LooksFor}
 use Rattle.rz_lex.specs.Joined.{joined}
 use Rattle.rz_lex.specs.Lines.{HasLines}
 use Rattle.rz_lex.specs.declared.joined.Placed.{Placed}

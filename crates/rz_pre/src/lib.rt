@@ -2,8 +2,7 @@
 //! `preprocess` gives exactly the program that the named files mean, or the first fault, and there is one of them
 //! at most, and no name is read but those of `specs/Reached.antt`. Over every folder no file changes, and each mark is
 //! of an opened file.
-//! It rests on `rz_core`, `rz_folder`, `rz_folder_paths`, `rz_lex`, `rz_words`, `rz_expr`, `rz_pre_source`,
-//! `rz_pre_tokens` and `indexmap`.
+//! It rests on `rz_core`, `rz_folder`, `rz_lex`, `rz_words`, `rz_expr`, `rz_pre_source` and `indexmap`.
 //! What a program means is `specs/Program.antt`; a new directive changes `line`, and `directive` of `rz_pre_source`.
 //! The laws above it, in the words of the language, stand in `rz_pre_laws`.
 //!

@@ -8,13 +8,12 @@ ghost use Rattle.rz_folder.specs.MayRead.{IsOneOf, MayRead};
 ghost use Rattle.rz_folder.specs.OnlyReads.{OnlyReads};
 ghost use Rattle.rz_pre.specs.Lexed.{IsLexedReading};
 ghost use Rattle.rz_pre.specs.Program.{bad_text, HasText, Opens};
-ghost use Rattle.rz_folder_paths.specs.Names.{missing_file};
+ghost use Rattle.rz_folder.specs.Names.{missing_file};
 ghost use Rattle.rz_pre.specs.Reading.{state_of, together, with_state};
 
 use crate::reading::Reading;
 use rz_core::{Bytes, Fault, FileNames, Halt, Kept, Mark, Stop};
-use rz_folder::Folder;
-use rz_folder_paths::{find, missing_file};
+use rz_folder::{Folder, find, missing_file};
 use rz_pre_source::to_mac_roman;
 use std::alloc::Global;
 

@@ -2,7 +2,7 @@
 
 use rz_core::{Fault, FileNames, Listing, Word, Words};
 use rz_lex::Tokens;
-use rz_pre_tokens::TokenStore;
+use rz_pre_source::TokenStore;
 
 /// A definition of the words: `-d name=text` or `-u name`.
 #[derive(Debug, Drop)]

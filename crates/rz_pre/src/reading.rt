@@ -15,7 +15,7 @@ use crate::line::act_of;
 use crate::macros::Macros;
 use rz_core::{Bytes, Fault, FileNames, Mark, NoMemory, Stop};
 use rz_lex::RawLine;
-use rz_pre_tokens::TokenStore;
+use rz_pre_source::TokenStore;
 use std::alloc::Global;
 
 /// What was read so far.

@@ -8,7 +8,7 @@ ghost use Rattle.rz_pre.specs.Macros.{rows_of};
 ghost use Rattle.rz_folder.specs.Counts.{Rose};
 ghost use Rattle.rz_folder.specs.MayRead.{IsOneOf, MayRead, MayReadOf};
 ghost use Rattle.rz_folder.specs.OnlyReads.{OnlyReads};
-ghost use Rattle.rz_folder_paths.specs.Names.{names_of, utf8_name};
+ghost use Rattle.rz_folder.specs.Names.{names_of, utf8_name};
 ghost use Rattle.rz_pre.specs.Placed.{AreOpenIn, IsPlaced, IsSourceFault};
 ghost use Rattle.rz_pre.specs.Program.{ends, live_after, open_if, start, too_deep, AheadGoes, Enters, IncludedGoes, NamedGoes, NamesGo, ProgramGoes, State};
 ghost use Rattle.rz_pre.specs.declared.program.Failure.{Failure};
@@ -26,8 +26,7 @@ use crate::open::open_file;
 use crate::program::{Defs, Failure, Program};
 use crate::reading::{Reading, step};
 use rz_core::{Bytes, Fault, FileNames, Halt, Kept, Mark, NoMemory};
-use rz_folder::Folder;
-use rz_folder_paths::names_of;
+use rz_folder::{Folder, names_of};
 use rz_lex::{Lexer, every_text_has_lines, tokens_are_lexed};
 use std::alloc::Global;
 

@@ -6,7 +6,7 @@ use Rattle.rz_core.specs.declared.fault.Fault.{Fault}
 use Rattle.rz_core.specs.declared.fault.Mark.{Mark}
 use Rattle.rz_words.specs.declared.keyword.Keyword.TheVariants as keywords
 use Rattle.rz_folder.specs.Folder.{Files}
-use Rattle.rz_folder_paths.specs.Names.{file_of, missing_file, names_of, utf8_name}
+use Rattle.rz_folder.specs.Names.{file_of, missing_file, names_of, utf8_name}
 use Rattle.rz_lex.specs.Cutting.{Cuts}
 use Rattle.rz_lex.specs.declared.raw_line.RawLine.{RawLine}
 use Rattle.rz_lex.specs.declared.token.Shape.{Shape}

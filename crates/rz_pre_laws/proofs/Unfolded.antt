@@ -7,7 +7,7 @@ use Rattle.rz_folder.specs.Folder.{Files}
 use Rattle.rz_lex.specs.declared.raw_line.RawLine.{RawLine}
 use Rattle.rz_core.specs.Answers.{Then}
 use Rattle.rz_pre.specs.Line.{Does}
-use Rattle.rz_folder_paths.specs.Names.{file_of, missing_file, names_of, utf8_name}
+use Rattle.rz_folder.specs.Names.{file_of, missing_file, names_of, utf8_name}
 use Rattle.rz_pre.specs.Program.{bad_text, ends, fails, innermost, levels_below, opens_after, state_after, too_deep, with_file, Follows, IncludedGoes, Includes, LinesGo, NamedGoes, NamesGo, OpensAs, State, TextGoes}
 use Rattle.rz_pre.specs.declared.program.Failure.{Failure}
 use Rattle.rz_pre_laws.specs.Unfolding.{behind_all, left_open, outcome, BehindLine, EachActs, Entry, FileUnfolds, IncludedUnfolds, Line, LinesUnfold, NamesUnfold, Opened, Stretch}

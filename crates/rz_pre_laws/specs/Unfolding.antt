@@ -10,7 +10,7 @@ use Rattle.rz_lex.specs.Lines.{HasLines}
 use Rattle.rz_lex.specs.declared.raw_line.RawLine.{RawLine}
 use Rattle.rz_pre_source.specs.Source.{IsBadAt, IsTextOf}
 use Rattle.rz_pre.specs.Line.{Does}
-use Rattle.rz_folder_paths.specs.Names.{file_of, missing_file, names_of, utf8_name}
+use Rattle.rz_folder.specs.Names.{file_of, missing_file, names_of, utf8_name}
 use Rattle.rz_pre.specs.Program.{bad_text, fails, innermost, levels_below, open_if, opens_after, start, state_after, too_deep, with_file, State}
 use Rattle.rz_pre.specs.declared.program.Failure.{Failure}
 use Rattle.rz_pre.specs.declared.act.Act.{Act}

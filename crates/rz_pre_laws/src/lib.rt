@@ -3,8 +3,7 @@
 //! is read; a name stands for what its last definition gives it, and no reserved word is ever live; the tokens are such
 //! as lines can be cut into; sources that don't ask for the tool mean the same to both. Laws alone, with nothing to
 //! run; the preprocessor doesn't stand on them.
-//! It rests on `rz_core`, `rz_folder`, `rz_folder_paths`, `rz_lex`, `rz_words`, `rz_expr`, `rz_pre_source`,
-//! `rz_pre_tokens` and `rz_pre`.
+//! It rests on `rz_core`, `rz_folder`, `rz_lex`, `rz_words`, `rz_expr`, `rz_pre_source` and `rz_pre`.
 //! A new directive is a case of what lines do (`specs/Line` of `rz_pre`), and of the laws that speak of each.
 //!
 //! Choices, and why:

@@ -27,7 +27,7 @@ use Rattle.rz_show_lines.specs.Print.{in_group, named_block, no_prints, signed_n
 use Rattle.rz_show_laws.specs.Short.{AreShortTexts, IsShortCase, IsShortText}
 use Rattle.rz_show_lines.specs.Pieces.{piece_size, text_pieces}
 use Rattle.rz_show.specs.Shown.{case_print, field_print, print_if, row_prints, rows_prints, text_print}
-use Rattle.rz_show_lines_laws.proofs.Texts.{all_pieces, pieces_join}
+use Rattle.rz_show_lines.proofs.Texts.{all_pieces, pieces_join}
 use Rattle.rz_show_laws.proofs.Texts.{pieces_read}
 use Rattle.rz_show.proofs.Trees.{choice_chosen, choice_differs, choice_is, fronted, group_is, line_is, number_is, rows_are, same_name, text_is}
 use Rattle.rz_show.proofs.Widths.{fields_shaped}

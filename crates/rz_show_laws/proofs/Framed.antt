@@ -29,11 +29,11 @@ use Rattle.rz_show_laws.specs.Showable.{IsStored}
 use Rattle.rz_show_laws.specs.Statement.{attributes_of, shown_head}
 use Rattle.rz_show_laws.proofs.HeadLimits.{flat_kept, id_few, weight_head}
 use Rattle.rz_show_laws.proofs.HeadTokens.{all_of, head_of, id_is, id_is_inner, inner_is_flat, is_flat, is_inner, no_paren, none_open, pieces_are_flat, pieces_are_inner, rest_is, shown_attributes, AreFlat, AreFlatShapes}
-use Rattle.rz_show_lines_laws.proofs.Tokens.{list_shapes}
+use Rattle.rz_show_lines.proofs.Tokens.{list_shapes}
 use Rattle.rz_show_laws.proofs.Keeping.{list_kept}
 use Rattle.rz_show_laws.proofs.Pass.{list_passes}
 use Rattle.rz_show_laws.proofs.Shapes.{after_commas, head_pieces, id_shapes, statement_shapes}
-use Rattle.rz_show_lines_laws.proofs.Split.{front_and_back, none_left, one_and_more, shapes_in}
+use Rattle.rz_show_lines.proofs.Split.{front_and_back, none_left, one_and_more, shapes_in}
 use Rattle.rz_show_laws.proofs.Walks.{divided, ended_are, flat_passes, kept, kept_are, nothing_divides, nothing_opens, opened, opened_are}
 
 split_last : (id named list : List Shape) (a b c d : Shape) → id ++ (named ++ a ∷ b ∷ (list ++ c ∷ d ∷ [])) ≡ (id ++ (named ++ a ∷ b ∷ (list ++ c ∷ []))) ++ d ∷ []

@@ -30,12 +30,12 @@ use Rattle.rz_types.specs.Value.{symbol_value}
 use Rattle.rz_types.specs.Walk.{and_names, around_names, names_of, Own}
 use Rattle.rz_show.specs.Number.{by_decimal, by_form, by_hex, by_literal, by_radix, by_truth, by_value, is_literal_width, is_stored, named_or, number_shown, symbol_for, truth}
 use Rattle.rz_show_lines.specs.Print.{group_rest, group_written, no_prints, signed_number, signed_written, single_written, Print, Prints}
-use Rattle.rz_show_lines_laws.specs.Good.{AreGood, IsGood}
+use Rattle.rz_show_lines.specs.Good.{AreGood, IsGood}
 use Rattle.rz_show.specs.Printable.{AreOfBytes, HasName, HasNames, HaveNames, IsCaseOfBytes, IsOfBytes, IsWidth, SparesTruth}
 use Rattle.rz_show_lines.specs.Written.{a_literal, IsName, IsPut, IsWritten}
 use Rattle.rz_show.specs.Shown.{case_print, case_uses, field_print, field_uses, print_if, row_prints, row_uses, rows_prints, text_print}
 use Rattle.rz_show.proofs.Names.{shaped_names}
-use Rattle.rz_show_lines_laws.proofs.Texts.{four_bytes, pieces_small}
+use Rattle.rz_show_lines.proofs.Texts.{four_bytes, pieces_small}
 use Rattle.rz_show.proofs.Trees.{choice_chosen, choice_differs, fronted, group_is, line_is, number_is, rows_are, taken, Takes}
 use Rattle.rz_show.proofs.Widths.{fields_shaped, number_width, width_most, width_some}
 

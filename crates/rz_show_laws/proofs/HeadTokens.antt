@@ -26,7 +26,7 @@ use Rattle.rz_stmt_data.specs.declared.head.Subject.TheVariants.{New}
 use Rattle.rz_types_fields.specs.declared.place.TextPlace.TheVariants as places
 use Rattle.rz_show_laws.specs.Statement.{attribute_part, attributes_of, id_term, name_part, text_parts}
 use Rattle.rz_show_laws.proofs.Shapes.{after_commas, head_pieces, id_shapes, name_pieces, shape_alone, text_shapes}
-use Rattle.rz_show_lines_laws.proofs.Split.{front_and_back, none_left, one_and_more, shapes_in}
+use Rattle.rz_show_lines.proofs.Split.{front_and_back, none_left, one_and_more, shapes_in}
 use Rattle.rz_core.proofs.Lists.{all_append}
 use Rattle.rz_core.proofs.Tests.{by_test}
 use Rattle.rz_core.specs.declared.resource.Resource.{Resource}

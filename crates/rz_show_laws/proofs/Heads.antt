@@ -25,10 +25,10 @@ use Rattle.rz_show_lines.specs.Print.{signed_written}
 use Rattle.rz_show_lines.specs.Written.{a_blank, a_sign, a_text, line_shapes, lines_shapes, IsPut, Written}
 use Rattle.rz_show_laws.specs.Showable.{IsStored}
 use Rattle.rz_show_laws.specs.Statement.{attribute_part, attributes_of}
-use Rattle.rz_show_lines_laws.proofs.CutLines.{none_live, pieces_lines, signed_apart, AreLines, IsBehind, IsLine}
+use Rattle.rz_show_lines.proofs.CutLines.{none_live, pieces_lines, signed_apart, AreLines, IsBehind, IsLine}
 use Rattle.rz_show_laws.proofs.Shapes.{attribute_tokens, after_commas, id_shapes, name_pieces, shape_alone, text_shapes}
-use Rattle.rz_show_lines_laws.proofs.Texts.{all_pieces, four_bytes, pieces_join, pieces_small}
-use Rattle.rz_show_lines_laws.proofs.Tokens.{line_both, piece_tokens}
+use Rattle.rz_show_lines.proofs.Texts.{all_pieces, four_bytes, pieces_join, pieces_small}
+use Rattle.rz_show_lines.proofs.Tokens.{line_both, piece_tokens}
 
 -- what may stand after a number
 abbrev EndsLine : List Written → Type 0

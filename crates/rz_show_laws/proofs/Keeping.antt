@@ -7,7 +7,7 @@ use Rattle.rz_lex.specs.declared.sign.Sign.TheVariants as signs
 use Rattle.rz_lex.specs.declared.token.Shape.{Shape}
 use Rattle.rz_lex.specs.declared.token.Shape.TheVariants as shapes
 use Rattle.rz_show.specs.Height.{height, heights}
-use Rattle.rz_show_lines_laws.proofs.Tokens.{braced, group_tokens, list_shapes, number_prints, print_shapes}
+use Rattle.rz_show_lines.proofs.Tokens.{braced, group_tokens, list_shapes, number_prints, print_shapes}
 use Rattle.rz_show_lines.specs.Print.{block, by_name, in_binary, in_decimal, in_group, in_hex, in_literal, in_octal, in_text, named_block, no_prints, pieces, print, single, Print, Prints, Single}
 use Rattle.rz_show_laws.proofs.Walks.{kept}
 

@@ -3,7 +3,7 @@ use Rattle.std.proofs.Common.{ℤ, pos, negsuc, List, [], ◌∷◌, ◌++◌, r
 use Rattle.rz_lex.specs.Printed.{word_of}
 use Rattle.rz_lex.specs.declared.token.Shape.TheVariants as shapes
 use Rattle.rz_show_laws.proofs.HeadTokens.{texts_are_inner}
-use Rattle.rz_show_lines_laws.proofs.Tokens.{braced, group_tokens, list_shapes, number_prints, print_shapes}
+use Rattle.rz_show_lines.proofs.Tokens.{braced, group_tokens, list_shapes, number_prints, print_shapes}
 use Rattle.rz_show_lines.specs.Print.{block, by_name, comma, in_binary, in_decimal, in_group, in_hex, in_literal, in_octal, in_text, named_block, no_prints, pieces, print, single, Print, Prints, Single}
 use Rattle.rz_show_lines.specs.Written.{line_shapes}
 use Rattle.rz_show_laws.proofs.Walks.{anywhere, braced_passes, comma_passes, inner_passes, inside, passes_both, passes_inside, passes_none, Passes}

@@ -17,10 +17,10 @@ use Rattle.rz_lex.specs.declared.sign.Sign.TheVariants as signs
 use Rattle.rz_lex.specs.declared.token.Shape.{Shape}
 use Rattle.rz_lex.specs.declared.token.Shape.TheVariants as shapes
 use Rattle.rz_lex.specs.declared.token.Token.{Token}
-use Rattle.rz_show_lines_laws.specs.Page.{AreCutBack, ArePrinted, IsPage}
+use Rattle.rz_show_lines.specs.Page.{AreCutBack, ArePrinted, IsPage}
 use Rattle.rz_show.specs.Head.{head_lines}
 use Rattle.rz_show_lines.specs.Print.{list_lines, no_prints, Prints}
-use Rattle.rz_show_lines_laws.specs.Good.{AreGood}
+use Rattle.rz_show_lines.specs.Good.{AreGood}
 use Rattle.rz_show.specs.Printable.{AreOfBytes, SparesTruth}
 use Rattle.rz_show.specs.Showing.{by_bytes, by_row, showing_lines, showings_text, Showing}
 use Rattle.rz_show.specs.Shown.{row_prints, row_uses}
@@ -36,16 +36,16 @@ use Rattle.rz_types.specs.Rules.{keeps_rules}
 use Rattle.rz_types.specs.Shape.{are_shaped, body_depth, deepest_body, is_well_shaped}
 use Rattle.rz_show_laws.specs.Showable.{CanBeShown, IsShowable, IsStored}
 use Rattle.rz_show_laws.specs.Statement.{attributes_of, is_shown, AreWhole, IsPrintedAs, IsWholeOf}
-use Rattle.rz_show_lines_laws.proofs.CutLines.{all_printed, none_live, IsCutBack}
+use Rattle.rz_show_lines.proofs.CutLines.{all_printed, none_live, IsCutBack}
 use Rattle.rz_show_laws.proofs.Fitting.{fitting}
 use Rattle.rz_show_laws.proofs.Good.{text_good}
 use Rattle.rz_show_laws.proofs.Heads.{front_shapes, end_shapes, head_is}
-use Rattle.rz_show_lines_laws.proofs.Tokens.{lines_both, list_shapes, list_tokens}
+use Rattle.rz_show_lines.proofs.Tokens.{lines_both, list_shapes, list_tokens}
 use Rattle.rz_show_laws.proofs.Items.{AreNamingPrints}
 use Rattle.rz_show_laws.proofs.Naming.{row_naming}
-use Rattle.rz_show_lines_laws.proofs.Pages.{has_tokens}
+use Rattle.rz_show_lines.proofs.Pages.{has_tokens}
 use Rattle.rz_show_laws.proofs.Shapes.{attribute_tokens, after_commas, id_shapes, name_pieces, shape_alone, statement_shapes}
-use Rattle.rz_show_lines_laws.proofs.Split.{front_and_back, none_left, shapes_in}
+use Rattle.rz_show_lines.proofs.Split.{front_and_back, none_left, shapes_in}
 use Rattle.rz_show_laws.proofs.Whole.{whole_data, whole_row}
 use Rattle.rz_show_laws.proofs.Words.{list_words, statement_words, words_both, AreWords}
 

@@ -14,8 +14,8 @@ use Rattle.rz_lex.specs.declared.token.Shape.{Shape}
 use Rattle.rz_lex.specs.declared.token.Shape.TheVariants as shapes
 use Rattle.rz_lex.specs.declared.token.Token.{Token}
 use Rattle.rz_show_laws.proofs.HeadTokens.{is_flat, is_inner}
-use Rattle.rz_show_lines_laws.proofs.Split.{shapes_in}
-use Rattle.rz_show_lines_laws.proofs.Tokens.{braced}
+use Rattle.rz_show_lines.proofs.Split.{shapes_in}
+use Rattle.rz_show_lines.proofs.Tokens.{braced}
 
 -- By shapes.
 

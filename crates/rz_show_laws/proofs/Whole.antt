@@ -19,12 +19,12 @@ use Rattle.rz_show.specs.Statement.{data_items}
 use Rattle.rz_show_laws.specs.Showable.{IsStored}
 use Rattle.rz_show_laws.specs.Statement.{IsWholeData, IsWholeRow}
 use Rattle.rz_show_laws.proofs.Framed.{framed}
-use Rattle.rz_show_lines_laws.proofs.Tokens.{list_shapes}
+use Rattle.rz_show_lines.proofs.Tokens.{list_shapes}
 use Rattle.rz_show_laws.proofs.Items.{AreNamingPrints, ArePrintedItems}
 use Rattle.rz_show_laws.proofs.Listed.{list_read}
 use Rattle.rz_show_laws.proofs.Shapes.{statement_shapes, text_shapes}
-use Rattle.rz_show_lines_laws.proofs.Split.{shapes_in}
-use Rattle.rz_show_lines_laws.proofs.Texts.{all_pieces, pieces_join}
+use Rattle.rz_show_lines.proofs.Split.{shapes_in}
+use Rattle.rz_show_lines.proofs.Texts.{all_pieces, pieces_join}
 
 -- by its bytes
 pub whole_data : (r : Resource) (name : List (List ℕ)) → flat_map (λ piece. piece) name ≡ r.name → IsStored r

@@ -17,10 +17,10 @@ use Rattle.rz_lex.specs.declared.sign.Sign.TheVariants as signs
 use Rattle.rz_lex.specs.declared.token.Shape.{Shape}
 use Rattle.rz_lex.specs.declared.token.Shape.TheVariants as shapes
 use Rattle.rz_show_lines.specs.Print.{block, by_name, comma, in_binary, in_decimal, in_group, in_hex, in_literal, in_octal, in_text, named_block, no_prints, pieces, print, single, single_written, Print, Prints, Single}
-use Rattle.rz_show_lines_laws.specs.Good.{AreGood, IsGood}
+use Rattle.rz_show_lines.specs.Good.{AreGood, IsGood}
 use Rattle.rz_show_lines.specs.Written.{line_shapes, IsPut}
 use Rattle.rz_show_laws.specs.Statement.{attribute_part, attributes_of, is_shown, shown_words}
-use Rattle.rz_show_lines_laws.proofs.Tokens.{braced, group_tokens, list_shapes, number_prints, print_shapes}
+use Rattle.rz_show_lines.proofs.Tokens.{braced, group_tokens, list_shapes, number_prints, print_shapes}
 use Rattle.rz_show_laws.proofs.Items.{AreNamingPrints, IsNaming, IsNamingPrint, IsNamingSingle}
 use Rattle.rz_show_laws.proofs.Shapes.{attribute_tokens, after_commas, id_shapes, name_pieces, shape_alone, statement_shapes, text_shapes}
 

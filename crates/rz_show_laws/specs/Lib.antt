@@ -1,5 +1,5 @@
 pub mod Short
 pub mod Statement
 pub mod Showable
-pub use Rattle.rz_show_lines_laws.specs.Good
-pub use Rattle.rz_show_lines_laws.specs.Page
+pub use Rattle.rz_show_lines.specs.Good
+pub use Rattle.rz_show_lines.specs.Page

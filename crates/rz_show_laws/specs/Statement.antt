@@ -23,7 +23,7 @@ use Rattle.rz_lex.specs.Printed.{word_of}
 use Rattle.rz_lex.specs.declared.token.Shape.{Shape}
 use Rattle.rz_lex.specs.declared.token.Shape.TheVariants as shapes
 use Rattle.rz_lex.specs.declared.token.Token.{Token}
-use Rattle.rz_show_lines_laws.specs.Page.{HasTokens}
+use Rattle.rz_show_lines.specs.Page.{HasTokens}
 use Rattle.rz_show.specs.Showing.{by_bytes, by_row, Showing}
 use Rattle.rz_types.specs.Field.{PlainBody}
 

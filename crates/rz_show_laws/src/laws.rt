@@ -2,7 +2,7 @@
 
 ghost use Rattle.std.specs.Prelude.{◌≡◌, true, false, ℕ, List, Bool};
 ghost use Rattle.rz_show_lines.specs.Print.{Prints};
-ghost use Rattle.rz_show_lines_laws.specs.Good.{AreGood};
+ghost use Rattle.rz_show_lines.specs.Good.{AreGood};
 ghost use Rattle.rz_show.specs.Printable.{AreOfBytes, SparesTruth};
 ghost use Rattle.rz_show.specs.Shown.{row_prints, row_uses};
 ghost use Rattle.rz_types_fields.specs.declared.tree.Tree.{Tree};
@@ -19,7 +19,7 @@ ghost use Rattle.rz_show_laws.specs.Statement.{IsPrintedAs};
 ghost use Rattle.rz_types_fields.specs.Spells.{Spells, SpellsPlainly};
 
 use rz_lex::lines_of_page;
-use rz_show_lines_laws::{printed_line, printed_lines, printed_page};
+use rz_show_lines::{printed_line, printed_lines, printed_page};
 use rz_types::rules_hold_within;
 
 /// A law, with nothing to run: the items that are shown of a row, in front of others, may be written, and no word of

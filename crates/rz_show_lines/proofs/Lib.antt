@@ -5,3 +5,10 @@ pub mod ShortTokens
 pub mod HeadSizes
 pub mod ShortItems
 pub mod Examples
+pub mod Inside
+pub mod CutLine
+pub mod CutLines
+pub mod Tokens
+pub mod Texts
+pub mod Split
+pub mod Pages

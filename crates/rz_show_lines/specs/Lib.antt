@@ -5,3 +5,5 @@ pub mod Print
 pub mod Single
 pub mod Texts
 pub mod Head
+pub mod Page
+pub mod Good

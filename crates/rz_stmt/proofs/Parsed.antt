@@ -10,7 +10,7 @@ use Rattle.rz_core.specs.Stop.{◌>>=◌, Gives, seen, Meets}
 use Rattle.rz_stmt_type.specs.Constants.{declare_of, declared, Declare}
 use Rattle.rz_stmt_type.specs.Declare.{IsDeclare}
 use Rattle.rz_stmt_fields.specs.Form.{DeclareForm}
-use Rattle.rz_stmt_type.specs.declared.constants.DeclareStmt.{DeclareStmt}
+use Rattle.rz_stmt_type.specs.declared.constants.TypeStmt.{TypeStmt}
 use Rattle.rz_stmt.specs.Grammar.{alone, data_statement, list_statement, mark_of, none, resource_statement, statement, statement_of, syntax, type_statement, Compiled, Declared, Declares, IsStatement, Listed, Parses, Statement}
 use Rattle.rz_stmt_brackets.specs.Limit.{is_within_limits}
 use Rattle.rz_stmt_data.specs.Raw.{IsRaw, Raw}
@@ -58,7 +58,7 @@ first_mark [] default some = absurd (omega (arith, some))
 first_mark (token ∷ tokens) default some = refl
 
 -- the values of a `type` statement, or their fault, as a statement
-pub valued : (mark : Mark) (tokens : List Token) (form : DeclareForm) → IsDeclare tokens form → (stmt : DeclareStmt) → declared mark form ≡ Ok (declare_of stmt)
+pub valued : (mark : Mark) (tokens : List Token) (form : DeclareForm) → IsDeclare tokens form → (stmt : TypeStmt) → declared mark form ≡ Ok (declare_of stmt)
     → Declared mark tokens (Ok (Declares (declare_of stmt)))
 valued mark tokens form is stmt gives = inl (form, is, ap (λ (r : Result Declare Fault). r >>= (λ made. Ok (Declares made))) (sym gives))
 

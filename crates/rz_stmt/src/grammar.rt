@@ -12,10 +12,10 @@ ghost use Rattle.rz_core.specs.declared.fault.Kept.TheVariants.{Nothing};
 use rz_core::{Fault, Kept, Mark, Stop};
 use rz_lex::{Token, Tokens};
 use rz_stmt_brackets::{Span, is_empty_statement, is_within_limits};
-use rz_stmt_data::{RawStmt, read_raw};
-use rz_stmt_items::{CompileStmt, items_are_within, read_compile};
+use rz_stmt_data::{DataStmt, read_raw};
+use rz_stmt_items::{ResourceStmt, items_are_within, read_compile};
 use rz_stmt_lists::{ListStmt, read_list};
-use rz_stmt_type::{DeclareStmt, declarations_are_shaped, read_declare, value_declare};
+use rz_stmt_type::{TypeStmt, declarations_are_shaped, read_declare, value_declare};
 use std::alloc::Global;
 
 /// A statement. (MPW Rez.)
@@ -24,13 +24,13 @@ pub enum Stmt {
     /// A `;` alone.
     Empty,
     /// `data`.
-    Raw(RawStmt),
+    Raw(DataStmt),
     /// `include`, `read`, `change` or `delete`.
     List(ListStmt),
     /// `resource`.
-    Compile(CompileStmt),
+    Compile(ResourceStmt),
     /// `type`.
-    Declare(DeclareStmt),
+    Declare(TypeStmt),
 }
 
 /// The statement that the tokens of a span are, or its first fault. A refusal has the mark of its first token: 221

@@ -1,7 +1,7 @@
 //! The one front of the statements: `parse` gives exactly what the tokens of a span are, or their first fault, and they
 //! are one thing at most. `next_statement` takes the statements of a long list of tokens, one after the other, so that
 //! only one of them is held at a time; they are exactly those that `rz_stmt_brackets` defines.
-//! It rests on `rz_core`, `rz_lex`, `rz_words`, `rz_expr`, `rz_pre_tokens`, `rz_types`, `rz_stmt_brackets`,
+//! It rests on `rz_core`, `rz_lex`, `rz_words`, `rz_expr`, `rz_pre_source`, `rz_types`, `rz_stmt_brackets`,
 //! `rz_stmt_data`, `rz_stmt_items`, `rz_stmt_lists`, `rz_stmt_fields` and `rz_stmt_type`, and hands on what the crates
 //! above need of them. A new statement is a crate beside `rz_stmt_data`, `rz_stmt_items`, `rz_stmt_lists` and
 //! `rz_stmt_type`, a case of `Stmt` here and one of `step` in `rz_tools`.
@@ -24,10 +24,10 @@ pub use rz_stmt_brackets::{
     Span, Spans, all_tokens_are_statements, limits_are_kept, one_cutting, pieces_are_cut,
     statements,
 };
-pub use rz_stmt_data::{AttrPart, AttrParts, HeadExpr, RawStmt, one_text};
-pub use rz_stmt_items::{CompileStmt, Item, Items};
+pub use rz_stmt_data::{AttrPart, AttrParts, DataStmt, HeadExpr, one_text};
+pub use rz_stmt_items::{Item, Items, ResourceStmt};
 pub use rz_stmt_lists::{
     ChangeStmt, DeleteStmt, IncludePart, IncludeStmt, ListStmt, PickExpr, ReadStmt,
 };
-pub use rz_stmt_type::{Bounds, DeclareStmt, Made, symbols_have_values, words_before_fields};
+pub use rz_stmt_type::{Bounds, Made, TypeStmt, symbols_have_values, words_before_fields};
 pub use rz_types::{number_of, text_of};

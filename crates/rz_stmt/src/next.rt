@@ -7,7 +7,7 @@ ghost use Rattle.rz_stmt.specs.Next.{BeginsWith, IsFront};
 
 use rz_core::NoMemory;
 use rz_lex::{Token, Tokens};
-use rz_pre_tokens::TokenReader;
+use rz_pre_source::TokenReader;
 use rz_stmt_brackets::{all_tokens_are_statements, is_end, one_cutting, open_behind};
 use std::alloc::Global;
 

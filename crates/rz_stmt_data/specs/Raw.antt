@@ -10,14 +10,14 @@ use Rattle.rz_types_fields.specs.declared.place.TextPlace.TheVariants.{Data}
 use Rattle.rz_stmt_data.specs.Frame.{IsFrame}
 use Rattle.rz_stmt_data.specs.Head.{head_of, Head}
 use Rattle.rz_stmt_data.specs.Texts.{IsText}
-use Rattle.rz_stmt_data.specs.declared.raw.RawStmt.{RawStmt}
+use Rattle.rz_stmt_data.specs.declared.raw.DataStmt.{DataStmt}
 
 pub record Raw : Type 0 where
   pub kind : ℕ
   pub head : Head
   pub texts : List PlainPart
 
-abbrev pub raw_of : RawStmt → Raw
+abbrev pub raw_of : DataStmt → Raw
 raw_of raw = record { kind = raw.kind.code; head = head_of raw.head; texts = plain_parts raw.texts }
 
 -- a text, or nothing

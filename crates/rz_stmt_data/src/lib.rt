@@ -23,6 +23,6 @@ pub use files::{behind_texts, file_in, whole_file};
 pub use frame::{Framed, read_frame};
 pub use head::{AttrPart, AttrParts, HeadExpr, Subject, read_head, read_head_for, read_said};
 pub use laws::{data_statements_are_decided, one_data, one_text, texts_are_decided};
-pub use raw::{RawStmt, read_raw};
+pub use raw::{DataStmt, read_raw};
 pub use texts::{TextCall, begins_text, text_at};
 pub use typed::{Typed, read_typed};

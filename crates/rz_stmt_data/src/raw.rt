@@ -17,7 +17,7 @@ use std::alloc::Global;
 
 /// A `data` statement. (MPW Rez.)
 #[derive(Drop)]
-pub struct RawStmt {
+pub struct DataStmt {
     /// The type.
     pub kind: OsType,
     /// The head.
@@ -28,7 +28,7 @@ pub struct RawStmt {
 
 /// The `data` statement that the tokens are, where they are one. Reading goes as deep as brackets are open: callers
 /// bound the tokens that they hand in. (MPW Rez.)
-pub fn read_raw(alloc: Global, tokens: &[Token]) -> Result<Option<RawStmt>, NoMemory>
+pub fn read_raw(alloc: Global, tokens: &[Token]) -> Result<Option<DataStmt>, NoMemory>
     ensures { IfOk result (λ raw. Decided (IsRaw tokens.now) (option_map raw_of raw)) }
 {
     let Some(framed) = read_frame(alloc, Keyword::Data, tokens)? else {
@@ -36,7 +36,7 @@ pub fn read_raw(alloc: Global, tokens: &[Token]) -> Result<Option<RawStmt>, NoMe
     };
     let Framed { kind, head, inside } = framed;
     match read_inside(alloc, inside) {
-        Ok(Some(texts)) => Ok(Some(RawStmt { kind, head, texts })),
+        Ok(Some(texts)) => Ok(Some(DataStmt { kind, head, texts })),
         Ok(None) => {
             drop(head);
             Ok(None)

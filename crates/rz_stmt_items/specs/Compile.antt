@@ -6,14 +6,14 @@ use Rattle.rz_stmt_data.specs.Frame.{IsFrame}
 use Rattle.rz_stmt_data.specs.Head.{head_of, Head}
 use Rattle.rz_stmt_items.specs.Item.{plain_items, PlainItem}
 use Rattle.rz_stmt_items.specs.Items.{AreItems}
-use Rattle.rz_stmt_items.specs.declared.compile.CompileStmt.{CompileStmt}
+use Rattle.rz_stmt_items.specs.declared.compile.ResourceStmt.{ResourceStmt}
 
 pub record Compile : Type 0 where
   pub kind : ℕ
   pub head : Head
   pub items : List PlainItem
 
-abbrev pub compile_of : CompileStmt → Compile
+abbrev pub compile_of : ResourceStmt → Compile
 compile_of stmt = record { kind = stmt.kind.code; head = head_of stmt.head; items = plain_items stmt.items }
 
 -- the tokens are this statement: the frame of a resource, and the items in its braces

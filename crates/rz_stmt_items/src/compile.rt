@@ -14,7 +14,7 @@ use std::alloc::Global;
 
 /// A `resource` statement. (MPW Rez.)
 #[derive(Drop)]
-pub struct CompileStmt {
+pub struct ResourceStmt {
     /// The type.
     pub kind: OsType,
     /// The head.
@@ -26,7 +26,7 @@ pub struct CompileStmt {
 /// The `resource` statement that the tokens are. `None` exactly where they are none. It takes time in proportion
 /// to the tokens for each brace or bracket that is open, and reading goes as deep as braces and brackets are open:
 /// callers bound the tokens that they hand in. (MPW Rez.)
-pub fn read_compile(alloc: Global, tokens: &[Token]) -> Result<Option<CompileStmt>, NoMemory>
+pub fn read_compile(alloc: Global, tokens: &[Token]) -> Result<Option<ResourceStmt>, NoMemory>
     ensures { IfOk result (λ stmt. Decided (IsCompile tokens.now) (option_map compile_of stmt)) }
 {
     let Some(framed) = read_frame(alloc, Keyword::Resource, tokens)? else {
@@ -34,7 +34,7 @@ pub fn read_compile(alloc: Global, tokens: &[Token]) -> Result<Option<CompileStm
     };
     let Framed { kind, head, inside } = framed;
     match read_items(alloc, inside) {
-        Ok(Some(items)) => Ok(Some(CompileStmt { kind, head, items })),
+        Ok(Some(items)) => Ok(Some(ResourceStmt { kind, head, items })),
         Ok(None) => {
             drop(head);
             Ok(None)

@@ -19,7 +19,7 @@ mod number;
 mod simple;
 mod text;
 
-pub use compile::{CompileStmt, read_compile};
+pub use compile::{ResourceStmt, read_compile};
 pub use item::{Item, Items};
 pub use laws::{
     items_are_within, matched_rows_are_rows, one_compile, one_match,

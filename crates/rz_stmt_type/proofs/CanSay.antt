@@ -20,7 +20,7 @@ use Rattle.rz_stmt_fields.specs.Form as form
 use Rattle.rz_types_fields.specs.Value.{constant_value, value_fault, with_fault}
 use Rattle.rz_types_fields.specs.Range.{fits_number}
 use Rattle.rz_stmt_type.specs.Values.{given_or, out_of_range, values_of, with_value}
-use Rattle.rz_stmt_type.specs.declared.constants.DeclareStmt.{DeclareStmt}
+use Rattle.rz_stmt_type.specs.declared.constants.TypeStmt.{TypeStmt}
 use Rattle.rz_types_fields.specs.declared.field.Symbol.{Symbol}
 
 -- where it is a fault, a message can say it
@@ -129,7 +129,7 @@ module _ (files : ℕ) (mark : Mark) (within : mark.file < files) where
   say_declared stmt =
       then_say files (scope_value mark stmt.scope) _ (say_scope stmt.scope) (λ bounds. then_say files (made_value mark stmt.made) _ (say_made stmt.made) (λ made. tt))
 
-  pub say_result : (stmt : DeclareForm) (result : Result DeclareStmt (Stop Fault)) → Gives (declared mark stmt) (seen declare_of result) → OnFault result (IsNameable files)
+  pub say_result : (stmt : DeclareForm) (result : Result TypeStmt (Stop Fault)) → Gives (declared mark stmt) (seen declare_of result) → OnFault result (IsNameable files)
   say_result stmt (Ok value) gives = tt
   say_result stmt (Err (Refused fault)) gives = subst (CanSay files) gives (say_declared stmt)
   say_result stmt (Err NoMemory) gives = tt

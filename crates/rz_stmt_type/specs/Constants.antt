@@ -13,7 +13,7 @@ use Rattle.rz_stmt_type.specs.Values.{values_of}
 use Rattle.rz_expr.specs.Term.{Term}
 use Rattle.rz_stmt_type.specs.declared.constants.Bounds.{Bounds}
 use Rattle.rz_stmt_type.specs.declared.constants.Bounds.TheVariants.{Any, One, Two}
-use Rattle.rz_stmt_type.specs.declared.constants.DeclareStmt.{DeclareStmt}
+use Rattle.rz_stmt_type.specs.declared.constants.TypeStmt.{TypeStmt}
 use Rattle.rz_stmt_type.specs.declared.constants.Made.{Made}
 use Rattle.rz_stmt_type.specs.declared.constants.Made.TheVariants as ways
 use Rattle.rz_types_fields.specs.Field.{case_and, field_and, no_cases, no_fields, plain_body, Align, Array, Fill, Label, Number, PlainBody, PlainCase, PlainCases, PlainField, PlainNumber, Points, Switch, Text}
@@ -32,7 +32,7 @@ abbrev pub made_of : Made → PlainMade
 made_of (ways.Fields body) = Fields (plain_body body)
 made_of (ways.Copy kind id) = CopyOf kind.code id
 
-abbrev pub declare_of : DeclareStmt → Declare
+abbrev pub declare_of : TypeStmt → Declare
 declare_of stmt = record { kind = stmt.kind.code; bounds = stmt.bounds; made = made_of stmt.made }
 
 -- Fields.

@@ -43,7 +43,7 @@ pub enum Made {
 
 /// A `type` statement. (MPW Rez.)
 #[derive(Drop)]
-pub struct DeclareStmt {
+pub struct TypeStmt {
     /// The type that is declared.
     pub kind: OsType,
     /// For which ids.
@@ -56,18 +56,14 @@ pub struct DeclareStmt {
 /// them from left to right that has none, with this mark: 211 for a zero divisor, 215 for a shift by a count
 /// outside 0 to 31 (kept: the count), or 207 for the value of a symbol outside the range of its field (kept:
 /// the value). (MPW Rez.)
-pub fn value_declare(
-    alloc: Global,
-    mark: Mark,
-    stmt: DeclareExpr,
-) -> Result<DeclareStmt, Stop<Fault>>
+pub fn value_declare(alloc: Global, mark: Mark, stmt: DeclareExpr) -> Result<TypeStmt, Stop<Fault>>
     ensures value { Gives (declared mark (declare_form stmt)) (seen declare_of result) }
     ensures nameable { (files : ℕ) → mark.file < files → OnFault result (IsNameable files) }
 {
     value_parts(alloc, mark, stmt)
 }
 
-fn value_parts(alloc: Global, mark: Mark, stmt: DeclareExpr) -> Result<DeclareStmt, Stop<Fault>>
+fn value_parts(alloc: Global, mark: Mark, stmt: DeclareExpr) -> Result<TypeStmt, Stop<Fault>>
     ensures { Gives (declared mark (declare_form stmt)) (seen declare_of result) }
 {
     let DeclareExpr { kind, scope, made } = stmt;
@@ -81,7 +77,7 @@ fn value_parts(alloc: Global, mark: Mark, stmt: DeclareExpr) -> Result<DeclareSt
         }
     };
     match value_made(alloc, mark, made) {
-        Ok(made) => Ok(DeclareStmt { kind, bounds, made }),
+        Ok(made) => Ok(TypeStmt { kind, bounds, made }),
         Err(stop) => Err(stop),
     }
 }

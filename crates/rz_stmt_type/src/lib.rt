@@ -20,7 +20,7 @@ mod laws;
 mod start;
 mod values;
 
-pub use constants::{Bounds, DeclareStmt, Made, value_declare};
+pub use constants::{Bounds, Made, TypeStmt, value_declare};
 pub use declare::read_declare;
 pub use laws::{
     declarations_are_shaped, one_declare, symbols_have_values, type_statements_are_decided,

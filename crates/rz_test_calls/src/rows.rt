@@ -7,7 +7,7 @@ ghost use Rattle.rz_types.specs.Template.{template_of};
 use rz_core::{Attr, Bytes, Facts, Moment, OsType};
 use rz_show::{Hidden, show_bytes, show_row};
 use rz_tmpl::template_of;
-use rz_tmpl_read::tmpl_read;
+use rz_tmpl_laws::tmpl_read;
 use rz_types::Template;
 use rz_types_fields::{Row, Tree};
 use rz_unlay::{Reading, read};

@@ -4,13 +4,13 @@ use Rattle.std.specs.Prelude.{◌&&◌, ◌||◌, not, nat_le, if◌then◌else�
 use Rattle.std.specs.Option.{is_some}
 use Rattle.std.proofs.lemmas.Bool.Decides.{nat_tests}
 use Rattle.rz_expr.specs.Environment.{count_key, Key}
-use Rattle.rz_tmpl_entries.specs.Items.{count, has_value, is_kept, list, none, one, waits, Items}
-use Rattle.rz_tmpl_entries.specs.declared.entry.CountForm.{CountForm}
-use Rattle.rz_tmpl_entries.specs.declared.entry.CountForm.TheVariants.{LessOne, Rows}
-use Rattle.rz_tmpl_entries.specs.declared.entry.ListForm.TheVariants.{Counted, Uncounted}
-use Rattle.rz_tmpl_entries.specs.declared.entry.Plain.{Plain}
-use Rattle.rz_tmpl_entries.specs.declared.entry.Plain.TheVariants.{Aligned, Character, Number, Pascal, Rectangle, Rest, TypeName, ZeroEnded, Zeros}
-use Rattle.rz_tmpl_entries.specs.declared.entry.Size.TheVariants.{Byte, Long, Word}
+use Rattle.rz_tmpl.specs.Items.{count, has_value, is_kept, list, none, one, waits, Items}
+use Rattle.rz_tmpl.specs.declared.entry.CountForm.{CountForm}
+use Rattle.rz_tmpl.specs.declared.entry.CountForm.TheVariants.{LessOne, Rows}
+use Rattle.rz_tmpl.specs.declared.entry.ListForm.TheVariants.{Counted, Uncounted}
+use Rattle.rz_tmpl.specs.declared.entry.Plain.{Plain}
+use Rattle.rz_tmpl.specs.declared.entry.Plain.TheVariants.{Aligned, Character, Number, Pascal, Rectangle, Rest, TypeName, ZeroEnded, Zeros}
+use Rattle.rz_tmpl.specs.declared.entry.Size.TheVariants.{Byte, Long, Word}
 use Rattle.rz_tmpl.specs.Body.{body_from, count_field, field_of, list_name, lists_of, next_named, rows_term, tmpl_body}
 use Rattle.rz_tmpl.specs.Closed.{is_closed, is_fixed, is_fixed_one, is_inner}
 use Rattle.rz_tmpl.proofs.Kept.{listed, no, no_more, or_left, or_right}

@@ -2,13 +2,13 @@
 use Rattle.std.proofs.Common.{◌≡◌, ℕ, ◌+◌, List, [], ◌∷◌, ◌++◌, length, Option, Some, None, refl, sym, ap, subst, ◌∙◌, append_assoc, arith}
 use Rattle.std.specs.Prelude.{option_and_then}
 use Rattle.std.proofs.lemmas.List.{append-nil}
-use Rattle.rz_tmpl_entries.specs.Bodies.{append}
-use Rattle.rz_tmpl_entries.specs.Items.{count, entries_of, list, none, one, Items}
-use Rattle.rz_tmpl_entries.specs.declared.entry.ListForm.TheVariants.{Counted, Uncounted}
-use Rattle.rz_tmpl_entries.specs.declared.entry.Entry.{Entry}
-use Rattle.rz_tmpl_entries.specs.declared.entry.Entry.TheVariants.{Count, End, One, Start}
-use Rattle.rz_tmpl_entries.proofs.Places.{append_none}
-use Rattle.rz_tmpl_entries.proofs.Shown.{some_same}
+use Rattle.rz_tmpl.specs.Bodies.{append}
+use Rattle.rz_tmpl.specs.Items.{count, entries_of, list, none, one, Items}
+use Rattle.rz_tmpl.specs.declared.entry.ListForm.TheVariants.{Counted, Uncounted}
+use Rattle.rz_tmpl.specs.declared.entry.Entry.{Entry}
+use Rattle.rz_tmpl.specs.declared.entry.Entry.TheVariants.{Count, End, One, Start}
+use Rattle.rz_tmpl.proofs.Places.{append_none}
+use Rattle.rz_tmpl.proofs.Shown.{some_same}
 use Rattle.rz_tmpl.specs.Body.{lists_of}
 use Rattle.rz_tmpl.specs.Parts.{nothing, starts, starts_in, with_entry, Ends, Goes, Holds, IsPart}
 use Rattle.rz_tmpl.specs.declared.parts.Parts.{Parts}

@@ -7,15 +7,15 @@ use Rattle.rz_core.specs.declared.resource.Word as names
 use Rattle.rz_types_fields.specs.Field.{field_and, takes_value, Array, PlainBody, PlainField}
 use Rattle.rz_types.specs.Rules.{broken_at, has_values, unknown_at, BreaksNone, KeepAll}
 use Rattle.rz_types.specs.Walk.{all_fields, and_names, around_names, at_field, is_among, names_in, names_of, no_names, own_names, steps, steps_within, walk, within, Own, Step}
-use Rattle.rz_tmpl_entries.specs.Entry.{takes}
-use Rattle.rz_tmpl_entries.specs.Items.{count, has_value, is_kept, list, may_start, none, one, waits, waits_behind, Items}
-use Rattle.rz_tmpl_entries.specs.declared.entry.CountForm.{CountForm}
-use Rattle.rz_tmpl_entries.specs.declared.entry.CountForm.TheVariants.{LessOne, Rows}
-use Rattle.rz_tmpl_entries.specs.declared.entry.ListForm.{ListForm}
-use Rattle.rz_tmpl_entries.specs.declared.entry.ListForm.TheVariants.{Counted, Uncounted}
-use Rattle.rz_tmpl_entries.specs.declared.entry.Plain.{Plain}
-use Rattle.rz_tmpl_entries.specs.declared.entry.Plain.TheVariants.{Aligned, Character, Number, Pascal, Rectangle, Rest, TypeName, ZeroEnded, Zeros}
-use Rattle.rz_tmpl_entries.specs.declared.entry.Size.TheVariants.{Byte, Long, Word}
+use Rattle.rz_tmpl.specs.Entry.{takes}
+use Rattle.rz_tmpl.specs.Items.{count, has_value, is_kept, list, may_start, none, one, waits, waits_behind, Items}
+use Rattle.rz_tmpl.specs.declared.entry.CountForm.{CountForm}
+use Rattle.rz_tmpl.specs.declared.entry.CountForm.TheVariants.{LessOne, Rows}
+use Rattle.rz_tmpl.specs.declared.entry.ListForm.{ListForm}
+use Rattle.rz_tmpl.specs.declared.entry.ListForm.TheVariants.{Counted, Uncounted}
+use Rattle.rz_tmpl.specs.declared.entry.Plain.{Plain}
+use Rattle.rz_tmpl.specs.declared.entry.Plain.TheVariants.{Aligned, Character, Number, Pascal, Rectangle, Rest, TypeName, ZeroEnded, Zeros}
+use Rattle.rz_tmpl.specs.declared.entry.Size.TheVariants.{Byte, Long, Word}
 use Rattle.rz_tmpl.specs.Body.{body_from, count_field, field_of, list_name, lists_of, next_named}
 use Rattle.rz_tmpl.proofs.Names.{apart, itself}
 

@@ -1,7 +1,15 @@
+pub mod Places
+pub mod Faults
+pub mod Shown
+pub mod Cuts
+pub mod Fronts
+pub mod EveryCut
+pub mod First
+pub mod Numbers
 pub mod Names
 pub mod Kept
 pub mod Shape
 pub mod Ends
 pub mod Whole
-pub mod Bodies
+pub mod TemplateBytes
 pub mod Closed

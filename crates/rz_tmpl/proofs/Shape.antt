@@ -11,12 +11,12 @@ use Rattle.rz_words.specs.Attribute.{attribute_word}
 use Rattle.rz_words.specs.Keyword.{keyword_of}
 use Rattle.rz_words.specs.Words.{is_name, role_of}
 use Rattle.rz_types_fields.specs.Shape.{are_shaped, body_depth, is_own_name, is_shaped, is_well_shaped}
-use Rattle.rz_tmpl_entries.specs.Items.{count, is_kept, list, none, one, Items}
-use Rattle.rz_tmpl_entries.specs.declared.entry.CountForm.TheVariants.{LessOne, Rows}
-use Rattle.rz_tmpl_entries.specs.declared.entry.ListForm.TheVariants.{Counted, Uncounted}
-use Rattle.rz_tmpl_entries.specs.declared.entry.Plain.{Plain}
-use Rattle.rz_tmpl_entries.specs.declared.entry.Plain.TheVariants.{Aligned, Character, Number, Pascal, Rectangle, Rest, TypeName, ZeroEnded, Zeros}
-use Rattle.rz_tmpl_entries.specs.declared.entry.Size.TheVariants.{Byte, Long, Word}
+use Rattle.rz_tmpl.specs.Items.{count, is_kept, list, none, one, Items}
+use Rattle.rz_tmpl.specs.declared.entry.CountForm.TheVariants.{LessOne, Rows}
+use Rattle.rz_tmpl.specs.declared.entry.ListForm.TheVariants.{Counted, Uncounted}
+use Rattle.rz_tmpl.specs.declared.entry.Plain.{Plain}
+use Rattle.rz_tmpl.specs.declared.entry.Plain.TheVariants.{Aligned, Character, Number, Pascal, Rectangle, Rest, TypeName, ZeroEnded, Zeros}
+use Rattle.rz_tmpl.specs.declared.entry.Size.TheVariants.{Byte, Long, Word}
 use Rattle.rz_tmpl.specs.Body.{body_from, field_of, list_name, lists_of}
 use Rattle.rz_tmpl.proofs.Kept.{listed}
 use Rattle.rz_tmpl.proofs.Names.{are_digits, AreDigits}

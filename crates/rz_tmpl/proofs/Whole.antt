@@ -1,10 +1,10 @@
 -- What the entries of a template are.
 use Rattle.std.proofs.Common.{◌≡◌, ℕ, ◌+◌, ◌^◌, ◌≤◌, true, false, List, Ok, Err, refl, sym, ap, subst, ◌∙◌}
 use Rattle.std.specs.declared.result.Result.{Result}
-use Rattle.rz_tmpl_entries.specs.Cut.{broken, entries_in, whole, IsCut, Reads}
-use Rattle.rz_tmpl_entries.specs.Items.{entries_of, is_kept, waits, Items}
-use Rattle.rz_tmpl_entries.specs.declared.entry.Entry.{Entry}
-use Rattle.rz_tmpl_entries.specs.declared.fault.TmplFault.{TmplFault}
+use Rattle.rz_tmpl.specs.Cut.{broken, entries_in, whole, IsCut, Reads}
+use Rattle.rz_tmpl.specs.Items.{entries_of, is_kept, waits, Items}
+use Rattle.rz_tmpl.specs.declared.entry.Entry.{Entry}
+use Rattle.rz_tmpl.specs.declared.fault.TmplFault.{TmplFault}
 use Rattle.rz_tmpl.specs.Body.{lists_of}
 use Rattle.rz_tmpl.specs.Parts.{starts_in}
 use Rattle.rz_tmpl.proofs.Ends.{lists_are}

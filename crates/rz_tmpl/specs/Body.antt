@@ -4,14 +4,14 @@ use Rattle.rz_core.specs.Decimal.{decimal_of}
 use Rattle.rz_core.specs.declared.resource.Word as names
 use Rattle.rz_expr.specs.Term.{Constant, OfTwo, RowsOf, Term}
 use Rattle.rz_expr.specs.declared.expr.BinaryOp.TheVariants.{Minus}
-use Rattle.rz_tmpl_entries.specs.Items.{count, list, none, one, Items}
-use Rattle.rz_tmpl_entries.specs.declared.entry.CountForm.{CountForm}
-use Rattle.rz_tmpl_entries.specs.declared.entry.CountForm.TheVariants.{LessOne, Rows}
-use Rattle.rz_tmpl_entries.specs.declared.entry.ListForm.TheVariants.{Counted, Uncounted}
-use Rattle.rz_tmpl_entries.specs.declared.entry.Plain.{Plain}
-use Rattle.rz_tmpl_entries.specs.declared.entry.Plain.TheVariants as plain
-use Rattle.rz_tmpl_entries.specs.declared.entry.Size.{Size}
-use Rattle.rz_tmpl_entries.specs.declared.entry.Size.TheVariants.{Byte, Long, Word}
+use Rattle.rz_tmpl.specs.Items.{count, list, none, one, Items}
+use Rattle.rz_tmpl.specs.declared.entry.CountForm.{CountForm}
+use Rattle.rz_tmpl.specs.declared.entry.CountForm.TheVariants.{LessOne, Rows}
+use Rattle.rz_tmpl.specs.declared.entry.ListForm.TheVariants.{Counted, Uncounted}
+use Rattle.rz_tmpl.specs.declared.entry.Plain.{Plain}
+use Rattle.rz_tmpl.specs.declared.entry.Plain.TheVariants as plain
+use Rattle.rz_tmpl.specs.declared.entry.Size.{Size}
+use Rattle.rz_tmpl.specs.declared.entry.Size.TheVariants.{Byte, Long, Word}
 use Rattle.rz_types_fields.specs.Field.{field_and, no_fields, Align, Array, Fill, Number, PlainBody, PlainField, Points, Text}
 use Rattle.rz_types_fields.specs.declared.field.NumForm.{NumForm}
 use Rattle.rz_types_fields.specs.declared.field.NumForm.TheVariants as forms

@@ -1,9 +1,9 @@
 -- Which templates can be read: closed ones, whose bytes say where each entry ends.
 use Rattle.std.specs.Prelude.{Bool, true, false, ◌&&◌}
-use Rattle.rz_tmpl_entries.specs.Items.{count, list, none, one, Items}
-use Rattle.rz_tmpl_entries.specs.declared.entry.ListForm.TheVariants.{Counted, Uncounted}
-use Rattle.rz_tmpl_entries.specs.declared.entry.Plain.{Plain}
-use Rattle.rz_tmpl_entries.specs.declared.entry.Plain.TheVariants.{Aligned, Pascal, Rest, ZeroEnded}
+use Rattle.rz_tmpl.specs.Items.{count, list, none, one, Items}
+use Rattle.rz_tmpl.specs.declared.entry.ListForm.TheVariants.{Counted, Uncounted}
+use Rattle.rz_tmpl.specs.declared.entry.Plain.{Plain}
+use Rattle.rz_tmpl.specs.declared.entry.Plain.TheVariants.{Aligned, Pascal, Rest, ZeroEnded}
 
 -- numbers, characters, names of types, rectangles and zeros have a fixed length
 abbrev pub is_fixed_one : Plain → Bool

@@ -1,3 +1,8 @@
+pub mod Entry
+pub mod Items
+pub mod Cut
+pub mod Bodies
+pub mod Faults
 pub mod Body
 pub mod Closed
 pub mod Parts

@@ -1,10 +1,10 @@
 -- What the code keeps of bodies whose entries are read from the last to the first.
 use Rattle.std.specs.Prelude.{◌≡◌, ℕ, ◌+◌, List, [], ◌∷◌, reverse, Option, Some, None}
-use Rattle.rz_tmpl_entries.specs.Items.{count, list, none, one, Items}
-use Rattle.rz_tmpl_entries.specs.declared.entry.Entry.{Entry}
-use Rattle.rz_tmpl_entries.specs.declared.entry.Entry.TheVariants.{Count, End, One, Start}
-use Rattle.rz_tmpl_entries.specs.declared.entry.ListForm.{ListForm}
-use Rattle.rz_tmpl_entries.specs.declared.entry.ListForm.TheVariants.{Counted, Uncounted}
+use Rattle.rz_tmpl.specs.Items.{count, list, none, one, Items}
+use Rattle.rz_tmpl.specs.declared.entry.Entry.{Entry}
+use Rattle.rz_tmpl.specs.declared.entry.Entry.TheVariants.{Count, End, One, Start}
+use Rattle.rz_tmpl.specs.declared.entry.ListForm.{ListForm}
+use Rattle.rz_tmpl.specs.declared.entry.ListForm.TheVariants.{Counted, Uncounted}
 use Rattle.rz_tmpl.specs.Body.{body_from, lists_of, next_named}
 use Rattle.rz_tmpl.specs.Closed.{is_closed, is_fixed, is_inner}
 use Rattle.rz_tmpl.specs.declared.closing.Closing.{Closing}

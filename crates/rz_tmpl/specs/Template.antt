@@ -1,9 +1,9 @@
 -- The template that bytes are.
 use Rattle.std.specs.Prelude.{◌≡◌, ℕ, List, Ok, Err}
 use Rattle.std.specs.declared.result.Result.{Result}
-use Rattle.rz_tmpl_entries.specs.Cut.{IsCut}
-use Rattle.rz_tmpl_entries.specs.Items.{Items}
-use Rattle.rz_tmpl_entries.specs.declared.fault.TmplFault.{TmplFault}
+use Rattle.rz_tmpl.specs.Cut.{IsCut}
+use Rattle.rz_tmpl.specs.Items.{Items}
+use Rattle.rz_tmpl.specs.declared.fault.TmplFault.{TmplFault}
 use Rattle.rz_tmpl.specs.Body.{tmpl_body}
 use Rattle.rz_types_fields.specs.Field.{PlainBody}
 

@@ -2,10 +2,10 @@
 
 ghost use Rattle.std.specs.Prelude.{◌≡◌};
 ghost use Rattle.rz_tmpl.specs.Parts.{closing_of};
-ghost use Rattle.rz_tmpl_entries.specs.Items.{count, list, none, one, Items};
-ghost use Rattle.rz_tmpl_entries.specs.declared.entry.CountForm.TheVariants.{Rows};
+ghost use Rattle.rz_tmpl.specs.Items.{count, list, none, one, Items};
+ghost use Rattle.rz_tmpl.specs.declared.entry.CountForm.TheVariants.{Rows};
 
-use rz_tmpl_entries::{ListForm, Plain};
+use crate::{ListForm, Plain};
 
 /// Which lengths and ends the entries of a body have.
 #[derive(Clone, Copy, Drop)]

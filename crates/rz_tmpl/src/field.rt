@@ -5,9 +5,9 @@ ghost use Rattle.rz_expr.specs.Term.{term_of};
 ghost use Rattle.rz_tmpl.specs.Body.{bits_of, count_field, field_of, form_of, free, list_name, radix_of, rows_term, text_of};
 ghost use Rattle.rz_types_fields.specs.Field.{plain_body, plain_field, Array};
 
+use crate::{CountForm, Plain, Size};
 use rz_core::{Bytes, NoMemory, Word, write_decimal};
 use rz_expr::{BinaryOp, Expr};
-use rz_tmpl_entries::{CountForm, Plain, Size};
 use rz_types::{
     ArrayField, Body, Field, NumField, NumForm, PointField, Radix, Symbols, TextField, TextForm,
 };

@@ -2,9 +2,9 @@
 
 ghost use Rattle.std.specs.Prelude.{◌≡◌, ◌+◌, ◌<◌, ◌≤◌, ◌^◌, ℕ, true, false, length, List, Ok, Err};
 ghost use Rattle.std.specs.declared.result.Result.{Result};
-ghost use Rattle.rz_tmpl_entries.specs.Faults.{IsSayable};
-ghost use Rattle.rz_tmpl_entries.specs.Items.{is_kept, waits, Items};
-ghost use Rattle.rz_tmpl_entries.specs.declared.fault.TmplFault.{TmplFault};
+ghost use Rattle.rz_tmpl.specs.Faults.{IsSayable};
+ghost use Rattle.rz_tmpl.specs.Items.{is_kept, waits, Items};
+ghost use Rattle.rz_tmpl.specs.declared.fault.TmplFault.{TmplFault};
 ghost use Rattle.rz_tmpl.specs.Body.{lists_of, tmpl_body};
 ghost use Rattle.rz_tmpl.specs.Closed.{is_closed};
 ghost use Rattle.rz_tmpl.specs.Template.{HasBody};
@@ -13,7 +13,7 @@ ghost use Rattle.rz_types.specs.Rules.{keeps_rules};
 ghost use Rattle.rz_types_fields.specs.Field.{PlainBody};
 ghost use Rattle.rz_types_fields.specs.Shape.{is_well_shaped};
 
-use rz_tmpl_entries::{every_tmpl_is_cut, one_cut, tmpl_faults_are_sayable};
+use crate::{every_tmpl_is_cut, one_cut, tmpl_faults_are_sayable};
 use rz_types::first_broken_rule;
 
 /// A law, with nothing to run: the fields of entries without a fault have the shape of a declaration and keep the rules

@@ -3,13 +3,13 @@
 ghost use Rattle.std.specs.Prelude.{◌≡◌, ℕ, ◌+◌, ◌<◌, [], ◌∷◌, ◌++◌, IfOk, List, reverse};
 ghost use Rattle.rz_tmpl.specs.Body.{lists_of};
 ghost use Rattle.rz_tmpl.specs.Parts.{body_in, closing_of, nothing, Goes, Holds, IsPart};
-ghost use Rattle.rz_tmpl_entries.specs.Items.{list, none, Items};
+ghost use Rattle.rz_tmpl.specs.Items.{list, none, Items};
 ghost use Rattle.rz_types_fields.specs.Field.{field_and, plain_body, plain_field};
 
 use crate::closing::Closing;
 use crate::field::{count_field, field_of, list_field};
+use crate::{Entry, ListForm};
 use rz_core::NoMemory;
-use rz_tmpl_entries::{Entry, ListForm};
 use rz_types::{Body, Field};
 use std::alloc::Global;
 

@@ -4,13 +4,13 @@ ghost use Rattle.std.specs.Prelude.{◌≡◌, ◌≤◌, ◌+◌, ◌^◌, IfOk
 ghost use Rattle.rz_core.specs.Stop.{seen, Meets};
 ghost use Rattle.rz_tmpl.specs.Parts.{starts, starts_in, IsPart};
 ghost use Rattle.rz_tmpl.specs.Template.{HasBody};
-ghost use Rattle.rz_tmpl_entries.specs.Items.{entries_of, Items};
+ghost use Rattle.rz_tmpl.specs.Items.{entries_of, Items};
 ghost use Rattle.rz_types.specs.Template.{template_of};
 
 use crate::laws::{closed_templates_are_readable, tmpl_bodies_are_templates};
 use crate::parts::{Part, Parts};
+use crate::{Entry, ListForm, TmplFault, entries};
 use rz_core::{NoMemory, Stop};
-use rz_tmpl_entries::{Entry, ListForm, TmplFault, entries};
 use rz_types::Template;
 use std::alloc::Global;
 

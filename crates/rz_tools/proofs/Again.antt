@@ -8,8 +8,8 @@ use Rattle.std.proofs.lemmas.Bool.{not-true, or_parts, false≢true}
 use Rattle.std.proofs.lemmas.List.{append-nil, map-append}
 use Rattle.std.proofs.lemmas.List.Concat.{flat_map-cons}
 use Rattle.std.proofs.lemmas.Slice.Eq.{bytes_eq-Decides}
-use Rattle.rz_show_lines_laws.proofs.Pages.{shapes_of_lines, tokens_of}
-use Rattle.rz_show_lines_laws.proofs.Split.{shapes_in}
+use Rattle.rz_show_lines.proofs.Pages.{shapes_of_lines, tokens_of}
+use Rattle.rz_show_lines.proofs.Split.{shapes_in}
 use Rattle.rz_core.specs.Resources.{put, same_key, KeysDiffer}
 use Rattle.rz_core.specs.Stop.{◌>>=◌}
 use Rattle.rz_core.specs.declared.facts.Facts.{Facts}
@@ -29,7 +29,7 @@ use Rattle.rz_lex.specs.declared.token.Token.{Token}
 use Rattle.rz_pre.specs.Live.{body_of, Live}
 use Rattle.rz_pre.specs.declared.condition.Tool.{Tool}
 use Rattle.rz_pre.specs.declared.condition.Tool.TheVariants as tools
-use Rattle.rz_folder_paths.specs.Names.{file_of}
+use Rattle.rz_folder.specs.Names.{file_of}
 use Rattle.rz_pre.specs.Program.{levels_below, IncludedGoes, State}
 use Rattle.rz_show.specs.Printable.{AreOfBytes, SparesTruth}
 use Rattle.rz_show.specs.Head.{head_lines}

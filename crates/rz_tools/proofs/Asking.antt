@@ -4,7 +4,7 @@ use Rattle.rz_folder.proofs.Allowed.{may_read_these}
 use Rattle.rz_folder.specs.MayRead.{MayRead, MayReadOf}
 use Rattle.rz_folder.specs.OnlyReads.{OnlyReads}
 use Rattle.rz_folder.specs.declared.folder.Folder.{Ghosts}
-use Rattle.rz_folder_paths.specs.Names.{LooksFor}
+use Rattle.rz_folder.specs.Names.{LooksFor}
 use Rattle.rz_lex.specs.declared.token.Token.{Token}
 use Rattle.rz_pre.proofs.Going.{at_some}
 use Rattle.rz_pre.specs.Program.{ProgramGoes}

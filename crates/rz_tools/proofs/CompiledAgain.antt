@@ -19,7 +19,7 @@ use Rattle.rz_tools_args.specs.declared.name.CommandName.TheVariants as names
 use Rattle.rz_tools_output.specs.Base.{base_in, base_of, new_base, or_empty}
 use Rattle.rz_tools_output.specs.Output.{IsOutput}
 use Rattle.rz_tools.specs.Rez.{around_of, AnswersRez, Compiles, IsRez, RezAsked}
-use Rattle.rz_tools_tmpl.specs.Templates.{TypesOf}
+use Rattle.rz_tools_output.specs.Templates.{TypesOf}
 use Rattle.rz_tools.specs.Sources.{compiled}
 use Rattle.rz_tools_answer.specs.Warning.{said_beside}
 use Rattle.rz_tools_work.specs.Work.{Work}

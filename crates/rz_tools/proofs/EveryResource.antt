@@ -25,8 +25,8 @@ use Rattle.rz_types_table.specs.Table.{asked, copied, found, is_any, is_for, is_
 use Rattle.rz_tools_resource.specs.Items.{items_read}
 use Rattle.rz_tools_resource.specs.Resource.{fields_for, no_type, row_fault, AreBytes, AreItemBytes, AreReadBytes, IsMade, IsResource, IsSpelled}
 use Rattle.rz_tools.specs.Step.{IsListBehind}
-use Rattle.rz_tools_tmpl.proofs.Files.{declared_all}
-use Rattle.rz_tools_tmpl.specs.Templates.{AreTemplates}
+use Rattle.rz_tools_output.proofs.Files.{declared_all}
+use Rattle.rz_tools_output.specs.Templates.{AreTemplates}
 use Rattle.rz_types.specs.Field.{PlainBody}
 use Rattle.rz_types.specs.Rules.{broken, checked, keeps_rules}
 use Rattle.rz_types.specs.declared.rules.TypeFault.{TypeFault}

@@ -6,7 +6,7 @@ use Rattle.rz_core.specs.declared.fault.Fault.{Fault}
 use Rattle.rz_core.specs.declared.resource.Resource.{Resource}
 use Rattle.rz_bridge_files.specs.Contents.{fork_in}
 use Rattle.rz_fork.specs.Contents.{Fork}
-use Rattle.rz_folder_paths.specs.Names.{missing_file}
+use Rattle.rz_folder.specs.Names.{missing_file}
 use Rattle.rz_tools_text.specs.Chosen.{chosen}
 use Rattle.rz_tools_text.specs.Text.{ShowsEach}
 use Rattle.rz_tools_text.specs.Shown.{Known}

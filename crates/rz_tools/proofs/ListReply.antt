@@ -10,10 +10,10 @@ use Rattle.rz_folder.proofs.Reading.{reads_as}
 use Rattle.rz_folder.specs.Finds.{Finds}
 use Rattle.rz_folder.specs.Folder.{Files}
 use Rattle.rz_folder.specs.declared.folder.Folder.{Ghosts}
-use Rattle.rz_folder_paths.proofs.Present.{finds_at}
-use Rattle.rz_folder_paths.specs.Names.{IsUnplaced}
-use Rattle.rz_list.specs.Held.{text_of, IsWhole}
-use Rattle.rz_list.specs.declared.text.FileText.{FileText}
+use Rattle.rz_folder.proofs.Present.{finds_at}
+use Rattle.rz_folder.specs.Names.{IsUnplaced}
+use Rattle.rz_told.specs.Held.{text_of, IsWhole}
+use Rattle.rz_told.specs.declared.text.FileText.{FileText}
 use Rattle.rz_tools_answer.proofs.Planning.{concludes_stopped, finds_beside, plans_as, plans_made, SaidWith}
 use Rattle.rz_tools_answer.specs.Answer.{shown}
 use Rattle.rz_tools_answer.specs.Made.{IsBeside}

@@ -5,7 +5,7 @@ use Rattle.std.specs.Prelude.{OnOk, Ok, Err}
 use Rattle.std.specs.declared.result.Result.{Result}
 use Rattle.rz_catalog.specs.Catalogue.{catalogue, entries_of, IsCatalogue}
 use Rattle.rz_catalog.specs.Stock.{texts_in, AreStocked, HasTree, Stocked}
-use Rattle.rz_catalog_entries.specs.declared.entry.Entry.{Entry}
+use Rattle.rz_catalog_text.specs.declared.entry.Entry.{Entry}
 use Rattle.rz_catalog_text.specs.Text.{entries_text}
 use Rattle.rz_core.specs.Decided.{Decided}
 use Rattle.rz_core.specs.declared.moment.Moment.{Moment}

@@ -3,7 +3,7 @@ use Rattle.std.proofs.Common.{◌≡◌, ℕ, List, Option, Some, None, Ok, Err,
 use Rattle.std.specs.FinMap as finite
 use Rattle.std.specs.Prelude.{IfOk, IfSome, IsErrAnd}
 use Rattle.std.specs.declared.result.Result.{Result}
-use Rattle.rz_bridge_form.specs.declared.form.Form.{Form}
+use Rattle.rz_bridge_files.specs.declared.form.Form.{Form}
 use Rattle.rz_core.specs.Answers.{Then}
 use Rattle.rz_core.specs.Message.{IsNameable}
 use Rattle.rz_core.specs.Stop.{halt_of, seen, Meets, OnFault}
@@ -15,8 +15,8 @@ use Rattle.rz_folder.proofs.Finding.{finds_as, finds_end, finds_fault, finds_sto
 use Rattle.rz_folder.specs.Finds.{Finds}
 use Rattle.rz_folder.specs.Folder.{Files}
 use Rattle.rz_folder.specs.declared.folder.Folder.{Ghosts}
-use Rattle.rz_folder_paths.proofs.Present.{absent_stop, finds_at, present_then, unplaced}
-use Rattle.rz_folder_paths.specs.Names.{missing_file, HasBytes, IsUnplaced}
+use Rattle.rz_folder.proofs.Present.{absent_stop, finds_at, present_then, unplaced}
+use Rattle.rz_folder.specs.Names.{missing_file, HasBytes, IsUnplaced}
 use Rattle.rz_tools.specs.Again.{HoldsFile, OfFile}
 use Rattle.rz_tools.specs.Sources.{Compiled}
 use Rattle.rz_tools_answer.proofs.Planning.{finds_beside, SaidWith}

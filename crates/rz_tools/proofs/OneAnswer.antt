@@ -9,7 +9,7 @@ use Rattle.rz_core.specs.declared.moment.Moment.{Moment}
 use Rattle.rz_core.specs.declared.resource.Resource.{Resource}
 use Rattle.rz_folder.specs.Folder.{Files}
 use Rattle.rz_lex.specs.declared.token.Token.{Token}
-use Rattle.rz_folder_paths.specs.Names.{missing_file}
+use Rattle.rz_folder.specs.Names.{missing_file}
 use Rattle.rz_pre.specs.Program.{ProgramGoes, State}
 use Rattle.rz_pre.specs.declared.program.Failure.{Failure}
 use Rattle.rz_pre.specs.declared.condition.Tool.{Tool}
@@ -22,8 +22,8 @@ use Rattle.rz_tools_args.specs.declared.name.CommandName.TheVariants as names
 use Rattle.rz_tools_answer.specs.Answer.{misused, or_refused, shown, written, Answer, Write}
 use Rattle.rz_catalog.specs.Apply.{Applied}
 use Rattle.rz_catalog.specs.Catalogue.{IsCatalogue}
-use Rattle.rz_catalog_entries.specs.declared.entry.Entry.{Entry}
-use Rattle.rz_catalog_source.specs.Source.{HasEntries}
+use Rattle.rz_catalog_text.specs.declared.entry.Entry.{Entry}
+use Rattle.rz_catalog_text.specs.Source.{HasEntries}
 use Rattle.rz_catalog_text.specs.Text.{entries_text}
 use Rattle.rz_tools.specs.Restring.{restring_asked, target_named, with_file, HasCatalogueFile, HasRestrung, IsChangedBy, IsRestrungUnder, RestringAsked, Restrings}
 use Rattle.rz_tools.specs.Strings.{strings_asked, HasCatalogue, HasFileCatalogue, HasStrings, Lists as ListsTexts, StringsAsked}
@@ -31,10 +31,10 @@ use Rattle.rz_tools.specs.Program.{Answers, AnswersItems, AnswersTo, command, mi
 use Rattle.rz_bridge.specs.declared.file.MacFile.{MacFile}
 use Rattle.rz_bridge_files.specs.Contents.{file_in, fork_in, form_or}
 use Rattle.rz_bridge_files.specs.Names.{Named}
-use Rattle.rz_bridge_form.specs.DataFile.{IsDataFile}
+use Rattle.rz_bridge_files.specs.DataFile.{IsDataFile}
 use Rattle.rz_bridge_files.specs.Written.{written_as}
-use Rattle.rz_bridge_form.specs.declared.form.Form.{Form}
-use Rattle.rz_bridge_form.specs.declared.form.Form.TheVariants as forms
+use Rattle.rz_bridge_files.specs.declared.form.Form.{Form}
+use Rattle.rz_bridge_files.specs.declared.form.Form.TheVariants as forms
 use Rattle.rz_fork.specs.Contents.{Fork}
 use Rattle.rz_tools_text.specs.Chosen.{chosen}
 use Rattle.rz_tools.specs.DeRez.{derez_asked, DeRezAsked, HasFileText, HasForkText, HasText, Shows}
@@ -46,7 +46,7 @@ use Rattle.rz_tools_output.specs.Output.{file_of, form_asked, list_fork, IsFileO
 use Rattle.rz_tools.specs.Rez.{around_of, rez_asked, Compiles, HasOutput, IsMadeBehind, IsMadeOf, IsMadeUnder, RezAsked}
 use Rattle.rz_tools_text.specs.Shown.{Known}
 use Rattle.rz_tools.specs.Sources.{compiled, unsaid, Begins, Compiled, HasWork, InProgram, IsProgramOf, SaidBeside, Unsaid}
-use Rattle.rz_tools_tmpl.specs.Templates.{TypesOf}
+use Rattle.rz_tools_output.specs.Templates.{TypesOf}
 use Rattle.rz_types_table.specs.Table.{Declaration}
 use Rattle.rz_tools_answer.specs.Warning.{said_beside, warning_lines}
 use Rattle.rz_tools_values.specs.Around.{Around}

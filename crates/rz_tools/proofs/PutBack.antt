@@ -10,9 +10,9 @@ use Rattle.rz_catalog.specs.Apply.{Applied}
 use Rattle.rz_catalog.specs.Catalogue.{catalogue, entries_of, entry_of, HasKey, IsCatalogue}
 use Rattle.rz_catalog.specs.Own.{own_answer}
 use Rattle.rz_catalog.specs.Stock.{texts_of, Stocked}
-use Rattle.rz_catalog_entries.specs.Stored.{unmarked, IsStored}
-use Rattle.rz_catalog_entries.specs.declared.entry.Entry.{Entry}
-use Rattle.rz_catalog_source.specs.Source.{HasEntries}
+use Rattle.rz_catalog_text.specs.Stored.{unmarked, IsStored}
+use Rattle.rz_catalog_text.specs.declared.entry.Entry.{Entry}
+use Rattle.rz_catalog_text.specs.Source.{HasEntries}
 use Rattle.rz_catalog_text.specs.Text.{entries_text}
 use Rattle.rz_core.specs.Lists.{first_of, unless_fault, with_front}
 use Rattle.rz_core.specs.Resources.{KeysDiffer}

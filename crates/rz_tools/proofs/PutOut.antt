@@ -20,8 +20,8 @@ use Rattle.rz_pre.specs.Live.{body_of, Live}
 use Rattle.rz_pre.specs.Program.{Includes, LinesGo, State}
 use Rattle.rz_pre.specs.declared.act.Act.TheVariants.{Put}
 use Rattle.rz_pre.specs.declared.condition.Tool.{Tool}
-use Rattle.rz_show_lines_laws.proofs.Pages.{tokens_of}
-use Rattle.rz_show_lines_laws.specs.Page.{AreCut}
+use Rattle.rz_show_lines.proofs.Pages.{tokens_of}
+use Rattle.rz_show_lines.specs.Page.{AreCut}
 use Rattle.rz_pre_source.specs.Directive.{behind_hash, unblanked}
 use Rattle.rz_core.proofs.Tests.{by_test}
 

@@ -8,8 +8,8 @@ use Rattle.rz_folder.specs.Folder.{Files}
 use Rattle.rz_folder.specs.Sink.{PutsOut}
 use Rattle.rz_folder.specs.declared.sink.Put.{Put}
 use Rattle.rz_folder.specs.declared.sink.Put.TheVariants as puts
-use Rattle.rz_list.specs.Held.{text_of}
-use Rattle.rz_list.specs.declared.text.FileText.{FileText}
+use Rattle.rz_told.specs.Held.{text_of}
+use Rattle.rz_told.specs.declared.text.FileText.{FileText}
 use Rattle.rz_tools_answer.proofs.Said.{is_out}
 use Rattle.rz_tools_answer.proofs.Warnings.{no_lines}
 use Rattle.rz_tools_answer.specs.Answer.{shown, Answer, Making}

@@ -6,7 +6,7 @@ use Rattle.std.specs.declared.result.Result.{Result}
 use Rattle.rz_bridge.specs.declared.file.MacFile.{MacFile}
 use Rattle.rz_bridge_files.specs.Contents.{admit_fork, file_in, fork_in, IsFile}
 use Rattle.rz_bridge_files.specs.Faults.{or_torn}
-use Rattle.rz_bridge_form.specs.declared.form.Form.{Form}
+use Rattle.rz_bridge_files.specs.declared.form.Form.{Form}
 use Rattle.rz_core.specs.Answers.{Then}
 use Rattle.rz_core.specs.Stop.{seen, ◌>>=◌, Gives, Meets, Yields}
 use Rattle.rz_core.specs.declared.fault.Fault.{Fault}

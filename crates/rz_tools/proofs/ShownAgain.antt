@@ -12,7 +12,7 @@ use Rattle.rz_bridge.specs.declared.file.MacFile.{MacFile}
 use Rattle.rz_core.specs.Stop.{◌>>=◌}
 use Rattle.rz_bridge_files.specs.Contents.{admit_fork, file_in, fork_in, IsFile}
 use Rattle.rz_fork.specs.Admit.{admitted}
-use Rattle.rz_bridge_form.specs.declared.form.Form.{Form}
+use Rattle.rz_bridge_files.specs.declared.form.Form.{Form}
 use Rattle.rz_fork.specs.Contents.{Fork}
 use Rattle.rz_tools_args.specs.Command.{Asked, IsCommand}
 use Rattle.rz_tools_args.specs.declared.name.CommandName.TheVariants as names

@@ -5,7 +5,7 @@ use Rattle.rz_core.specs.declared.moment.Moment.{Moment}
 use Rattle.rz_folder.specs.Folder.{Files}
 use Rattle.rz_tools.specs.Sources.{AreCompiled, Compiled}
 use Rattle.rz_tools.specs.Types.{types_around, TypesAre, TypesAsked}
-use Rattle.rz_tools_tmpl.specs.Templates.{TypesOf}
+use Rattle.rz_tools_output.specs.Templates.{TypesOf}
 use Rattle.rz_tools_work.specs.Work.{begun}
 use Rattle.rz_types_table.specs.Table.{Declaration}
 

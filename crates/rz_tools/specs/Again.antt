@@ -11,7 +11,7 @@ use Rattle.rz_folder.specs.Folder.{Files}
 use Rattle.rz_folder.specs.Sink.{IsOut, Stream, Told}
 use Rattle.rz_bridge.specs.declared.file.MacFile.{MacFile}
 use Rattle.rz_bridge_files.specs.Contents.{file_in, fork_in, IsFile}
-use Rattle.rz_bridge_form.specs.declared.form.Form.{Form}
+use Rattle.rz_bridge_files.specs.declared.form.Form.{Form}
 use Rattle.rz_fork.specs.Contents.{Fork}
 use Rattle.rz_lex.specs.declared.token.Token.{Token}
 use Rattle.rz_pre.specs.Live.{Live}

@@ -3,7 +3,7 @@
 use Rattle.std.specs.Prelude.{◌≡◌, ◌⊎◌, ℕ, true, List, ◌∷◌, ◌++◌, map, Ok}
 use Rattle.rz_folder.specs.Folder.{Files}
 use Rattle.rz_folder.specs.MayRead.{IsIt, IsOneOf}
-use Rattle.rz_folder_paths.specs.Names.{LooksFor}
+use Rattle.rz_folder.specs.Names.{LooksFor}
 use Rattle.rz_lex.specs.declared.token.Token.{Token}
 use Rattle.rz_pre.specs.Program.{ProgramGoes, State}
 use Rattle.rz_pre.specs.Reached.{IsReached}

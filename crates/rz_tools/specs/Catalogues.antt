@@ -6,8 +6,8 @@ use Rattle.rz_catalog.specs.Apply.{Applied}
 use Rattle.rz_catalog.specs.Became.{with_text, BecameEach}
 use Rattle.rz_catalog.specs.Catalogue.{IsCatalogue}
 use Rattle.rz_catalog.specs.Own.{own_answer}
-use Rattle.rz_catalog_entries.specs.declared.entry.Entry.{Entry}
-use Rattle.rz_catalog_source.specs.Source.{HasEntries}
+use Rattle.rz_catalog_text.specs.declared.entry.Entry.{Entry}
+use Rattle.rz_catalog_text.specs.Source.{HasEntries}
 use Rattle.rz_catalog_text.specs.Text.{entries_text}
 use Rattle.rz_core.specs.declared.moment.Moment.{Moment}
 use Rattle.rz_core.specs.declared.resource.Resource.{Resource}

@@ -8,10 +8,10 @@ use Rattle.rz_core.specs.declared.moment.Moment.{Moment}
 use Rattle.rz_core.specs.declared.resource.OsType.{OsType}
 use Rattle.rz_folder.specs.Folder.{Files}
 use Rattle.rz_bridge_files.specs.Contents.{fork_in}
-use Rattle.rz_bridge_form.specs.declared.form.Form.{Form}
+use Rattle.rz_bridge_files.specs.declared.form.Form.{Form}
 use Rattle.rz_fork.specs.Admit.{admitted}
 use Rattle.rz_fork.specs.Contents.{Fork}
-use Rattle.rz_folder_paths.specs.Names.{missing_file}
+use Rattle.rz_folder.specs.Names.{missing_file}
 use Rattle.rz_tools_answer.specs.Answer.{Answer, Answered, Making, shown}
 use Rattle.rz_tools_answer.specs.declared.made.Failing.{Failing}
 use Rattle.rz_tools_args.specs.Command.{places_of, IsCommand, Item}

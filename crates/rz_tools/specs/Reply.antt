@@ -6,7 +6,7 @@ use Rattle.rz_core.specs.declared.stop.Halt.{Halt}
 use Rattle.rz_folder.specs.Folder.{Files}
 use Rattle.rz_folder.specs.OnlyReads.{OnlyReads}
 use Rattle.rz_folder.specs.declared.folder.Folder.{Ghosts}
-use Rattle.rz_list.specs.Held.{text_of, IsWhole}
+use Rattle.rz_told.specs.Held.{text_of, IsWhole}
 use Rattle.rz_tools_answer.specs.Answer.{shown, Answer}
 use Rattle.rz_tools_answer.specs.Plan.{answer_of}
 use Rattle.rz_tools_answer.specs.WellFormed.{AreWritable, IsWellFormed}

@@ -19,7 +19,7 @@ use Rattle.rz_tools_values.specs.declared.setting.Setting.{Setting}
 use Rattle.rz_tools_output.specs.Base.{base_of, Base}
 use Rattle.rz_tools_output.specs.Output.{IsOutput, Target}
 use Rattle.rz_tools_work.specs.Work.{begun}
-use Rattle.rz_tools_tmpl.specs.Templates.{TypesOf}
+use Rattle.rz_tools_output.specs.Templates.{TypesOf}
 use Rattle.rz_types_table.specs.Table.{Declaration}
 use Rattle.rz_tools.specs.Sources.{Begins, Compiled, HasWork, IsProgramOf, SaidBeside}
 

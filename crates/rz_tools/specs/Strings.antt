@@ -3,16 +3,16 @@ use Rattle.std.specs.Prelude.{◌≡◌, ℕ, true, List, [], drop, get_or, Opti
 use Rattle.std.specs.FinMap as map
 use Rattle.std.specs.declared.result.Result.{Result}
 use Rattle.rz_bridge_files.specs.Contents.{fork_in}
-use Rattle.rz_bridge_form.specs.declared.form.Form.{Form}
+use Rattle.rz_bridge_files.specs.declared.form.Form.{Form}
 use Rattle.rz_catalog.specs.Catalogue.{IsCatalogue}
-use Rattle.rz_catalog_entries.specs.declared.entry.Entry.{Entry}
+use Rattle.rz_catalog_text.specs.declared.entry.Entry.{Entry}
 use Rattle.rz_catalog_text.specs.Text.{entries_text}
 use Rattle.rz_core.specs.Answers.{Then}
 use Rattle.rz_core.specs.Stop.{◌>>=◌}
 use Rattle.rz_core.specs.declared.fault.Fault.{Fault}
 use Rattle.rz_core.specs.declared.moment.Moment.{Moment}
 use Rattle.rz_folder.specs.Folder.{Files}
-use Rattle.rz_folder_paths.specs.Names.{missing_file}
+use Rattle.rz_folder.specs.Names.{missing_file}
 use Rattle.rz_fork.specs.Contents.{Fork}
 use Rattle.rz_tools_answer.specs.Answer.{Answer, Answered, Making, shown}
 use Rattle.rz_tools_answer.specs.declared.made.Failing.{Failing}

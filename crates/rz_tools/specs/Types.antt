@@ -16,7 +16,7 @@ use Rattle.rz_tools_text.specs.Shown.{Known}
 use Rattle.rz_tools_values.specs.Around.{Around}
 use Rattle.rz_tools_values.specs.declared.setting.Setting.{Setting}
 use Rattle.rz_tools_work.specs.Work.{begun}
-use Rattle.rz_tools_tmpl.specs.Templates.{TypesOf}
+use Rattle.rz_tools_output.specs.Templates.{TypesOf}
 use Rattle.rz_tools.specs.Sources.{Begins, Compiled, HasWork, IsProgramOf}
 
 -- the type files, the paths for included files, and the definitions; the file of templates, where one is given; and

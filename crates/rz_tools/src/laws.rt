@@ -10,7 +10,7 @@ ghost use Rattle.rz_core.specs.declared.resource.OsType.{OsType};
 ghost use Rattle.rz_bridge_files.specs.Contents.{IsFile};
 ghost use Rattle.rz_tools.specs.Again.{AreShort, CompilesAlone, MeansAgain, SparesWords};
 ghost use Rattle.rz_catalog.specs.Catalogue.{IsCatalogue};
-ghost use Rattle.rz_catalog_entries.specs.declared.entry.Entry.{Entry};
+ghost use Rattle.rz_catalog_text.specs.declared.entry.Entry.{Entry};
 ghost use Rattle.rz_catalog_text.specs.Text.{entries_text};
 ghost use Rattle.rz_tools.specs.Catalogues.{IsPutBack};
 ghost use Rattle.rz_types_table.specs.Table.{Declaration};
@@ -25,14 +25,16 @@ ghost use Rattle.rz_pre_laws.specs.Definitions.{AreFree};
 ghost use Rattle.rz_pre.specs.declared.program.Def.{Def};
 ghost use Rattle.rz_tools.specs.Program.{Answers};
 
-use rz_bridge_files::{every_file_is_named, one_named_file};
-use rz_bridge_form::{every_header_has_a_data_file, one_data_file};
+use rz_bridge_files::{
+    every_file_is_named, every_header_has_a_data_file, one_data_file, one_named_file,
+};
 use rz_catalog::{
     catalogues_are_stored, every_application, every_catalogue, one_application, one_catalogue,
     own_catalogue,
 };
-use rz_catalog_source::{every_source_has_entries, one_list_of_a_source};
-use rz_catalog_text_laws::written_catalogues_are_read;
+use rz_catalog_text::{
+    every_source_has_entries, one_list_of_a_source, written_catalogues_are_read,
+};
 use rz_expr::{attribute_words_are_spelled, keywords_are_spelled};
 use rz_fork::admitted_forks_fit;
 use rz_layout::one_spelling;
@@ -43,8 +45,8 @@ use rz_stmt::{every_statement_is_parsed, one_cutting, one_statement};
 use rz_stmt_brackets::all_tokens_are_statements;
 use rz_stmt_items::{matched_rows_are_rows, one_match};
 use rz_tools_args::{definitions_are_free, every_list_of_words_is_read, one_command};
+use rz_tools_output::{every_types, one_types, types_are_templates};
 use rz_tools_text::{every_list_is_shown, one_shown_text};
-use rz_tools_tmpl::{every_types, one_types, types_are_templates};
 use rz_unlay::{plain_rows_are_spelled, spelled_rows_are_rows};
 
 /// A law, with nothing to run: words have one answer at most, where each name holds the same and at the same

@@ -3,7 +3,7 @@
 ghost use Rattle.std.specs.Prelude.{◌≡◌, ◌++◌, List, Option, option_map, IfOk, OnOk};
 ghost use Rattle.rz_catalog.specs.Catalogue.{entries_of, IsCatalogue};
 ghost use Rattle.rz_catalog.specs.Stock.{texts_in, HasTree};
-ghost use Rattle.rz_catalog_entries.specs.declared.entry.Entry.{Entry};
+ghost use Rattle.rz_catalog_text.specs.declared.entry.Entry.{Entry};
 ghost use Rattle.rz_catalog_text.specs.Text.{entries_text};
 ghost use Rattle.rz_core.specs.Decided.{Decided};
 ghost use Rattle.rz_fork.specs.View.{lent};
@@ -13,8 +13,7 @@ ghost use Rattle.rz_types_table.specs.Table.{declared_for};
 ghost use Rattle.rz_types_table.specs.TypeTable.{table_of};
 
 use rz_catalog::{entries_under, every_catalogue};
-use rz_catalog_entries::Entries;
-use rz_catalog_text::{entries_go_on, write_entry};
+use rz_catalog_text::{Entries, entries_go_on, write_entry};
 use rz_core::{Bytes, Moment, NoMemory};
 use rz_fork::{ForkView, ResView};
 use rz_tools_text::facts_of;

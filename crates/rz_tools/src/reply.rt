@@ -10,7 +10,7 @@ ghost use Rattle.rz_tools_answer.specs.World.{Runs};
 
 use rz_core::{Bytes, Halt};
 use rz_folder::{Folder, Sink};
-use rz_list::FileText;
+use rz_told::FileText;
 use rz_tools_answer::{Outcome, Plan, carry_out, say_end};
 use rz_tools_text::{ForkText, every_list_is_shown};
 use std::alloc::Global;

@@ -3,7 +3,7 @@
 
 ghost use Rattle.std.specs.Prelude.{◌≡◌, ◌<◌, ◌+◌, ◌^◌, length, IfOk};
 ghost use Rattle.std.specs.FinMap as map;
-ghost use Rattle.rz_catalog_entries.specs.Stored.{AreEntriesIn};
+ghost use Rattle.rz_catalog_text.specs.Stored.{AreEntriesIn};
 ghost use Rattle.rz_core.specs.Message.{IsNameable};
 ghost use Rattle.rz_core.specs.Stop.{seen};
 ghost use Rattle.rz_folder.specs.Finds.{Finds};
@@ -19,13 +19,11 @@ ghost use Rattle.rz_types_table.specs.TypeTable.{table_of};
 
 use crate::sources::{Compiled, SourceWords};
 use crate::types::{compile_types, names_behind};
-use rz_bridge_form::Form;
+use rz_bridge_files::Form;
 use rz_catalog::{apply, entry_faults_are_told, resources_stay};
-use rz_catalog_entries::Entries;
-use rz_catalog_source::entries_in;
+use rz_catalog_text::{Entries, entries_in};
 use rz_core::{Bytes, Fault, Halt, Moment, NoMemory};
-use rz_folder::Folder;
-use rz_folder_paths::read_present;
+use rz_folder::{Folder, read_present};
 use rz_tools_answer::{Failing, Made, say_beside};
 use rz_tools_args::{Command, Flag, Switch};
 use rz_tools_output::{Target, read_held, write_output};

@@ -7,7 +7,7 @@ ghost use Rattle.rz_tools_answer.specs.Made.{IsBeside, IsSayable};
 ghost use Rattle.rz_tools_answer.specs.Warning.{AreWarnings};
 ghost use Rattle.rz_folder.specs.Finds.{Finds};
 ghost use Rattle.rz_folder.specs.MayRead.{IsOneOf, MayRead, MayReadOf};
-ghost use Rattle.rz_folder_paths.specs.Names.{LooksFor};
+ghost use Rattle.rz_folder.specs.Names.{LooksFor};
 ghost use Rattle.rz_pre.specs.Reached.{IsReached};
 ghost use Rattle.rz_tools.specs.Asked.{AnyAsks};
 ghost use Rattle.rz_lex.specs.Lexeme.{AreLexed};

@@ -15,7 +15,7 @@ use rz_core::{FileNames, Halt, Moment, NoMemory, Resources};
 use rz_folder::Folder;
 use rz_pre::Tool;
 use rz_tools_answer::Failing;
-use rz_tools_tmpl::read_templates;
+use rz_tools_output::read_templates;
 use rz_tools_values::Setting;
 use rz_tools_work::Work;
 use std::alloc::Global;

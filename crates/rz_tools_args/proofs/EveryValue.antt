@@ -10,7 +10,7 @@ use Rattle.rz_core.specs.declared.resource.Word.{Word}
 use Rattle.rz_core.proofs.EveryCut.{both, known_with, some_of}
 use Rattle.rz_core.proofs.Tests.{by_test}
 use Rattle.rz_words.specs.Words.{is_label, role_of}
-use Rattle.rz_bridge_form.specs.declared.form.Form as form
+use Rattle.rz_bridge_files.specs.declared.form.Form as form
 use Rattle.rz_lex.specs.Cutting.{Cuts, Refuses}
 use Rattle.rz_lex.specs.declared.token.Token.{Token}
 use Rattle.rz_pre.specs.declared.program.Def.{Def}

@@ -10,7 +10,7 @@ use Rattle.rz_core.specs.declared.resource.Word.{Word}
 use Rattle.rz_core.specs.declared.stop.Stop.{Stop}
 use Rattle.rz_core.specs.declared.stop.Stop.TheVariants.{Refused, NoMemory}
 use Rattle.rz_core.proofs.EveryCut.{head, tail}
-use Rattle.rz_bridge_form.specs.declared.form.Form as form
+use Rattle.rz_bridge_files.specs.declared.form.Form as form
 use Rattle.rz_lex.specs.Cutting.{Cuts}
 use Rattle.rz_lex.specs.declared.token.Token.{Token}
 use Rattle.rz_pre.specs.declared.program.Def.{Def}

@@ -4,7 +4,7 @@ use Rattle.std.specs.Prelude.{codes}
 use Rattle.std.specs.Str.{IsAscii}
 use Rattle.std.proofs.lemmas.Str.{encodes-IsAscii}
 use Rattle.rz_core.specs.declared.resource.OsType.{OsType}
-use Rattle.rz_bridge_form.specs.declared.form.Form.TheVariants as forms
+use Rattle.rz_bridge_files.specs.declared.form.Form.TheVariants as forms
 use Rattle.rz_words.specs.Attribute.{attribute_word}
 use Rattle.rz_words.specs.Keyword.{keyword_of}
 use Rattle.rz_lex.specs.Cutting.{Next}

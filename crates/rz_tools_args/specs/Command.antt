@@ -4,8 +4,8 @@ use Rattle.std.specs.List.{AllByRecursion}
 use Rattle.std.specs.Str.{bytes_eq}
 use Rattle.rz_core.specs.Decimal.{decimal_of}
 use Rattle.rz_core.specs.declared.resource.OsType.{OsType}
-use Rattle.rz_bridge_form.specs.declared.form.Form as form
-use Rattle.rz_bridge_form.specs.declared.form.Form.TheVariants as forms
+use Rattle.rz_bridge_files.specs.declared.form.Form as form
+use Rattle.rz_bridge_files.specs.declared.form.Form.TheVariants as forms
 use Rattle.rz_pre.specs.declared.program.Def.{Def}
 use Rattle.rz_tools_args.specs.Definition.{Defines, Undefines}
 use Rattle.rz_tools_args.specs.Kind.{IsKind}

@@ -1,7 +1,7 @@
 -- What the items of a command ask for, each in the order of the words.
 use Rattle.std.specs.Prelude.{◌==◌, ◌||◌, ℕ, Bool, false, List, [], ◌∷◌, Option, Some, None}
 use Rattle.rz_core.specs.declared.resource.OsType.{OsType}
-use Rattle.rz_bridge_form.specs.declared.form.Form as form
+use Rattle.rz_bridge_files.specs.declared.form.Form as form
 use Rattle.rz_pre.specs.declared.program.Def.{Def}
 use Rattle.rz_tools_args.specs.Command.{values_of, Define, Form, Item, Kind, Name, On, Place, Value, Valued}
 use Rattle.rz_tools_args.specs.declared.flag.Flag.{Flag}

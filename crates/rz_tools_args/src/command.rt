@@ -11,7 +11,7 @@ use crate::flag::{Flag, Switch};
 use crate::item::{Item, Value};
 use crate::name::CommandName;
 use crate::number::number_told;
-use rz_bridge_form::Form;
+use rz_bridge_files::Form;
 use rz_core::{FileNames, Listing, NoMemory, OsType};
 use rz_pre::Defs;
 use std::alloc::Global;

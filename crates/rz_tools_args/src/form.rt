@@ -3,7 +3,7 @@
 ghost use Rattle.std.specs.Prelude.{◌≡◌};
 ghost use Rattle.rz_tools_args.specs.Command.{form_named};
 
-use rz_bridge_form::Form;
+use rz_bridge_files::Form;
 
 /// The form that a word names.
 pub fn form_named(word: &str) -> Option<Form>

@@ -12,7 +12,7 @@ use crate::flag::{Flag, Sort, Switch};
 use crate::form::form_named;
 use crate::kind::kind_in;
 use crate::syntax::{Places, Syntax, named};
-use rz_bridge_form::Form;
+use rz_bridge_files::Form;
 use rz_core::{NoMemory, OsType, Stop};
 use rz_lex::cut_back;
 use rz_pre::Def;

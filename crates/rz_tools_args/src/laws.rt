@@ -1,8 +1,8 @@
 //! Laws of arguments: they are one command or have one misplaced argument, define no reserved word, and name each form.
 
 ghost use Rattle.std.specs.Prelude.{◌≡◌, ◌⊎◌, ℕ, List, Some};
-ghost use Rattle.rz_bridge_form.specs.Forms.{form_word};
-ghost use Rattle.rz_bridge_form.specs.declared.form.Form.{Form};
+ghost use Rattle.rz_bridge_files.specs.Forms.{form_word};
+ghost use Rattle.rz_bridge_files.specs.declared.form.Form.{Form};
 ghost use Rattle.rz_pre.specs.Lexed.{HaveLexedTexts};
 ghost use Rattle.rz_tools_args.specs.Definition.{AreFree};
 ghost use Rattle.rz_tools_args.specs.Command.{form_named, Asked, IsCommand, IsMisplaced};

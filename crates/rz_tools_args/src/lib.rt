@@ -1,6 +1,6 @@
 //! The words of a command line as a command. `read_words` gives exactly the command that they are, or the
 //! position of the first word that can't stand where it stands; they are one command at most.
-//! It rests on `rz_core`, `rz_lex`, `rz_words`, `rz_expr`, `rz_pre_source`, `rz_pre` and `rz_bridge_form`.
+//! It rests on `rz_core`, `rz_lex`, `rz_words`, `rz_expr`, `rz_pre_source`, `rz_pre` and `rz_bridge_files`.
 //! What a command takes is a line of one table, `syntax_of`, with its definition; a new option is a variant of `Flag`
 //! or `Switch`, and the commands that take it name it in their lines.
 //!

@@ -19,7 +19,7 @@ use Rattle.rz_stmt_brackets.specs.Statements.{has_end}
 use Rattle.rz_tools.specs.Again.{MeansAgain}
 use Rattle.rz_tools.specs.Program.{command, Answers}
 use Rattle.rz_tools.specs.Rez.{around_of, AnswersRez, IsRez, RezAsked}
-use Rattle.rz_tools_tmpl.specs.Templates.{TypesOf}
+use Rattle.rz_tools_output.specs.Templates.{TypesOf}
 use Rattle.rz_types_table.specs.Table.{Declaration}
 use Rattle.rz_tools_text.specs.Shown.{Known}
 use Rattle.rz_tools.specs.Sources.{compiled, AreCompiled, Compiled}

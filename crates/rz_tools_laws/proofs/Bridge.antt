@@ -2,8 +2,8 @@
 use Rattle.std.proofs.Common.{◌≡◌, ◌≢◌, ℕ, true, false, List, [], ◌∷◌, length, get_or, refl, sym, ap, subst, ◌∙◌, arith}
 use Rattle.std.specs.Prelude.{Bool, if◌then◌else◌, unwrap_or, Option, Some, ◌↔◌}
 use Rattle.std.specs.List.{AllByRecursion}
-use Rattle.rz_bridge_form.specs.declared.form.Form as form
-use Rattle.rz_bridge_form.specs.declared.form.Form.TheVariants as forms
+use Rattle.rz_bridge_files.specs.declared.form.Form as form
+use Rattle.rz_bridge_files.specs.declared.form.Form.TheVariants as forms
 use Rattle.rz_tools_args.specs.Command.{is_flag, place_item, places_of, switch_item, value_item, values_of, AreItems, Form, IsCommand, IsItem, IsValue, Item, Name, Value}
 use Rattle.rz_tools_args.specs.Items.{forms_in, forms_of, last, names_in, names_of}
 use Rattle.rz_tools_args.specs.Syntax.{sort_of, syntax_of, Syntax}

@@ -1,3 +1,4 @@
+mod Ends
 pub mod Agreeing
 pub mod Behind
 pub mod Bridge
@@ -8,3 +9,15 @@ pub mod Shown
 pub mod Templates
 pub mod PutBack
 pub mod WrittenBack
+pub mod Short
+pub mod Written
+pub mod Listed
+pub mod Told
+pub mod Lines
+pub mod TypeLine
+pub mod Declares
+pub mod Image
+pub mod Reading
+pub mod Statements
+pub mod Sampled
+pub mod Answered

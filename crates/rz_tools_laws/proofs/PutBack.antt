@@ -4,11 +4,11 @@ use Rattle.std.specs.FinMap as finite
 use Rattle.std.specs.declared.result.Result.{Result}
 use Rattle.rz_bridge.specs.declared.file.MacFile.{MacFile}
 use Rattle.rz_bridge_files.specs.Contents.{admit_fork, file_in, fork_in, form_or}
-use Rattle.rz_bridge_form.specs.declared.form.Form.{Form}
+use Rattle.rz_bridge_files.specs.declared.form.Form.{Form}
 use Rattle.rz_catalog.specs.Apply.{Applied}
 use Rattle.rz_catalog.specs.Own.{own_answer}
-use Rattle.rz_catalog_entries.specs.declared.entry.Entry.{Entry}
-use Rattle.rz_catalog_source.specs.Source.{HasEntries}
+use Rattle.rz_catalog_text.specs.declared.entry.Entry.{Entry}
+use Rattle.rz_catalog_text.specs.Source.{HasEntries}
 use Rattle.rz_core.specs.Answers.{Then}
 use Rattle.rz_core.specs.Lists.{first_of, unless_fault}
 use Rattle.rz_core.specs.Stop.{◌>>=◌}

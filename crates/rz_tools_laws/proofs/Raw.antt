@@ -11,9 +11,9 @@ use Rattle.rz_bridge_files.specs.Contents.{file_in}
 use Rattle.rz_bridge_files.specs.Faults.{or_broken}
 use Rattle.rz_bridge_files.specs.Names.{own, raw, taken, Named}
 use Rattle.rz_bridge_files.specs.Written.{written_as}
-use Rattle.rz_bridge_form.specs.Forms.{content_of, form_of, raw_file}
-use Rattle.rz_bridge_form.specs.declared.form.Form.{Form}
-use Rattle.rz_bridge_form.specs.declared.form.Form.TheVariants.{Raw}
+use Rattle.rz_bridge_files.specs.Forms.{content_of, form_of, raw_file}
+use Rattle.rz_bridge_files.specs.declared.form.Form.{Form}
+use Rattle.rz_bridge_files.specs.declared.form.Form.TheVariants.{Raw}
 use Rattle.rz_fork.specs.Image.{first_limit, image}
 use Rattle.rz_fork.specs.declared.fault.LimitFault.{LimitFault}
 use Rattle.rz_tools_output.specs.Base.{attributes_asked, Base}

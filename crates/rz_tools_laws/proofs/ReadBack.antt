@@ -28,7 +28,7 @@ use Rattle.rz_tools_laws.proofs.Agreeing.{agreed}
 use Rattle.rz_tools_laws.proofs.Behind.{answers_made, compiled_behind, spared_too, GoOn}
 use Rattle.rz_tools_laws.proofs.Parsed.{EndsParsed}
 use Rattle.rz_tools.proofs.Typing.{types_behind}
-use Rattle.rz_tools_tmpl.specs.Templates.{TypesOf}
+use Rattle.rz_tools_output.specs.Templates.{TypesOf}
 use Rattle.rz_tools_work.specs.Work.{begun}
 use Rattle.rz_types_table.specs.Table.{Declaration}
 use Rattle.rz_tools_laws.specs.Behind.{with_file, with_warnings, AreTypesAlone, CompilesBehind, IsAnswerBehind, ReadsBehind, TypesStay}

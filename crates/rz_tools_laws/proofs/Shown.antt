@@ -12,7 +12,7 @@ use Rattle.rz_types_table.specs.Table.{found, Declaration}
 use Rattle.rz_tools.proofs.EveryResource.{found_so}
 use Rattle.rz_tools_text.specs.Shown.{its_bytes, its_row, IsShownBy, Known, TellsRow}
 use Rattle.rz_tools_laws.specs.Templates.{TellsDeclared}
-use Rattle.rz_tools_tmpl.specs.Templates.{AreTemplates, IsTemplate}
+use Rattle.rz_tools_output.specs.Templates.{AreTemplates, IsTemplate}
 
 -- fields that are declared for a resource are a template
 declared_template : (one : Option Declaration) (body : PlainBody) → IfSome one (λ one. IsTemplate one.template) → option_map (λ one. one.template) one ≡ Some body → IsTemplate body

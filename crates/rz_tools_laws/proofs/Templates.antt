@@ -34,7 +34,7 @@ use Rattle.rz_tools.specs.Step.{Means, WarnedFault}
 use Rattle.rz_tools_args.specs.Command.{Asked, IsCommand}
 use Rattle.rz_tools_args.specs.Items.{defs_of}
 use Rattle.rz_tools_args.specs.declared.name.CommandName.TheVariants as names
-use Rattle.rz_tools_tmpl.specs.Templates.{AreTemplates, IsTemplate, TypesOf}
+use Rattle.rz_tools_output.specs.Templates.{AreTemplates, IsTemplate, TypesOf}
 use Rattle.rz_types_table.specs.Table.{Declaration}
 use Rattle.rz_tools_work.proofs.Numbered.{still_lexed}
 use Rattle.rz_tools_values.specs.Around.{Around}

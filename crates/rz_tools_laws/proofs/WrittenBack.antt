@@ -7,8 +7,8 @@ use Rattle.rz_folder.specs.Folder.{Files}
 use Rattle.rz_bridge_files.specs.Contents.{fork_in}
 use Rattle.rz_bridge_files.specs.Names.{raw}
 use Rattle.rz_bridge_files.specs.Written.{written_as}
-use Rattle.rz_bridge_form.specs.declared.form.Form.{Form}
-use Rattle.rz_bridge_form.specs.declared.form.Form.TheVariants.{Raw}
+use Rattle.rz_bridge_files.specs.declared.form.Form.{Form}
+use Rattle.rz_bridge_files.specs.declared.form.Form.TheVariants.{Raw}
 use Rattle.rz_fork.specs.Contents.{Fork}
 use Rattle.rz_fork.specs.Image.{fork_of}
 use Rattle.rz_pre.specs.declared.condition.Tool.TheVariants as tools
@@ -24,7 +24,7 @@ use Rattle.rz_tools_laws.specs.Behind.{AreTypesAlone, IsAnswerBehind, ReadsBehin
 use Rattle.rz_tools_output.specs.Base.{attributes_asked, new_base}
 use Rattle.rz_tools_output.specs.Output.{file_of, fork_or_fault, form_asked, list_fork, IsOutput, Target}
 use Rattle.rz_tools_text.specs.Chosen.{chosen}
-use Rattle.rz_tools_tmpl.specs.Templates.{TypesOf}
+use Rattle.rz_tools_output.specs.Templates.{TypesOf}
 use Rattle.rz_tools_work.specs.Work.{begun}
 use Rattle.rz_types_table.specs.Table.{Declaration}
 

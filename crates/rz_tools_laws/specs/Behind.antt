@@ -6,7 +6,7 @@ use Rattle.std.specs.declared.result.Result.{Result}
 use Rattle.rz_core.specs.declared.fault.Fault.{Fault}
 use Rattle.rz_core.specs.declared.moment.Moment.{Moment}
 use Rattle.rz_core.specs.declared.resource.Resource.{Resource}
-use Rattle.rz_bridge_form.specs.declared.form.Form.TheVariants.{Raw}
+use Rattle.rz_bridge_files.specs.declared.form.Form.TheVariants.{Raw}
 use Rattle.rz_folder.specs.Folder.{Files}
 use Rattle.rz_lex.specs.declared.token.Token.{Token}
 use Rattle.rz_pre.specs.Program.{ProgramGoes, State}
@@ -25,7 +25,7 @@ use Rattle.rz_tools_answer.specs.Answer.{or_refused, written}
 use Rattle.rz_tools_answer.specs.Warning.{said_beside}
 use Rattle.rz_tools_output.specs.Base.{new_base}
 use Rattle.rz_tools_output.specs.Output.{form_asked, IsOutput}
-use Rattle.rz_tools_tmpl.specs.Templates.{TypesOf}
+use Rattle.rz_tools_output.specs.Templates.{TypesOf}
 use Rattle.rz_tools_work.specs.Work.{begun}
 use Rattle.rz_types_table.specs.Table.{Declaration}
 

@@ -22,8 +22,8 @@ ghost use Rattle.rz_tools_answer.specs.declared.outcome.Outcome.TheVariants.{Don
 ghost use Rattle.rz_tools_laws.specs.Behind.{with_file, with_warnings, AreTypesAlone, CompilesBehind, IsAnswerBehind, IsKnown, ReadsBehind, ShowsAll, TypesStay, WritesRaw};
 ghost use Rattle.rz_tools_text.specs.Chosen.{chosen};
 ghost use Rattle.rz_tools_text.specs.Text.{ShowsEach};
-ghost use Rattle.rz_bridge_form.specs.Forms.{form_of, raw_file};
-ghost use Rattle.rz_bridge_form.specs.declared.form.Form.TheVariants.{Raw};
+ghost use Rattle.rz_bridge_files.specs.Forms.{form_of, raw_file};
+ghost use Rattle.rz_bridge_files.specs.declared.form.Form.TheVariants.{Raw};
 ghost use Rattle.rz_pre.specs.Lexed.{HaveLexedTexts};
 ghost use Rattle.rz_pre.specs.Program.{State};
 ghost use Rattle.rz_pre.specs.declared.program.Def.{Def};
@@ -41,12 +41,12 @@ ghost use Rattle.rz_tools_args.specs.Command.{IsCommand, Item};
 ghost use Rattle.rz_tools_args.specs.declared.name.CommandName.TheVariants.{Bridge};
 ghost use Rattle.rz_tools_laws.specs.Bridge.{SayAll};
 ghost use Rattle.rz_tools_laws.specs.Templates.{TellsDeclared};
-ghost use Rattle.rz_tools_tmpl.specs.Templates.{AreTemplates, TypesOf};
+ghost use Rattle.rz_tools_output.specs.Templates.{AreTemplates, TypesOf};
 ghost use Rattle.rz_tools_output.specs.Base.{attributes_asked, base_in, Base};
 ghost use Rattle.rz_tools_output.specs.Bridge.{bridge_asked, BridgeAsked, IsBridge};
 ghost use Rattle.rz_tools_output.specs.Output.{form_asked, IsOutput, Target};
-ghost use Rattle.rz_catalog_entries.specs.declared.entry.Entry.{Entry};
-ghost use Rattle.rz_catalog_source.specs.Source.{HasEntries};
+ghost use Rattle.rz_catalog_text.specs.declared.entry.Entry.{Entry};
+ghost use Rattle.rz_catalog_text.specs.Source.{HasEntries};
 ghost use Rattle.rz_fork.specs.Image.{fork_of, image};
 ghost use Rattle.rz_tools.specs.Restring.{target_named, IsRestring, RestringAsked};
 ghost use Rattle.rz_tools.specs.Strings.{IsStrings, StringsAsked};
@@ -54,15 +54,15 @@ ghost use Rattle.rz_tools_laws.specs.Texts.{IsAnswerAgain, IsOfSame};
 ghost use Rattle.rz_tools_values.specs.Around.{Around};
 ghost use Rattle.rz_tools_work.specs.Work.{begun, Work};
 
+use crate::statements_go_on;
 use rz_bridge_files::forks_are_found_raw;
 use rz_expr::{attribute_words_are_spelled, keywords_are_spelled};
 use rz_pre_laws::{live_names_are_free, programs_are_lexed};
-use rz_stmt_laws::statements_go_on;
 use rz_stmt_type::declarations_are_shaped;
 use rz_tools::{catalogues_are_put_back, one_answer, shown_forks_are_read_again};
 use rz_tools_args::{definitions_are_free, definitions_are_lexed, one_command};
+use rz_tools_output::types_are_templates;
 use rz_tools_text::one_shown_text;
-use rz_tools_tmpl::types_are_templates;
 
 /// A law, with nothing to run: what statements declare that are read without a fault is a template: the fields of each
 /// declaration are well shaped and keep the rules, where so are those before the first statement, and the tokens are

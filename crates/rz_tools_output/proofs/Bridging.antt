@@ -8,9 +8,9 @@ use Rattle.rz_bridge.specs.declared.file.MacFile.{MacFile}
 use Rattle.rz_bridge_files.specs.Contents.{file_in, form_or}
 use Rattle.rz_bridge_files.specs.Names.{Named}
 use Rattle.rz_bridge_files.specs.Written.{written_as}
-use Rattle.rz_bridge_form.specs.DataFile.{IsDataFile}
-use Rattle.rz_bridge_form.specs.declared.form.Form.{Form}
-use Rattle.rz_bridge_form.specs.declared.form.Form.TheVariants as forms
+use Rattle.rz_bridge_files.specs.DataFile.{IsDataFile}
+use Rattle.rz_bridge_files.specs.declared.form.Form.{Form}
+use Rattle.rz_bridge_files.specs.declared.form.Form.TheVariants as forms
 use Rattle.rz_core.proofs.Once.{same_err}
 use Rattle.rz_core.specs.Answers.{Then}
 use Rattle.rz_core.specs.Stop.{IsReadFault, Yields}

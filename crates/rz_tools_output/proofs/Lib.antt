@@ -1,3 +1,5 @@
+pub mod Files
+pub mod Declaring
 pub mod Limits
 pub mod Begins
 pub mod Bridging

@@ -4,8 +4,8 @@ use Rattle.std.specs.declared.result.Result.{Result}
 use Rattle.rz_bridge.specs.declared.file.MacFile.{MacFile}
 use Rattle.rz_bridge_files.specs.Contents.{admit_fork, file_in, form_or, IsFile}
 use Rattle.rz_bridge_files.specs.Faults.{or_broken, or_torn}
-use Rattle.rz_bridge_form.specs.Forms.{content_of}
-use Rattle.rz_bridge_form.specs.declared.form.Form.{Form}
+use Rattle.rz_bridge_files.specs.Forms.{content_of}
+use Rattle.rz_bridge_files.specs.declared.form.Form.{Form}
 use Rattle.rz_core.proofs.Once.{ok}
 use Rattle.rz_core.specs.Stop.{◌>>=◌, Gives}
 use Rattle.rz_core.specs.declared.fault.Fault.{Fault}
@@ -14,9 +14,9 @@ use Rattle.rz_core.specs.declared.stop.Stop.TheVariants.{Refused, NoMemory}
 use Rattle.rz_fork.specs.Admit.{admitted}
 use Rattle.rz_fork.specs.Contents.{Fork}
 use Rattle.rz_fork.specs.declared.fault.ForkFault.{ForkFault}
-use Rattle.rz_list.proofs.Parted.{contents_are}
-use Rattle.rz_list.specs.Held.{text_of, IsWhole}
-use Rattle.rz_list.specs.Text.{file_text}
+use Rattle.rz_told.proofs.Parted.{contents_are}
+use Rattle.rz_told.specs.Held.{text_of, IsWhole}
+use Rattle.rz_told.specs.Text.{file_text}
 use Rattle.rz_tools_output.specs.List.{listed_in}
 
 -- a fork that is admitted without a mark

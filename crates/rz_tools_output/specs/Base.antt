@@ -13,12 +13,12 @@ use Rattle.rz_core.specs.declared.resource.OsType.{OsType}
 use Rattle.rz_core.specs.declared.resource.Resource.{Resource}
 use Rattle.rz_bridge_files.specs.Contents.{admit_fork, file_in, form_or}
 use Rattle.rz_folder.specs.Folder.{Files}
-use Rattle.rz_folder_paths.specs.Names.{missing_file}
+use Rattle.rz_folder.specs.Names.{missing_file}
 use Rattle.rz_fork.specs.Contents.{Fork}
 use Rattle.rz_set.specs.ResSet.{AreNamed}
-use Rattle.rz_bridge_form.specs.Forms.{raw_file, raw_finder}
-use Rattle.rz_bridge_form.specs.declared.form.Form.{Form}
-use Rattle.rz_bridge_form.specs.declared.form.Form.TheVariants.{Raw}
+use Rattle.rz_bridge_files.specs.Forms.{raw_file, raw_finder}
+use Rattle.rz_bridge_files.specs.declared.form.Form.{Form}
+use Rattle.rz_bridge_files.specs.declared.form.Form.TheVariants.{Raw}
 use Rattle.rz_tools_output.specs.declared.base.Base as code
 use Rattle.rz_tools_output.specs.declared.base.Beginning.{Beginning}
 

@@ -14,11 +14,11 @@ use Rattle.rz_core.specs.declared.fault.Fault.{Fault}
 use Rattle.rz_bridge_files.specs.Contents.{file_in, form_or}
 use Rattle.rz_bridge_files.specs.Names.{Named}
 use Rattle.rz_folder.specs.Folder.{Files}
-use Rattle.rz_bridge_form.specs.DataFile.{IsDataFile}
+use Rattle.rz_bridge_files.specs.DataFile.{IsDataFile}
 use Rattle.rz_bridge_files.specs.Written.{written_as}
-use Rattle.rz_bridge_form.specs.declared.form.Form.{Form}
-use Rattle.rz_bridge_form.specs.declared.form.Form.TheVariants as forms
-use Rattle.rz_folder_paths.specs.Names.{missing_file}
+use Rattle.rz_bridge_files.specs.declared.form.Form.{Form}
+use Rattle.rz_bridge_files.specs.declared.form.Form.TheVariants as forms
+use Rattle.rz_folder.specs.Names.{missing_file}
 use Rattle.rz_tools_output.specs.Base.{or_empty}
 use Rattle.rz_tools_output.specs.Halted.{refused_alone}
 use Rattle.rz_tools_args.specs.Command.{places_of, IsCommand, Item}

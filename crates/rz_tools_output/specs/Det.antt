@@ -4,12 +4,12 @@ use Rattle.std.specs.FinMap as finite
 use Rattle.std.specs.String.{string_bytes}
 use Rattle.std.specs.declared.result.Result.{Result}
 use Rattle.rz_bridge_files.specs.Contents.{file_in}
-use Rattle.rz_bridge_form.specs.declared.form.Form.{Form}
+use Rattle.rz_bridge_files.specs.declared.form.Form.{Form}
 use Rattle.rz_core.specs.Stop.{◌>>=◌}
 use Rattle.rz_core.specs.declared.fault.Fault.{Fault}
-use Rattle.rz_det.specs.Text.{breaks_text}
+use Rattle.rz_told.specs.BreaksText.{breaks_text}
 use Rattle.rz_folder.specs.Folder.{Files}
-use Rattle.rz_folder_paths.specs.Names.{missing_file}
+use Rattle.rz_folder.specs.Names.{missing_file}
 use Rattle.rz_tools_answer.specs.Answer.{shown, Answer}
 use Rattle.rz_tools_args.specs.Command.{places_of, Item}
 use Rattle.rz_tools_args.specs.Items.{forms_of, last}

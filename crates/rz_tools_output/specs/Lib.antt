@@ -1,3 +1,4 @@
+pub mod Templates
 pub mod Base
 pub mod Output
 pub mod Halted

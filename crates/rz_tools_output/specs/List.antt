@@ -4,12 +4,12 @@ use Rattle.std.specs.Prelude.{◌≡◌, ℕ, List, [], Ok, Err, Option, Some, N
 use Rattle.std.specs.FinMap as finite
 use Rattle.std.specs.declared.result.Result.{Result}
 use Rattle.rz_bridge_files.specs.Contents.{admit_fork, file_in, form_or}
-use Rattle.rz_bridge_form.specs.declared.form.Form.{Form}
+use Rattle.rz_bridge_files.specs.declared.form.Form.{Form}
 use Rattle.rz_core.specs.Stop.{◌>>=◌}
 use Rattle.rz_core.specs.declared.fault.Fault.{Fault}
 use Rattle.rz_folder.specs.Folder.{Files}
-use Rattle.rz_folder_paths.specs.Names.{missing_file}
-use Rattle.rz_list.specs.Text.{file_text}
+use Rattle.rz_folder.specs.Names.{missing_file}
+use Rattle.rz_told.specs.Text.{file_text}
 use Rattle.rz_tools_answer.specs.Answer.{Answer}
 use Rattle.rz_tools_output.specs.Det.{told, DetAsked}
 

@@ -15,7 +15,7 @@ use Rattle.rz_fork.specs.Image.{fork_of}
 use Rattle.rz_fork.specs.declared.fault.LimitFault.{LimitFault}
 use Rattle.rz_bridge_files.specs.Names.{Named}
 use Rattle.rz_bridge_files.specs.Written.{written_as}
-use Rattle.rz_bridge_form.specs.declared.form.Form.{Form}
+use Rattle.rz_bridge_files.specs.declared.form.Form.{Form}
 use Rattle.rz_tools_output.specs.Base.{attributes_asked, Base}
 use Rattle.rz_tools_output.specs.declared.target.Target as code
 

@@ -8,18 +8,16 @@ ghost use Rattle.rz_core.specs.declared.fault.Kept.TheVariants.{Number};
 ghost use Rattle.rz_core.specs.Resources.{KeysDiffer};
 ghost use Rattle.rz_core.specs.Stop.{seen, Gives, OnFault};
 ghost use Rattle.rz_folder.specs.Finds.{Finds};
-ghost use Rattle.rz_folder_paths.specs.Names.{IsUnplaced};
+ghost use Rattle.rz_folder.specs.Names.{IsUnplaced};
 ghost use Rattle.rz_bridge_files.specs.Contents.{form_or};
 ghost use Rattle.rz_set.specs.ResSet.{AreNamed};
 ghost use Rattle.rz_tools_output.specs.Base.{base_held, base_in, base_of, begun_of, limited, new_base, read_only, CanBegin, HasOrNone, IsShortBase};
 
 use bitflags::Flags;
 use rz_bridge::{Finder, MacFile};
-use rz_bridge_files::{admit_fork, file_in};
-use rz_bridge_form::{Form, form_of};
+use rz_bridge_files::{Form, admit_fork, file_in, form_of};
 use rz_core::{Bytes, Fault, Halt, Kept, OsType, Resources, Stop};
-use rz_folder::{Folder, Read};
-use rz_folder_paths::read_present;
+use rz_folder::{Folder, Read, read_present};
 use rz_fork::{ForkView, MapAttributes};
 use std::alloc::Global;
 

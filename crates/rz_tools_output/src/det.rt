@@ -2,18 +2,16 @@
 
 ghost use Rattle.std.specs.Prelude.{◌≡◌, IfOk};
 ghost use Rattle.rz_folder.specs.Finds.{Finds};
-ghost use Rattle.rz_folder_paths.specs.Names.{IsUnplaced};
+ghost use Rattle.rz_folder.specs.Names.{IsUnplaced};
 ghost use Rattle.rz_tools_answer.specs.Plans.{Plans};
 ghost use Rattle.rz_tools_args.specs.Held.{items_of};
 ghost use Rattle.rz_tools_output.specs.Det.{det, det_asked, AnswersDet, HasBreaks};
 
 use crate::bridge::first_file;
-use rz_bridge_files::file_in;
-use rz_bridge_form::Form;
+use rz_bridge_files::{Form, file_in};
 use rz_core::{Bytes, Fault, FileNames, Halt, NoMemory};
-use rz_det::breaks_text;
-use rz_folder::Folder;
-use rz_folder_paths::read_present;
+use rz_folder::{Folder, read_present};
+use rz_told::breaks_text;
 use rz_tools_answer::{Faults, Plan, say_beside};
 use rz_tools_args::{Command, Flag};
 use std::alloc::Global;

@@ -5,20 +5,18 @@ ghost use Rattle.rz_bridge_files.specs.Contents.{admit_fork};
 ghost use Rattle.rz_core.specs.Message.{IsNameable};
 ghost use Rattle.rz_core.specs.Stop.{seen, Gives, OnFault};
 ghost use Rattle.rz_folder.specs.Finds.{Finds};
-ghost use Rattle.rz_folder_paths.specs.Names.{IsUnplaced};
+ghost use Rattle.rz_folder.specs.Names.{IsUnplaced};
 ghost use Rattle.rz_fork.specs.Contents.{Fork};
-ghost use Rattle.rz_list.specs.Held.{text_of, IsWhole};
+ghost use Rattle.rz_told.specs.Held.{text_of, IsWhole};
 ghost use Rattle.rz_tools_output.specs.Det.{det};
 ghost use Rattle.rz_tools_output.specs.List.{listed_in, HasList};
 
 use crate::base::form_or;
 use crate::det::DetWords;
-use rz_bridge_files::{admit_fork, file_in};
-use rz_bridge_form::Form;
+use rz_bridge_files::{Form, admit_fork, file_in};
 use rz_core::{Bytes, Fault, Halt, Stop};
-use rz_folder::Folder;
-use rz_folder_paths::read_present;
-use rz_list::FileText;
+use rz_folder::{Folder, read_present};
+use rz_told::FileText;
 use std::alloc::Global;
 
 /// The text that answers the words of `list`, which name a file as those of `det` do: what the form of the file

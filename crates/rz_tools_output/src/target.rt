@@ -3,7 +3,7 @@
 ghost use Rattle.std.specs.Prelude.{◌≡◌, false, None};
 ghost use Rattle.rz_tools_output.specs.Output.{target};
 
-use rz_bridge_form::Form;
+use rz_bridge_files::Form;
 use rz_core::OsType;
 
 /// The file that is to be written.

@@ -3,7 +3,7 @@
 ghost use Rattle.std.specs.Prelude.{◌≡◌, ◌<◌, ℕ, IfSome, IfOk};
 ghost use Rattle.rz_core.specs.Message.{IsNameable};
 ghost use Rattle.rz_folder.specs.MayRead.{MayRead};
-ghost use Rattle.rz_folder_paths.specs.Names.{LooksFor};
+ghost use Rattle.rz_folder.specs.Names.{LooksFor};
 ghost use Rattle.rz_tools_resource.specs.Asked.{ItemAsks, ItemsAsk};
 ghost use Rattle.rz_folder.specs.OnlyReads.{OnlyReads};
 ghost use Rattle.rz_stmt_items.specs.Item.{plain_item, plain_items};

@@ -5,7 +5,7 @@ ghost use Rattle.rz_core.specs.Message.{IsNameable};
 ghost use Rattle.rz_stmt_data.specs.Raw.{raw_of};
 ghost use Rattle.rz_types_fields.specs.Text.{plain_parts};
 ghost use Rattle.rz_folder.specs.MayRead.{MayRead};
-ghost use Rattle.rz_folder_paths.specs.Names.{LooksFor};
+ghost use Rattle.rz_folder.specs.Names.{LooksFor};
 ghost use Rattle.rz_tools_values.specs.Asked.{TextsAsk};
 ghost use Rattle.rz_folder.specs.OnlyReads.{OnlyReads};
 ghost use Rattle.rz_core.specs.Stop.{IsReadFault, OnRefusal, Yields};
@@ -15,7 +15,7 @@ ghost use Rattle.rz_tools_resource.specs.Raw.{resource_of, with_text};
 
 use rz_core::{Facts, Fault, FileNames, Halt, Mark, Resource};
 use rz_folder::Folder;
-use rz_stmt_data::RawStmt;
+use rz_stmt_data::DataStmt;
 use rz_tools_values::{
     Around, contents_of, facts_of, fileless_texts_stay, names_file, read_texts, with_bytes,
 };
@@ -29,7 +29,7 @@ pub fn resource_of<F: Folder>(
     alloc: Global,
     folder: &mut F,
     around: Around<'_>,
-    raw: RawStmt,
+    raw: DataStmt,
 ) -> Result<Resource, Halt<Fault>>
     requires { MayRead F.Folder folder.old (LooksFor around.paths.now (TextsAsk (raw_of raw).texts)) }
     ensures resource { IfSome (F.files folder.old) (λ files. Yields result (λ answer. answer
@@ -38,7 +38,7 @@ pub fn resource_of<F: Folder>(
     ensures nameable { (files : ℕ) → around.entry.mark.file < files → OnRefusal result (IsNameable files) }
     ensures reads { OnlyReads F.Folder folder.old folder.new (IsReadFault result) }
 {
-    let RawStmt { kind, head, texts } = raw;
+    let DataStmt { kind, head, texts } = raw;
     let said = facts_of(alloc, kind, &head, around.mark, around.setting);
     drop(head);
     match said {

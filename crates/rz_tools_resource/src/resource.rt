@@ -4,7 +4,7 @@ ghost use Rattle.std.specs.Prelude.{◌≡◌, ◌<◌, ℕ, true, length, optio
 ghost use Rattle.rz_core.specs.Stop.{Meets, OnFault, IsReadFault, OnRefusal, Yields};
 ghost use Rattle.rz_core.specs.Message.{IsNameable};
 ghost use Rattle.rz_folder.specs.MayRead.{MayRead};
-ghost use Rattle.rz_folder_paths.specs.Names.{LooksFor};
+ghost use Rattle.rz_folder.specs.Names.{LooksFor};
 ghost use Rattle.rz_tools_resource.specs.Asked.{ItemsAsk};
 ghost use Rattle.rz_folder.specs.OnlyReads.{OnlyReads};
 ghost use Rattle.rz_stmt_items.specs.Compile.{compile_of};
@@ -22,8 +22,8 @@ ghost use Rattle.rz_types_table.specs.TypeTable.{table_of};
 use crate::items::with_files;
 use rz_core::{Bytes, Facts, Fault, Halt, Kept, Mark, Resource, Stop};
 use rz_folder::Folder;
-use rz_layout::{LayFault, compile};
-use rz_stmt_items::{CompileStmt, Items, match_items};
+use rz_layout::{LayFault, lay_row};
+use rz_stmt_items::{Items, ResourceStmt, match_items};
 use rz_tools_values::{Around, facts_of, with_bytes};
 use rz_types::Template;
 use rz_types_fields::Row;
@@ -38,7 +38,7 @@ pub fn resource_of_items<F: Folder>(
     alloc: Global,
     folder: &mut F,
     around: Around<'_>,
-    stmt: CompileStmt,
+    stmt: ResourceStmt,
     types: &TypeTable,
 ) -> Result<Resource, Halt<Fault>>
     requires { MayRead F.Folder folder.old (LooksFor around.paths.now (ItemsAsk (compile_of stmt).items)) }
@@ -48,7 +48,7 @@ pub fn resource_of_items<F: Folder>(
     ensures nameable { (files : ℕ) → around.entry.mark.file < files → AreItemsWithin files (plain_items stmt.items) → OnRefusal result (IsNameable files) }
     ensures reads { OnlyReads F.Folder folder.old folder.new (IsReadFault result) }
 {
-    let CompileStmt { kind, head, items } = stmt;
+    let ResourceStmt { kind, head, items } = stmt;
     let said = facts_of(alloc, kind, &head, around.mark, around.setting);
     drop(head);
     let known = said?;
@@ -116,7 +116,7 @@ fn bytes_of_row(
     ensures bytes { Meets result (IsSpelled mark known.now (template_of template.now) row.now) }
     ensures nameable { (files : ℕ) → mark.file < files → OnFault result (IsNameable files) }
 {
-    match compile(alloc, template, row, known) {
+    match lay_row(alloc, template, row, known) {
         Ok(bytes) => Ok(bytes),
         Err(Stop::Refused(fault)) => Err(Stop::Refused(row_fault(fault, mark))),
         Err(Stop::NoMemory) => Err(Stop::NoMemory),

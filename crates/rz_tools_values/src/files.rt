@@ -3,7 +3,7 @@
 ghost use Rattle.std.specs.Prelude.{◌≡◌, ◌<◌, ◌^◌, ℕ, length, IfOk, IfSome};
 ghost use Rattle.rz_core.specs.Message.{IsNameable};
 ghost use Rattle.rz_folder.specs.MayRead.{IsOneOf, MayRead};
-ghost use Rattle.rz_folder_paths.specs.Names.{names_of, utf8_name};
+ghost use Rattle.rz_folder.specs.Names.{names_of, utf8_name};
 ghost use Rattle.rz_folder.specs.OnlyReads.{OnlyReads};
 ghost use Rattle.rz_core.specs.Stop.{IsReadFault, OnRefusal, Yields, halted};
 ghost use Rattle.rz_tools_values.specs.Files.{file_named, file_of_name};
@@ -11,8 +11,7 @@ ghost use Rattle.rz_tools_values.specs.Files.{file_named, file_of_name};
 use rz_bridge::MacFile;
 use rz_bridge_files::file_in;
 use rz_core::{Bytes, Fault, FileNames, Halt, Mark, Stop};
-use rz_folder::Folder;
-use rz_folder_paths::{names_of, read_file};
+use rz_folder::{Folder, names_of, read_file};
 use std::alloc::Global;
 
 /// The bytes of the file that a statement on this line names, fewer than 2^32: its name is tried as it stands and then

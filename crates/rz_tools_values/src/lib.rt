@@ -1,13 +1,13 @@
-//! The values that statements say: those of headers, the one resource that an id or a name is for, what the files give that
-//! statements and strings name, and the contents of a resource. Each gives exactly what its definition says, or the first
-//! fault; no file changes. A resource of a file is lent where it stands in the file's fork: of those that aren't asked for
-//! nothing is copied.
-//! It rests on `rz_core`, `rz_folder`, `rz_expr`, `rz_folder_paths`, `rz_pre`, of which it needs which tool reads,
-//! `rz_types_fields`, `rz_types`, `rz_stmt_data`, `rz_fork`, `rz_bridge`, `rz_bridge_files` and `rz_set`,
-//! and on `bitflags` for attributes.
-//! A new part of a header changes `head`, and `renaming` of `rz_tools_work`; a new part of a string that names a file is a
-//! case of `texts`; what holds for all statements is `Setting`, and
-//! what is the same for all that one statement does is `Around`.
+//! The values that statements say: those of headers, the one resource that an id or a name is for, what the files give
+//! that statements and strings name, and the contents of a resource. Each gives exactly what its definition says, or
+//! the first fault; no file changes. A resource of a file is lent where it stands in the file's fork: of those that
+//! aren't asked for nothing is copied.
+//! It rests on `rz_core`, `rz_folder`, `rz_expr`, `rz_pre`, of which it needs which tool reads, `rz_types_fields`,
+//! `rz_types`, `rz_stmt_data`, `rz_fork`, `rz_bridge`, `rz_bridge_files` and `rz_set`, and on `bitflags` for
+//! attributes.
+//! A new part of a header changes `head`, and `renaming` of `rz_tools_work`; a new part of a string that names a file
+//! is a case of `texts`; what holds for all statements is `Setting`, and what is the same for all that one statement
+//! does is `Around`.
 #![tactic(auto)]
 
 mod around;

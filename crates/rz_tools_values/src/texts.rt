@@ -5,7 +5,7 @@ ghost use Rattle.rz_core.specs.Message.{IsNameable};
 ghost use Rattle.rz_core.specs.Stop.{Gives, OnFault, IsReadFault, OnRefusal, Yields};
 ghost use Rattle.rz_types_fields.specs.Text.{arguments_of, plain_argument, plain_arguments, plain_key, plain_part, plain_parts, Format};
 ghost use Rattle.rz_folder.specs.MayRead.{IsOneOf, MayRead};
-ghost use Rattle.rz_folder_paths.specs.Names.{names_of, utf8_name, LooksFor};
+ghost use Rattle.rz_folder.specs.Names.{names_of, utf8_name, LooksFor};
 ghost use Rattle.rz_tools_values.specs.Asked.{ArgumentAsks, ArgumentsAsk, PartAsks, TextsAsk};
 ghost use Rattle.rz_folder.specs.OnlyReads.{OnlyReads};
 ghost use Rattle.rz_tools_values.specs.Texts.{argument_given, argument_read, arguments_given, arguments_read, bytes_in, key_said, part_given, part_read, resource_bytes, resource_named, texts_given, texts_read};

@@ -14,7 +14,7 @@ ghost use Rattle.rz_types_table.specs.TypeTable.{table_of};
 
 use crate::work::Work;
 use rz_core::{Fault, Kept, Mark, OsType, Stop};
-use rz_stmt_type::{Bounds, DeclareStmt, Made};
+use rz_stmt_type::{Bounds, Made, TypeStmt};
 use rz_tools_values::{Setting, id_of};
 use rz_types::{Template, TypeFault};
 use rz_types_check::check;
@@ -27,7 +27,7 @@ use std::alloc::Global;
 /// setting allows it.
 pub fn declare_type(
     alloc: Global,
-    declare: DeclareStmt,
+    declare: TypeStmt,
     mark: Mark,
     setting: Setting,
     work: &mut Work,
@@ -39,7 +39,7 @@ pub fn declare_type(
     ensures warned { (files : ℕ) → mark.file < files → AreWarnings files work.old.warnings → AreWarnings files work.new.warnings }
     ensures nameable { (files : ℕ) → mark.file < files → OnFault result (IsNameable files) }
 {
-    let DeclareStmt { kind, bounds, made } = declare;
+    let TypeStmt { kind, bounds, made } = declare;
     let scope = scope_of(bounds, mark)?;
     let template = template_of(alloc, made, &work.types, mark)?;
     let again = match work.types.declare(kind, scope, template) {

@@ -4,7 +4,7 @@ ghost use Rattle.std.specs.Prelude.{◌≡◌, ◌<◌, ◌^◌, ℕ, length, No
 ghost use Rattle.rz_core.specs.Message.{IsNameable};
 ghost use Rattle.rz_core.specs.Stop.{Gives, OnFault, IsReadFault, OnRefusal, Yields, left, Meets};
 ghost use Rattle.rz_folder.specs.MayRead.{IsOneOf, MayRead};
-ghost use Rattle.rz_folder_paths.specs.Names.{names_of, utf8_name};
+ghost use Rattle.rz_folder.specs.Names.{names_of, utf8_name};
 ghost use Rattle.rz_folder.specs.OnlyReads.{OnlyReads};
 ghost use Rattle.rz_stmt_lists.specs.Include.{include_of, part_of};
 ghost use Rattle.rz_set.specs.After.{HasShortName};

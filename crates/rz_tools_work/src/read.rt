@@ -3,7 +3,7 @@
 ghost use Rattle.std.specs.Prelude.{◌≡◌, ◌<◌, ℕ, length, IfOk, IfSome};
 ghost use Rattle.rz_core.specs.Message.{IsNameable};
 ghost use Rattle.rz_folder.specs.MayRead.{IsOneOf, MayRead};
-ghost use Rattle.rz_folder_paths.specs.Names.{names_of, utf8_name};
+ghost use Rattle.rz_folder.specs.Names.{names_of, utf8_name};
 ghost use Rattle.rz_folder.specs.OnlyReads.{OnlyReads};
 ghost use Rattle.rz_stmt_lists.specs.Read.{read_of};
 ghost use Rattle.rz_core.specs.Stop.{IsReadFault, OnRefusal, Yields, halted, left};

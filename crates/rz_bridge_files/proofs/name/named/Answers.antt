@@ -1,6 +1,6 @@
 use Rattle.std.proofs.Common.{◌≡◌, ◌≢◌, [], inl, refl, rules}
 use Rattle.std.proofs.lemmas.Result.{err_from_is_err_and}
-use Rattle.rz_bridge_form.specs.declared.form.Form.TheVariants.{Raw}
+use Rattle.rz_bridge_files.specs.declared.form.Form.TheVariants.{Raw}
 use Rattle.rz_bridge_files.proofs.Naming.{named_stopped}
 use Rattle.rz_bridge_files.specs.Names.Named.{taken}
 use Rattle.rz_bridge_files.proofs.name.named.Goals as goal

@@ -2,7 +2,7 @@ use Rattle.std.proofs.Common.{Option, sym, subst}
 use Rattle.rz_core.specs.declared.fault.Fault.{Fault}
 use Rattle.rz_core.proofs.Stops.{meets_so}
 use Rattle.rz_types_table.specs.TypeTable.{table_of}
-use Rattle.rz_catalog_entries.specs.InOrder.{EachInOrder}
+use Rattle.rz_catalog_text.specs.InOrder.{EachInOrder}
 use Rattle.rz_catalog.specs.declared.check.Noted.{Noted}
 use Rattle.rz_catalog.specs.Apply.{Applied, IsAppliedTo, IsRestrung}
 use Rattle.rz_catalog.proofs.Applies.{refused_applies}

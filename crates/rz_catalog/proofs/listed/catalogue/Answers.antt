@@ -1,6 +1,6 @@
 use Rattle.std.proofs.Common.{◌++◌, ◌∙◌, ap, List}
 use Rattle.rz_types_table.specs.TypeTable.{table_of}
-use Rattle.rz_catalog_entries.specs.declared.entry.Entry.{Entry}
+use Rattle.rz_catalog_text.specs.declared.entry.Entry.{Entry}
 use Rattle.rz_catalog.specs.Catalogue.{catalogue}
 use Rattle.rz_catalog.proofs.Stocks.{every_stock}
 use Rattle.rz_catalog.proofs.listed.catalogue.Goals as goal

@@ -9,7 +9,7 @@ use Rattle.rz_types_fields.specs.declared.tree.Tree.{Tree}
 use Rattle.rz_types_table.specs.Table.{declared_for}
 use Rattle.rz_types_table.specs.TypeTable.{table_of}
 use Rattle.rz_unlay.specs.Reading.{facts_of}
-use Rattle.rz_catalog_entries.specs.declared.entry.Entry.{Entry}
+use Rattle.rz_catalog_text.specs.declared.entry.Entry.{Entry}
 use Rattle.rz_catalog.specs.Apply.{is_entry_for, IsPut}
 use Rattle.rz_catalog.specs.Held.{IsPutUnder}
 use Rattle.rz_catalog.proofs.Told.{own_bytes, put_under, stays_put, HasRow}

@@ -1,7 +1,7 @@
 use Rattle.std.proofs.Common.{◌≡◌, ◌∷◌, ◌∙◌, List, Some, None, Ok, Err, ap, subst}
 use Rattle.rz_core.specs.Decided.{Decided}
 use Rattle.rz_types.specs.Template.{template_of}
-use Rattle.rz_catalog_entries.specs.declared.entry.Entry.{Entry}
+use Rattle.rz_catalog_text.specs.declared.entry.Entry.{Entry}
 use Rattle.rz_catalog.specs.Apply.{placed, with_bytes}
 use Rattle.rz_catalog.specs.Leaves.{leaves}
 use Rattle.rz_catalog.proofs.Rows.{row_stays}

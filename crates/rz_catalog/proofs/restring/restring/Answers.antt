@@ -2,7 +2,7 @@ use Rattle.std.proofs.Common.{◌∙◌, ℕ, List, Ok, sym, ap, subst}
 use Rattle.std.specs.HashMap.{get}
 use Rattle.rz_core.specs.Stop.{Meets}
 use Rattle.rz_types_table.specs.TypeTable.{table_of}
-use Rattle.rz_catalog_entries.specs.declared.entry.Entry.{Entry}
+use Rattle.rz_catalog_text.specs.declared.entry.Entry.{Entry}
 use Rattle.rz_catalog.specs.Apply.{IsPut}
 use Rattle.rz_catalog.specs.Held.{key_eq, resource_key}
 use Rattle.rz_catalog.proofs.Firsts.{entries_none, entries_some, entry_within}

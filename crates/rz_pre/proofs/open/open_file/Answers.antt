@@ -1,8 +1,8 @@
 use Rattle.std.proofs.lemmas.Result.{err_from_is_err_and}
-use Rattle.rz_folder_paths.specs.Names.{missing_file}
+use Rattle.rz_folder.specs.Names.{missing_file}
 use Rattle.rz_pre.specs.Reading.{state_of, together}
 use Rattle.rz_pre.proofs.Going.{at_some, opens_badly, unread_leaves}
-use Rattle.rz_folder_paths.proofs.Found.{if_some}
+use Rattle.rz_folder.proofs.Found.{if_some}
 use Rattle.rz_pre.proofs.open.open_file.Goals as goal
 
 pub returns-in_err-name-clause-opened : goal.returns-in_err-name-clause-opened

@@ -13,11 +13,11 @@ use Rattle.rz_pre.proofs.Placing.{open_more, steps_files, steps_open, steps_with
 use Rattle.rz_folder.proofs.Allowed.{may_read_of_after}
 use Rattle.rz_folder.proofs.Reading.{reads_on}
 use Rattle.rz_folder.specs.MayRead.{IsOneOf, MayRead, MayReadOf}
-use Rattle.rz_folder_paths.specs.Names.{names_of, utf8_name}
+use Rattle.rz_folder.specs.Names.{names_of, utf8_name}
 use Rattle.rz_pre.proofs.Lexing.{steps_lexed}
 use Rattle.rz_pre.proofs.Reaching.{included_under, lines_go_on, may_read_first, may_read_included, may_read_inside}
 use Rattle.rz_pre.specs.Reached.{IsIncluded, IsReached}
-use Rattle.rz_folder_paths.proofs.Found.{if_some}
+use Rattle.rz_folder.proofs.Found.{if_some}
 use Rattle.rz_pre.proofs.unfolding.+read_file.Goals as goal
 use Rattle.rz_pre.proofs.unfolding.+read_file.Goals.{in-Some-2+in_ok-text+in_ok-read_file, in_default-2}
 

@@ -1,11 +1,11 @@
 use Rattle.std.proofs.Common.{ℕ, List, Some, sym, subst}
 use Rattle.rz_folder.specs.MayRead.{IsOneOf, MayRead}
-use Rattle.rz_folder_paths.specs.Names.{missing_file, names_of, utf8_name}
+use Rattle.rz_folder.specs.Names.{missing_file, names_of, utf8_name}
 use Rattle.rz_pre.specs.Program.{Enters, Opens}
 use Rattle.rz_pre.specs.Reading.{state_of, together, with_state}
 use Rattle.rz_core.proofs.Stops.{yields_so}
 use Rattle.rz_pre.proofs.Going.{at_some, enters_from}
-use Rattle.rz_folder_paths.proofs.Found.{if_some}
+use Rattle.rz_folder.proofs.Found.{if_some}
 use Rattle.rz_pre.proofs.unfolding.open_included.Goals as goal
 
 pub open_file-requires-clause-may : goal.open_file-requires-clause-may

@@ -1,7 +1,7 @@
 use Rattle.rz_pre.specs.Program.{ProgramGoes}
 use Rattle.rz_pre.specs.Reading.{state_of}
 use Rattle.rz_pre.proofs.Going.{answer_from, answers_from, at_some, read_fault_from}
-use Rattle.rz_folder_paths.proofs.Found.{if_some}
+use Rattle.rz_folder.proofs.Found.{if_some}
 use Rattle.rz_pre.proofs.unfolding.preprocess.Goals as goal
 
 pub returns-clause-program : goal.returns-clause-program

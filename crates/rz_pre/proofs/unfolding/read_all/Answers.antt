@@ -6,7 +6,7 @@ use Rattle.rz_pre.specs.Program.{NamesGo, State}
 use Rattle.rz_pre.specs.Reading.{alone, state_of, with_state}
 use Rattle.rz_pre.proofs.Going.{at_some, starts}
 use Rattle.rz_pre.proofs.Lexing.{start_lexed}
-use Rattle.rz_folder_paths.proofs.Found.{if_some}
+use Rattle.rz_folder.proofs.Found.{if_some}
 use Rattle.rz_pre.proofs.unfolding.read_all.Goals as goal
 
 pub returns-clause-read : goal.returns-clause-read

@@ -9,7 +9,7 @@ use Rattle.rz_pre.specs.Reached.{IsReached}
 use Rattle.rz_pre.specs.Reading.{state_of}
 use Rattle.rz_pre.proofs.Going.{at_some, left_in_named, on_named, NamesLead}
 use Rattle.rz_pre.proofs.Reaching.{may_read_words}
-use Rattle.rz_folder_paths.proofs.Found.{drop_at, if_some}
+use Rattle.rz_folder.proofs.Found.{drop_at, if_some}
 use Rattle.rz_pre.proofs.unfolding.read_names.Goals as goal
 
 pub read_named-requires-clause-may : goal.read_named-requires-clause-may

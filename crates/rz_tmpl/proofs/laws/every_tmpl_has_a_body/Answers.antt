@@ -1,4 +1,4 @@
-use Rattle.rz_tmpl.proofs.Bodies.{some}
+use Rattle.rz_tmpl.proofs.TemplateBytes.{some}
 use Rattle.rz_tmpl.proofs.laws.every_tmpl_has_a_body.Goals as goal
 
 pub returns : goal.returns

@@ -1,4 +1,4 @@
-use Rattle.rz_tmpl.proofs.Bodies.{once}
+use Rattle.rz_tmpl.proofs.TemplateBytes.{once}
 use Rattle.rz_tmpl.proofs.laws.one_body.Goals as goal
 
 pub returns : goal.returns

@@ -1,7 +1,7 @@
 use Rattle.std.proofs.Common.{◌≡◌, ◌≤◌, true, length, Err, refl}
-use Rattle.rz_tmpl.proofs.Bodies.{bodies_hold, faults_hold, within}
+use Rattle.rz_tmpl.proofs.TemplateBytes.{bodies_hold, faults_hold, within}
 use Rattle.rz_tmpl.proofs.laws.tmpl_types_are_templates.Goals as goal
-use Rattle.rz_tmpl_entries.specs.Faults.{IsSayable}
+use Rattle.rz_tmpl.specs.Faults.{IsSayable}
 use Rattle.rz_types.specs.Rules.{keeps_rules}
 use Rattle.rz_types_fields.specs.Shape.{is_well_shaped}
 

@@ -2,7 +2,7 @@ use Rattle.std.proofs.Common.{◌≡◌, ◌+◌, ◌^◌, ◌≤◌, true, List
 use Rattle.rz_tmpl.specs.Parts.{starts_in}
 use Rattle.rz_tmpl.proofs.Whole.{are_whole, few_lists}
 use Rattle.rz_tmpl.proofs.template.template_of.Goals as goal
-use Rattle.rz_tmpl_entries.specs.declared.entry.Entry.{Entry}
+use Rattle.rz_tmpl.specs.declared.entry.Entry.{Entry}
 use Rattle.rz_tmpl.specs.declared.closing.Closing.{Closing}
 use Rattle.rz_types.specs.Readable.{is_readable}
 use Rattle.rz_types.specs.Rules.{keeps_rules}

@@ -1,7 +1,7 @@
 use Rattle.std.proofs.Common.{◌≡◌, ℕ, List, Ok, Err, length, inl, inr, refl, sym, subst}
 use Rattle.rz_folder.proofs.Allowed.{may_read_fewer, may_read_these}
 use Rattle.rz_folder.proofs.Finding.{finds_as, finds_none_after}
-use Rattle.rz_folder_paths.proofs.Present.{placed_at}
+use Rattle.rz_folder.proofs.Present.{placed_at}
 use Rattle.rz_tools.proofs.OfFiles.{after_types, finds_said, no_types}
 use Rattle.rz_tools.proofs.Showing.{shows_fork, shows_none, shows_then}
 use Rattle.rz_tools.specs.Asked.{DeRezAsks, TypesAsk}

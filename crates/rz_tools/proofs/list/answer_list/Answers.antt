@@ -1,6 +1,6 @@
 use Rattle.std.proofs.Common.{ℕ, List, length, subst, sym}
 use Rattle.rz_core.specs.declared.fault.Fault.{Fault}
-use Rattle.rz_folder_paths.proofs.Present.{halt_placed}
+use Rattle.rz_folder.proofs.Present.{halt_placed}
 use Rattle.rz_tools_answer.specs.Warning.{AreWarnings}
 use Rattle.rz_tools_output.specs.Det.{det}
 use Rattle.rz_tools.proofs.Commands.{plan_replies}

@@ -3,7 +3,7 @@ use Rattle.rz_core.specs.Decided.{Decided}
 use Rattle.rz_core.specs.declared.facts.Facts.{Facts}
 use Rattle.rz_catalog.specs.Catalogue.{entries_of}
 use Rattle.rz_catalog.specs.Stock.{texts_in}
-use Rattle.rz_catalog_entries.specs.declared.entry.Entry.{Entry}
+use Rattle.rz_catalog_text.specs.declared.entry.Entry.{Entry}
 use Rattle.rz_fork.specs.View.{lent}
 use Rattle.rz_types.specs.Field.{PlainBody}
 use Rattle.rz_types_fields.specs.declared.tree.Tree.{Tree}

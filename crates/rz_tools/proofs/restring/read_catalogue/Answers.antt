@@ -1,8 +1,8 @@
 use Rattle.std.proofs.Common.{◌+◌, refl}
-use Rattle.rz_catalog_entries.specs.Stored.{AreEntriesIn}
-use Rattle.rz_catalog_source.specs.Source.{HasEntries}
+use Rattle.rz_catalog_text.specs.Stored.{AreEntriesIn}
+use Rattle.rz_catalog_text.specs.Source.{HasEntries}
 use Rattle.rz_folder.proofs.Finding.{finds_end, finds_fault, finds_value}
-use Rattle.rz_folder_paths.proofs.Present.{absent_stop, present_then}
+use Rattle.rz_folder.proofs.Present.{absent_stop, present_then}
 use Rattle.rz_tools.specs.Restring.{HasCatalogueFile}
 use Rattle.rz_tools.proofs.restring.read_catalogue.Goals as goal
 

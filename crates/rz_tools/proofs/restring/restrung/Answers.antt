@@ -2,14 +2,14 @@ use Rattle.std.proofs.Common.{◌≡◌, ◌+◌, ◌<◌, ◌^◌, ℕ, List, l
 use Rattle.std.specs.FinMap as map
 use Rattle.std.specs.declared.result.Result.{Result}
 use Rattle.rz_catalog.specs.Apply.{Applied}
-use Rattle.rz_catalog_entries.specs.declared.entry.Entry.{Entry}
+use Rattle.rz_catalog_text.specs.declared.entry.Entry.{Entry}
 use Rattle.rz_core.specs.Message.{IsNameable}
 use Rattle.rz_core.specs.Stop.{Meets}
 use Rattle.rz_core.specs.declared.fault.Fault.{Fault}
 use Rattle.rz_core.specs.declared.resource.Resource.{Resource}
 use Rattle.rz_folder.proofs.Finding.{finds_end, finds_fault, finds_stop, finds_then, finds_value}
 use Rattle.rz_folder.specs.Folder.{Files}
-use Rattle.rz_folder_paths.proofs.Present.{finds_at}
+use Rattle.rz_folder.proofs.Present.{finds_at}
 use Rattle.rz_tools_output.specs.Base.{base_held, begun_of, Base}
 use Rattle.rz_tools_output.specs.Output.{IsOutput, Target}
 use Rattle.rz_tools.proofs.Restringing.{keys_kept, names_kept, stopped_nameable}

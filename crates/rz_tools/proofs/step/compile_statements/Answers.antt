@@ -9,8 +9,8 @@ use Rattle.rz_stmt.specs.Next.{BeginsWith}
 use Rattle.rz_tools_work.specs.Held.{work_of}
 use Rattle.rz_tools.proofs.Stepping.{leads_on, leads_to_stop, lexed_parts, within_parts}
 use Rattle.rz_folder.proofs.Allowed.{may_read_after}
-use Rattle.rz_folder_paths.specs.Names.{LooksFor}
-use Rattle.rz_folder_paths.proofs.Looking.{may_look_fewer}
+use Rattle.rz_folder.specs.Names.{LooksFor}
+use Rattle.rz_folder.proofs.Looking.{may_look_fewer}
 use Rattle.rz_tools_work.specs.ToolWords.{numbered}
 use Rattle.rz_tools.specs.Asked.{AnyAsks, ParsedAsk}
 use Rattle.rz_tools.proofs.Asking.{any_here, any_later}

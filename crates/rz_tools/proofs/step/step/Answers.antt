@@ -4,7 +4,7 @@ use Rattle.rz_core.specs.Answers.{Then}
 use Rattle.rz_core.specs.Message.{IsNameable}
 use Rattle.rz_core.specs.Stop.{seen, Meets}
 use Rattle.rz_folder.proofs.Reading.{reads_nothing, reads_on}
-use Rattle.rz_folder_paths.proofs.Looking.{may_look_fewer}
+use Rattle.rz_folder.proofs.Looking.{may_look_fewer}
 use Rattle.rz_lex.specs.declared.token.Token.{Token}
 use Rattle.rz_stmt_items.specs.Compile.{compile_of}
 use Rattle.rz_stmt_lists.specs.Lists.{list_of}

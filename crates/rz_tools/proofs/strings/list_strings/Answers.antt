@@ -2,7 +2,7 @@ use Rattle.std.proofs.Common.{◌≡◌, length, inl, inr, refl}
 use Rattle.rz_core.specs.Stop.{seen}
 use Rattle.rz_folder.proofs.Allowed.{may_read_fewer, may_read_these}
 use Rattle.rz_folder.proofs.Finding.{finds_so, seen_end}
-use Rattle.rz_folder_paths.proofs.Present.{placed_at}
+use Rattle.rz_folder.proofs.Present.{placed_at}
 use Rattle.rz_tools_answer.specs.Made.{making_of}
 use Rattle.rz_tools.proofs.OfFiles.{after_types, finds_said, no_types}
 use Rattle.rz_tools.specs.Asked.{StringsAsk, TypesAsk}

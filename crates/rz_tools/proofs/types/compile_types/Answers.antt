@@ -5,13 +5,13 @@ use Rattle.rz_folder.proofs.Finding.{finds_none, seen_end}
 use Rattle.rz_folder.specs.Finds.{Finds}
 use Rattle.rz_folder.specs.Folder.{Files}
 use Rattle.rz_folder.specs.MayRead.{IsIt, IsOneOf}
-use Rattle.rz_folder_paths.proofs.Present.{halt_placed}
+use Rattle.rz_folder.proofs.Present.{halt_placed}
 use Rattle.rz_pre.specs.Program.{State}
 use Rattle.rz_pre.specs.Reached.{IsReached}
 use Rattle.rz_pre.specs.declared.condition.Tool.TheVariants.{DeRez}
 use Rattle.rz_tools_answer.specs.Made.{IsSayable}
 use Rattle.rz_tools_answer.specs.declared.made.Failing.{Failing}
-use Rattle.rz_tools_tmpl.specs.Templates.{TypesOf}
+use Rattle.rz_tools_output.specs.Templates.{TypesOf}
 use Rattle.rz_tools_values.specs.Around.{around}
 use Rattle.rz_tools_work.specs.Work.{begun, Work}
 use Rattle.rz_types_table.specs.Table.{Declaration}

@@ -1,5 +1,5 @@
 use Rattle.std.proofs.Common.{◌<◌, ◌+◌, ℕ, List, [], ◌∷◌, ◌++◌, drop, length, sym, ap, ◌∙◌, arith, append_assoc}
-use Rattle.rz_folder_paths.proofs.Found.{drop_at}
+use Rattle.rz_folder.proofs.Found.{drop_at}
 use Rattle.rz_tools.proofs.types.names_behind.Goals as goal
 
 pub loop-k-preserved : goal.loop-k-preserved

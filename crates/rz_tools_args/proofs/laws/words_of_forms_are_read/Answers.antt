@@ -1,7 +1,7 @@
 use Rattle.std.proofs.Common.{◌≡◌, Some, refl}
-use Rattle.rz_bridge_form.specs.Forms.{form_word}
-use Rattle.rz_bridge_form.specs.declared.form.Form.{Form}
-use Rattle.rz_bridge_form.specs.declared.form.Form.TheVariants.{Raw, AppleDouble, AppleSingle, MacBinary, BinHex}
+use Rattle.rz_bridge_files.specs.Forms.{form_word}
+use Rattle.rz_bridge_files.specs.declared.form.Form.{Form}
+use Rattle.rz_bridge_files.specs.declared.form.Form.TheVariants.{Raw, AppleDouble, AppleSingle, MacBinary, BinHex}
 use Rattle.rz_tools_args.specs.Command.{form_named}
 use Rattle.rz_tools_args.proofs.laws.words_of_forms_are_read.Goals as goal
 

@@ -6,7 +6,7 @@ use Rattle.rz_core.specs.Stop.{seen}
 use Rattle.rz_core.specs.declared.fault.Fault.{Fault}
 use Rattle.rz_folder.proofs.Finding.{finds_as, finds_end, finds_stop, finds_then, finds_this, seen_end, stops_so}
 use Rattle.rz_folder.specs.Folder.{Files}
-use Rattle.rz_folder_paths.proofs.Present.{unplaced}
+use Rattle.rz_folder.proofs.Present.{unplaced}
 use Rattle.rz_tools_output.specs.Base.{base_in, begun_of, new_base, Base, CanBegin, HasOrNone}
 use Rattle.rz_tools_output.specs.declared.base.Beginning.{Beginning}
 use Rattle.rz_tools_output.proofs.Begins.{begins_new, begins_there, can_begin_new}

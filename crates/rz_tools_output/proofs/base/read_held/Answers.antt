@@ -1,12 +1,12 @@
 use Rattle.std.proofs.Common.{ℕ, List, Option, true, refl}
 use Rattle.std.specs.declared.result.Result.{Result}
 use Rattle.std.specs.Prelude.{◌≡◌}
-use Rattle.rz_bridge_form.specs.declared.form.Form.{Form}
+use Rattle.rz_bridge_files.specs.declared.form.Form.{Form}
 use Rattle.rz_core.specs.Stop.{seen}
 use Rattle.rz_core.specs.declared.fault.Fault.{Fault}
 use Rattle.rz_folder.proofs.Finding.{finds_end, finds_this, seen_end, stops_so}
 use Rattle.rz_folder.specs.Folder.{Files}
-use Rattle.rz_folder_paths.proofs.Present.{absent_stop, present_then, unplaced}
+use Rattle.rz_folder.proofs.Present.{absent_stop, present_then, unplaced}
 use Rattle.rz_tools_output.specs.Base.{base_held, base_in, begun_of, Base, IsShortBase}
 use Rattle.rz_tools_output.specs.declared.base.Beginning.{Beginning}
 use Rattle.rz_tools_output.proofs.base.read_held.Goals as goal

@@ -7,7 +7,7 @@ use Rattle.rz_core.specs.Answers.{Then}
 use Rattle.rz_core.specs.declared.fault.Fault.{Fault}
 use Rattle.rz_folder.proofs.Finding.{finds_end, finds_fault, finds_stop, finds_then, finds_value, seen_end}
 use Rattle.rz_folder.specs.Folder.{Files}
-use Rattle.rz_folder_paths.proofs.Present.{unplaced}
+use Rattle.rz_folder.proofs.Present.{unplaced}
 use Rattle.rz_tools_answer.specs.Answer.{Write}
 use Rattle.rz_tools_answer.specs.Plan.{write_of}
 use Rattle.rz_tools_answer.specs.WellFormed.{AreWritable}

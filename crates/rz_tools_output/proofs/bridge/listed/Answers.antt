@@ -1,5 +1,5 @@
 use Rattle.std.proofs.Common.{◌≡◌, ◌≢◌, ℕ, List, [], subst, rules}
-use Rattle.rz_bridge_form.specs.declared.form.Form.TheVariants as forms
+use Rattle.rz_bridge_files.specs.declared.form.Form.TheVariants as forms
 use Rattle.rz_tools_output.specs.Bridge.{bridge}
 use Rattle.rz_tools_output.proofs.Bridging.{two_writes}
 use Rattle.rz_tools_output.proofs.bridge.listed.Goals as goal

@@ -1,6 +1,6 @@
 use Rattle.std.proofs.Common.{ℕ, List, [], length, map, Err, refl, subst, sym}
 use Rattle.rz_core.specs.declared.fault.Fault.{Fault}
-use Rattle.rz_folder_paths.proofs.Present.{halt_placed}
+use Rattle.rz_folder.proofs.Present.{halt_placed}
 use Rattle.rz_tools_answer.proofs.Planning.{concludes_stopped, stop_sayable}
 use Rattle.rz_tools_answer.specs.Answer.{shown, Write}
 use Rattle.rz_tools_answer.specs.Made.{IsBeside}

@@ -1,6 +1,6 @@
 use Rattle.std.proofs.Common.{◌≡◌, ◌≢◌, subst, sym}
-use Rattle.rz_bridge_form.specs.DataFile.{IsDataFile}
-use Rattle.rz_bridge_form.specs.declared.form.Form.TheVariants as forms
+use Rattle.rz_bridge_files.specs.DataFile.{IsDataFile}
+use Rattle.rz_bridge_files.specs.declared.form.Form.TheVariants as forms
 use Rattle.rz_folder.proofs.Finding.{finds_none, finds_so}
 use Rattle.rz_folder.proofs.Reading.{reads_nothing}
 use Rattle.rz_tools_output.proofs.Bridging.{none_beside, one_beside}

@@ -3,12 +3,12 @@ use Rattle.std.specs.Prelude.{IsOkAnd}
 use Rattle.std.specs.declared.result.Result.{Result}
 use Rattle.rz_bridge.specs.declared.file.MacFile.{MacFile}
 use Rattle.rz_bridge_files.specs.Contents.{file_in, form_or}
-use Rattle.rz_bridge_form.specs.DataFile.{IsDataFile}
-use Rattle.rz_bridge_form.specs.declared.form.Form.{Form}
+use Rattle.rz_bridge_files.specs.DataFile.{IsDataFile}
+use Rattle.rz_bridge_files.specs.declared.form.Form.{Form}
 use Rattle.rz_core.specs.declared.fault.Fault.{Fault}
 use Rattle.rz_folder.proofs.Finding.{finds_as, finds_end, finds_stop, finds_then, finds_this, stops_so}
 use Rattle.rz_folder.specs.Folder.{Files}
-use Rattle.rz_folder_paths.proofs.Present.{absent_stop, present_then, unplaced}
+use Rattle.rz_folder.proofs.Present.{absent_stop, present_then, unplaced}
 use Rattle.rz_tools_output.specs.Bridge.{bridge, BridgeAsked, HasBeside, IsRead}
 use Rattle.rz_tools_output.proofs.Bridging.{held_so}
 use Rattle.rz_tools_output.proofs.bridge.read_whole.Goals as goal

@@ -1,7 +1,7 @@
 use Rattle.std.proofs.Common.{List, length, subst, sym}
 use Rattle.std.specs.FinMap as finite
 use Rattle.rz_core.specs.declared.fault.Fault.{Fault}
-use Rattle.rz_folder_paths.proofs.Present.{finds_at, placed_at}
+use Rattle.rz_folder.proofs.Present.{finds_at, placed_at}
 use Rattle.rz_tools_answer.proofs.Planning.{finds_beside, plans_as, plans_made, SaidWith}
 use Rattle.rz_tools_answer.specs.Answer.{shown}
 use Rattle.rz_tools_answer.specs.Warning.{AreWarnings}

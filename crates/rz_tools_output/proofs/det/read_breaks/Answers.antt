@@ -5,10 +5,10 @@ use Rattle.rz_bridge.specs.declared.file.MacFile.{MacFile}
 use Rattle.rz_bridge_files.specs.Contents.{file_in}
 use Rattle.rz_core.specs.Stop.{Gives}
 use Rattle.rz_core.specs.declared.fault.Fault.{Fault}
-use Rattle.rz_det.specs.Text.{breaks_text}
+use Rattle.rz_told.specs.BreaksText.{breaks_text}
 use Rattle.rz_folder.proofs.Finding.{binds, finds_as, finds_none, finds_stop, finds_then, finds_this, stops_so}
 use Rattle.rz_folder.specs.Folder.{Files}
-use Rattle.rz_folder_paths.proofs.Present.{absent_stop, present_then, unplaced}
+use Rattle.rz_folder.proofs.Present.{absent_stop, present_then, unplaced}
 use Rattle.rz_tools_output.specs.Det.{breaks_of, det, DetAsked}
 use Rattle.rz_tools_output.proofs.det.read_breaks.Goals as goal
 

@@ -5,9 +5,9 @@ use Rattle.rz_core.specs.Stop.{seen}
 use Rattle.rz_core.specs.declared.fault.Fault.{Fault}
 use Rattle.rz_folder.proofs.Finding.{finds_end, finds_this, seen_end, stops_so}
 use Rattle.rz_folder.specs.Folder.{Files}
-use Rattle.rz_folder_paths.proofs.Present.{absent_stop, present_then, unplaced}
-use Rattle.rz_list.specs.Held.{text_of}
-use Rattle.rz_list.specs.declared.text.FileText.{FileText}
+use Rattle.rz_folder.proofs.Present.{absent_stop, present_then, unplaced}
+use Rattle.rz_told.specs.Held.{text_of}
+use Rattle.rz_told.specs.declared.text.FileText.{FileText}
 use Rattle.rz_tools_output.specs.Det.{det, DetAsked}
 use Rattle.rz_tools_output.specs.List.{listed_in, listed_of}
 use Rattle.rz_tools_output.proofs.list.read_list.Goals as goal

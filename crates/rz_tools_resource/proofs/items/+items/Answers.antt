@@ -4,13 +4,13 @@ use Rattle.std.proofs.lemmas.List.{map-append, nil_from_length}
 use Rattle.rz_folder.proofs.Allowed.{may_read_after}
 use Rattle.rz_folder.proofs.Reading.{reads_on}
 use Rattle.rz_folder.specs.MayRead.{MayRead}
-use Rattle.rz_folder_paths.specs.Names.{LooksFor}
+use Rattle.rz_folder.specs.Names.{LooksFor}
 use Rattle.rz_types_fields.specs.Text.{plain_parts}
 use Rattle.rz_stmt_items.specs.Item.{plain_item, plain_items}
 use Rattle.rz_stmt_items.specs.Places.{AreItemsWithin}
 use Rattle.rz_stmt_items.specs.declared.item.Item.{Item}
-use Rattle.rz_folder_paths.proofs.Found.{if_some}
-use Rattle.rz_folder_paths.proofs.Looking.{may_look_fewer}
+use Rattle.rz_folder.proofs.Found.{if_some}
+use Rattle.rz_folder.proofs.Looking.{may_look_fewer}
 use Rattle.rz_pre.proofs.Going.{at_some}
 use Rattle.rz_tools_resource.specs.Asked.{ItemAsks, ItemsAsk}
 use Rattle.rz_tools_values.specs.Asked.{TextsAsk}

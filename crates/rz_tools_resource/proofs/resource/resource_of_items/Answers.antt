@@ -4,7 +4,7 @@ use Rattle.std.proofs.lemmas.Result.{err_from_is_err_and}
 use Rattle.rz_core.specs.declared.resource.Resource.{Resource}
 use Rattle.rz_stmt_data.specs.Head.{head_of}
 use Rattle.rz_stmt_items.specs.Item.{plain_items}
-use Rattle.rz_folder_paths.proofs.Found.{if_some}
+use Rattle.rz_folder.proofs.Found.{if_some}
 use Rattle.rz_tools_values.specs.Contents.{with_bytes}
 use Rattle.rz_tools_values.specs.Head.{facts_of}
 use Rattle.rz_tools_resource.specs.Resource.{AreBytes, IsMade}

@@ -13,9 +13,9 @@ use Rattle.rz_types_fields.specs.declared.text.TextPart.{TextPart}
 use Rattle.rz_folder.proofs.Allowed.{may_read_after}
 use Rattle.rz_folder.proofs.Reading.{reads_on}
 use Rattle.rz_folder.specs.MayRead.{MayRead}
-use Rattle.rz_folder_paths.specs.Names.{LooksFor}
-use Rattle.rz_folder_paths.proofs.Found.{if_some}
-use Rattle.rz_folder_paths.proofs.Looking.{may_look, may_look_fewer}
+use Rattle.rz_folder.specs.Names.{LooksFor}
+use Rattle.rz_folder.proofs.Found.{if_some}
+use Rattle.rz_folder.proofs.Looking.{may_look, may_look_fewer}
 use Rattle.rz_pre.proofs.Going.{at_some}
 use Rattle.rz_tools_values.specs.Texts.{argument_read, arguments_read, part_read, texts_read}
 use Rattle.rz_tools_values.specs.Asked.{ArgumentAsks, ArgumentsAsk, PartAsks, TextsAsk}

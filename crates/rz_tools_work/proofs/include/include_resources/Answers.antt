@@ -14,7 +14,7 @@ use Rattle.rz_tools_work.specs.Include.{fork_included}
 use Rattle.rz_tools_work.proofs.Calls.{halted_refuses, halted_unread, went_halt, went_on}
 use Rattle.rz_tools_work.proofs.Included.{of_the_file}
 use Rattle.rz_folder.specs.MayRead.{IsOneOf, MayRead}
-use Rattle.rz_folder_paths.specs.Names.{names_of, utf8_name}
+use Rattle.rz_folder.specs.Names.{names_of, utf8_name}
 use Rattle.rz_tools_work.proofs.include.include_resources.Goals as goal
 
 pub file_of_name-requires : goal.file_of_name-requires

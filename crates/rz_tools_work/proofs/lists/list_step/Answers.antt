@@ -5,15 +5,15 @@ use Rattle.rz_stmt_lists.specs.Delete.{delete_of}
 use Rattle.rz_stmt_lists.specs.Lists.{list_of, Includes, Reads}
 use Rattle.rz_stmt_lists.specs.declared.lists.ListStmt.{ListStmt}
 use Rattle.rz_core.specs.Stop.{IsReadFault, left, Yields}
-use Rattle.rz_folder_paths.proofs.Found.{if_some}
+use Rattle.rz_folder.proofs.Found.{if_some}
 use Rattle.rz_tools_values.specs.Around.{around}
 use Rattle.rz_tools_work.specs.Change.{list_changing, list_deleting}
 use Rattle.rz_tools_work.specs.Lists.{list_after}
 use Rattle.rz_tools_values.proofs.Calls.{reads_nothing}
 use Rattle.rz_tools_work.proofs.Calls.{halted_refuses, halted_unread, went_as}
 use Rattle.rz_folder.specs.MayRead.{MayRead}
-use Rattle.rz_folder_paths.specs.Names.{LooksFor}
-use Rattle.rz_folder_paths.proofs.Looking.{may_look}
+use Rattle.rz_folder.specs.Names.{LooksFor}
+use Rattle.rz_folder.proofs.Looking.{may_look}
 use Rattle.rz_stmt_lists.specs.Include.{include_of}
 use Rattle.rz_stmt_lists.specs.Read.{read_of}
 use Rattle.rz_tools_work.specs.Asked.{ListAsks}

@@ -7,14 +7,14 @@ use Rattle.rz_core.specs.declared.resource.Resource.{Resource}
 use Rattle.rz_core.specs.declared.stop.Halt.TheVariants.{Refused}
 use Rattle.rz_stmt_data.specs.Head.{head_of}
 use Rattle.rz_core.specs.Stop.{IsReadFault, Yields}
-use Rattle.rz_folder_paths.proofs.Found.{if_some}
+use Rattle.rz_folder.proofs.Found.{if_some}
 use Rattle.rz_tools_values.specs.Contents.{short_bytes, with_bytes}
 use Rattle.rz_tools_values.specs.Files.{file_named}
 use Rattle.rz_tools_values.specs.Head.{facts_of}
 use Rattle.rz_tools_work.specs.Read.{contents_named, with_file}
 use Rattle.rz_tools_values.proofs.Calls.{reads_nothing, refuses_so, stop_unread, yields_halt, yields_on, yields_stop}
 use Rattle.rz_folder.specs.MayRead.{IsOneOf, MayRead}
-use Rattle.rz_folder_paths.specs.Names.{names_of, utf8_name}
+use Rattle.rz_folder.specs.Names.{names_of, utf8_name}
 use Rattle.rz_tools_work.proofs.read.resource_read.Goals as goal
 
 pub file_named-requires : goal.file_named-requires

@@ -1,5 +1,5 @@
 use Rattle.std.proofs.Common.{[], Ok, refl, sym, subst, ◌∙◌}
-use Rattle.rz_list.specs.Held.{text_of}
+use Rattle.rz_told.specs.Held.{text_of}
 use Rattle.rz_tools_text.specs.Chosen.{chosen}
 use Rattle.rz_tools_text.specs.Held.{known_of}
 use Rattle.rz_tools.specs.Held.{making_with}

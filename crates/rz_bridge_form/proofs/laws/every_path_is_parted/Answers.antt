@@ -1,5 +1,0 @@
-use Rattle.rz_bridge_form.proofs.EveryPath.{every_parting}
-use Rattle.rz_bridge_form.proofs.laws.every_path_is_parted.Goals as goal
-
-pub returns : goal.returns
-returns c = every_parting

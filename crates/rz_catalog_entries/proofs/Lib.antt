@@ -1,4 +1,0 @@
-pub mod Chunks
-pub mod Parts
-pub mod Decides
-pub mod Answered

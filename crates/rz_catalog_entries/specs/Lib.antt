@@ -1,4 +1,0 @@
-pub mod InOrder
-pub mod Entries
-pub mod Read
-pub mod Stored

@@ -1,3 +1,0 @@
-pub mod Regrouped
-pub mod Read
-pub mod Again

@@ -1,4 +1,0 @@
-pub mod Found
-pub mod Named
-pub mod Looking
-pub mod Present

@@ -1,5 +1,0 @@
-use Rattle.rz_fork_laws.proofs.Grouped.{admitted_grouped}
-use Rattle.rz_fork_laws.proofs.laws.admitted_lists_are_grouped.Goals as goal
-
-pub returns : goal.returns
-returns c = admitted_grouped

@@ -1,5 +1,0 @@
-use Rattle.rz_fork_laws.proofs.Again.{fork_again}
-use Rattle.rz_fork_laws.proofs.laws.grouping_changes_no_fork.Goals as goal
-
-pub returns : goal.returns
-returns c = fork_again

@@ -1,5 +1,0 @@
-use Rattle.rz_fork_laws.proofs.Image.{fork_bytes}
-use Rattle.rz_fork_laws.proofs.laws.written_forks_are_bytes.Goals as goal
-
-pub returns : goal.returns
-returns c = fork_bytes

@@ -1,5 +1,0 @@
-use Rattle.rz_fork_laws.proofs.Again.{admitted_again}
-use Rattle.rz_fork_laws.proofs.laws.written_forks_are_of_their_lists.Goals as goal
-
-pub returns : goal.returns
-returns c = admitted_again

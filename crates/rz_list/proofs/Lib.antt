@@ -1,4 +1,0 @@
-pub mod Putting
-pub mod Sizes
-pub mod Parted
-pub mod Dates

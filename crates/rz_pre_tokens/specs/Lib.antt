@@ -1,3 +1,0 @@
-pub mod Piece
-pub mod Store
-pub mod Reader

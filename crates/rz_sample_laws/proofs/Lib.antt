@@ -1,9 +1,0 @@
-pub mod Told
-pub mod Lines
-pub mod TypeLine
-pub mod Declares
-pub mod Image
-pub mod Reading
-pub mod Statements
-pub mod Sampled
-pub mod Answered

@@ -1,5 +1,0 @@
-use Rattle.rz_show_lines_laws.proofs.CutLines.{cut_lines}
-use Rattle.rz_show_lines_laws.proofs.laws.printed_lines.Goals as goal
-
-pub returns : goal.returns
-returns c = cut_lines c.printed_line.ensures

@@ -1,0 +1,7 @@
+pub mod Left
+pub mod BreaksText
+pub mod Date
+pub mod Text
+pub mod Parts
+pub mod Puts
+pub mod Held

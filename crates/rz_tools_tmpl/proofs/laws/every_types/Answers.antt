@@ -1,5 +1,0 @@
-use Rattle.rz_tools_tmpl.proofs.Files.{has_of}
-use Rattle.rz_tools_tmpl.proofs.laws.every_types.Goals as goal
-
-pub returns : goal.returns
-returns c = has_of c.every_tmpl_has_a_body.ensures

@@ -1,5 +1,0 @@
-use Rattle.rz_tools_tmpl.proofs.Files.{once_of}
-use Rattle.rz_tools_tmpl.proofs.laws.one_types.Goals as goal
-
-pub returns : goal.returns
-returns c = once_of c.one_body.ensures

@@ -1,4 +1,0 @@
-use Rattle.rz_tools_tmpl.proofs.templates.templates_in.Goals as goal
-
-pub returns-clause-nameable : goal.returns-clause-nameable
-returns-clause-nameable c files = c.in-Err.ensures.nameable files tt

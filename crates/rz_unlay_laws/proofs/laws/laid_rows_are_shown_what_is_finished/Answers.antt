@@ -1,5 +1,0 @@
-use Rattle.rz_unlay_laws.proofs.Showing.{shown_so}
-use Rattle.rz_unlay_laws.proofs.laws.laid_rows_are_shown_what_is_finished.Goals as goal
-
-pub returns : goal.returns
-returns c = shown_so

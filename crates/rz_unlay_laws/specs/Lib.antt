@@ -1,3 +1,0 @@
-pub mod Inverse
-pub mod Placed
-pub mod Shown
