@@ -16,7 +16,7 @@ from casefile import Book
 from fork_cases import SHAPES
 from model.breaks import breaks, text_of
 from model.faults import Refused
-from model.fork import image, number
+from model.fork import admitted, image, number
 from model.fork_shapes import ABSENT, each, held, laid, named, reference
 from model.forms import File, double, form_of, hqx, macbin, read_form, single, written
 
@@ -57,18 +57,30 @@ RULES = [
 HIDES = {0: {6}, 1: set(range(3, 10)), 2: set(range(3, 10)), 3: set(range(4, 10)), 4: set(range(5, 10))}
 
 
+def told(data):
+    """What is told of a fork. The first broken rule is that of casefile.admitted."""
+    try:
+        admitted(data)
+        first = None
+    except Refused as refused:
+        first = refused.args
+    faults = breaks(data)
+    assert (faults[0] if faults else None) == first, (faults[:1], first)
+    return faults
+
+
 def case(name, data, *lines, words=None, file=None):
     """A case of a fork, as a file of its own unless another is given. Where lines stand by hand, they have to be what the
     second reading tells."""
     words = words or ("det f" if file is not None or form_of(data) == "raw" else "det f -from raw")
-    text = text_of(breaks(data))
+    text = text_of(told(data))
     assert not lines or text == "".join(line + "\n" for line in lines) + "broken %d\n" % len(lines), (name, text)
     BOOK.case(name, words, [("f", data if file is None else file)], out=text)
 
 
 def sound(name, data):
     """A case of a fork that is admitted."""
-    assert not breaks(data), (name, breaks(data)[:3])
+    assert not told(data), (name, told(data)[:3])
     case(name, data)
 
 
@@ -81,7 +93,7 @@ def pairs():
     for (one, (first, change, line)), (other, (second, more, behind)) in itertools.combinations(enumerate(RULES), 2):
         both = put(BASE, change, more)
         numbers = [int(line[:3])] + [int(behind[:3])] * (other not in HIDES.get(one, ()))
-        assert [fault[0] for fault in breaks(both)] == numbers, (first, second, breaks(both))
+        assert [fault[0] for fault in told(both)] == numbers, (first, second, told(both))
         case("%s and %s" % (first, second), both)
     case("all that can be broken at once", put(BASE, (8, "0000FFFF"), (307, "0100"), *(change for _, change, _ in RULES[6:])))
     case("the header alone, of zeros", bytes(16), "404 ShortMap offset 12 value 0")
@@ -253,7 +265,7 @@ def hundred():
     BOOK.say("A hundred faults, each rule in the order of the map, and one list in the midst that is broken.")
     types = [("T%03d" % (k % 7), [reference(j % 3, 40 + k, 30 * j) for j in range(4 + k % 3)]) for k in range(10)]
     data = put(laid(*each(*types), held(b"\1\2"), named(b"name")), (262 + 28 + 2 + 8 * 4 + 6, "FF00"))
-    assert len(breaks(data)) == 100, len(breaks(data))
+    assert len(told(data)) == 100, len(told(data))
     case("a hundred faults", data)
 
 
@@ -272,7 +284,7 @@ def files():
     case("MacBinary as a raw fork", macbin(file), words="det f -from raw", file=macbin(file))
     case("AppleDouble as a raw fork", double(file), words="det f -from raw", file=double(file))
     case("a text as a raw fork", b"data 'Test' (128) { };\n", words="det f -from raw")
-    BOOK.case("a data file beside AppleDouble is left alone", "det ._f", [("._f", double(file)), ("f", "text\n")], out=text_of(breaks(broken)))
+    BOOK.case("a data file beside AppleDouble is left alone", "det ._f", [("._f", double(file)), ("f", "text\n")], out=text_of(told(broken)))
     BOOK.say("What can't be told.")
 
     def refused(name, words, says, data=None):
@@ -395,7 +407,7 @@ def mutated():
         for made in range(count):
             least = 0 if made % 10 == 0 else 1 + made % 2
             data = changes.changed(kind)
-            while data in seen or len(breaks(data)) < least:
+            while data in seen or len(told(data)) < least:
                 data = changes.changed(kind)
             seen.add(data)
             case("the fork %d: %s" % (len(seen), kind), data)

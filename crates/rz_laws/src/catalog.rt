@@ -13,8 +13,8 @@ ghost use Rattle.rz_types_table.specs.Table.{Declaration};
 use rz_catalog::one_application;
 use rz_unlay::{one_tree, trees_are_decided};
 
-/// A law, with nothing to run: entries for some resources and then entries for others give the list that all of them
-/// give at once; where one of the two ways is refused, so is the other.
+/// A law, with nothing to run: entries for some resources and then entries for others give exactly the list that all of
+/// them give at once.
 pub fn apart_catalogues_are_both_at_once()
     ensures { (types : List Declaration) (moment : Moment) (over : Bool) (list new : List Resource) (entries others : List Entry)
         → AreApart entries others

@@ -28,7 +28,7 @@ pub fn written_forks_are_of_their_lists()
         → (fork : Fork) × (admitted bytes ≡ Ok fork) × (fork.list ≡ grouped list) × (fork_of fork.list attributes reserved ≡ Ok bytes) }
 {}
 
-/// A law, with nothing to run: the fork of resources that a fork can hold is bytes.
+/// A law, with nothing to run: the fork of resources that a fork can hold, with bytes as its reserved ones, is bytes.
 pub fn written_forks_are_bytes()
     ensures { (list : List Resource) (attributes : ℕ) (reserved bytes : List ℕ) → AllByRecursion FitsFork list → AreBytes reserved
         → fork_of list attributes reserved ≡ Ok bytes → AreBytes bytes }

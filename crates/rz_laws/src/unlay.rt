@@ -52,11 +52,11 @@ pub fn rows_and_bytes_are_inverse()
     plain_rows_are_read();
 }
 
-/// A law, with nothing to run: a row spells bytes exactly if there is a list of its pieces, each at the place where the one
-/// before it ended, with the bits that it has there by the finished names of its body.
+/// A law, with nothing to run: a row spells bytes, at most 16,777,212 of them, exactly if there is a list of its pieces, each
+/// at the place where the one before it ended, with the bits that it has there by the finished names of its body.
 ///
 /// The pieces are those of the fields, in order. All bits are theirs, but for zero bits to a whole byte. A number among them is
-/// late if its expression names a label that stands after it, or reads bits of a late number before it; no text is late. And a
+/// late if its expression names a label that stands after it, or reads bits of a late number before it; no text has such an expression. And a
 /// row spells bytes plainly exactly if there is such a list of plain pieces, and it has at most 1,048,576 values.
 pub fn rows_are_placed_pieces()
     ensures spelled { (known : Facts) (body : PlainBody) (row : List Tree) (bytes : List ℕ)
