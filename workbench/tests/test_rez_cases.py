@@ -2,10 +2,20 @@
 import glob
 import os
 import random
+import re
 
 import run_cases
 from model.case_reader import read_cases
 from rez_running import TOP, run
+
+
+def is_mended(part):
+    """Whether Rez answers a case otherwise by design: it leaves out `#pragma` and `#printf`, which rezkit refuses, and finds a
+    file by its name in whatever case."""
+    missing = re.search(r'MissingFile: "(.*)"', part)
+    names = re.findall(r"\nfile \S+ (.*)", part)
+    return bool(re.search(r"(?i)#\s*(pragma|printf)\b", part)
+                or missing and missing[1].lower() in [name.lower() for name in names])
 
 
 def some_cases():
@@ -15,7 +25,7 @@ def some_cases():
         with open(path, encoding="utf-8") as file:
             parts = file.read().split("\ncase ")
         for part in parts[1:]:
-            if chance.random() < 1 / 40 and ("\nwords rez " in part or "\nwords derez " in part):
+            if chance.random() < 1 / 40 and re.search(r"\nwords (de)?rez ", part) and not is_mended(part):
                 case = read_cases("case " + part + "\n")[0]
                 if case.status != 1 and not case.wrong and not run_cases.apart(case):
                     yield case
