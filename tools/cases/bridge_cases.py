@@ -1,14 +1,7 @@
-#!/usr/bin/env python3
 """Writes bridge.cases: `bridge`, and the forms of `rez` and `derez`, by the layouts of docs/FORMATS.md alone.
 
-    python3 tools/cases/bridge_cases.py [--check]
-
-It knows nothing of the code; the forms are written by forms.py. With --check nothing is written, and the status is 1
-where the file would change.
+It knows nothing of the code; the forms are written by forms.py.
 """
-import sys
-
-import top  # noqa: F401
 from casefile import Book
 from model.fork import image
 from model.forms import File, crc, dated, double, hqx, macbin, runs, single
@@ -36,6 +29,7 @@ def refused(name, words, says, files=(), gone=("x",)):
     case(name, words, files, gone=gone, status=2, err="rezkit: error %s\n" % says)
 
 
+@BOOK.part()
 def checks():
     """What is known of these forms from elsewhere."""
     assert len(ONE) == 312 and ONE[:16].hex() == "00000100000001060000000600000032", ONE[:16].hex()
@@ -44,8 +38,8 @@ def checks():
     assert len(dated(APP)) == 394 and len(double(APP)) == 422 and len(macbin(APP.but(name=b"App.bin"))) == 512 and len(macbin(N)) == 256
 
 
+@BOOK.part("From one form to another.")
 def from_form_to_form():
-    BOOK.say("From one form to another.")
     case("a fork as BinHex", "bridge one.rsrc -to hqx -o One", [("one.rsrc", ONE)],
          leaves=[("One", hqx(RAW.but(name=b"One")))])
     case("BinHex as a fork", "bridge One -to raw -o back", [("One", hqx(RAW.but(name=b"One")))], leaves=[("back", ONE)])
@@ -98,8 +92,8 @@ def from_form_to_form():
          leaves=[("one.rsrc", hqx(RAW.but(name=b"one.rsrc")))])
 
 
+@BOOK.part("What -to double does to the file that has the data file's name: it is written first, without asking.")
 def data_files():
-    BOOK.say("What -to double does to the file that has the data file's name: it is written first, without asking.")
     both = macbin(T.but(name=b"App"))
     header = double(T.but(name=b"App"))
     case("the data file is the file that is read", "bridge App -to double -o ._App", [("App", both)],
@@ -132,8 +126,33 @@ def turned():
     return bytes(data), "0 %d %d" % (crc(macbin(N)[:124]), crc(bytes(data[:124])))
 
 
+@BOOK.part("Dates of AppleDouble.")
+def dates():
+    first, last = T.but(created=882045953, modified=4294967295), T.but(created=3029529599, modified=3029529600)
+    for name, file in [("at both ends", first), ("on both sides of 2000", last)]:
+        case("dates " + name, "bridge T.bin -to double -o ._T", [("T.bin", macbin(file))],
+             leaves=[("T", b"a"), ("._T", double(file))])
+        case("dates %s, read" % name, "bridge ._T -to macbin -o again.bin", [("._T", double(file)), ("T", b"a")],
+             leaves=[("again.bin", macbin(file.but(locked=False)))])
+    early = T.but(created=882045952, modified=1)
+    case("dates that are too early are written as none", "bridge T.bin -to double -o ._T", [("T.bin", macbin(early))],
+         leaves=[("T", b"a"), ("._T", dated(T, bytes.fromhex("80000000") * 4))])
+    end = bytes.fromhex("4b6d0bff4b6d0bff")
+    for name, stored, created, modified in [
+            ("80000000 is no date", bytes.fromhex("8000000080000001"), 0, 882045953),
+            ("a negative date", bytes.fromhex("ffffffff00000000"), 3029529599, 3029529600),
+            ("the last date and the second after it", bytes.fromhex("4b6d0bff4b6d0c00"), 4294967295, 0),
+            ("the latest stored date", bytes.fromhex("7fffffff00000001"), 0, 3029529601),
+            ("dates of 7 bytes", end[:7], 0, 0), ("dates of 8 bytes", end, 4294967295, 4294967295),
+            ("no bytes of dates", b"", 0, 0)]:
+        case("dates: " + name, "bridge ._T -to macbin -o again.bin", [("._T", dated(T, stored)), ("T", b"a")],
+             leaves=[("again.bin", macbin(T.but(locked=False, created=created, modified=modified)))])
+    case("dates: the first entry counts", "bridge ._T -to macbin -o again.bin", [("._T", dated(T, end, bytes(16)))],
+         leaves=[("again.bin", macbin(T.but(locked=False, created=4294967295, modified=4294967295, data=b"")))])
+
+
+@BOOK.part("What is refused.")
 def refusals():
-    BOOK.say("What is refused.")
     refused("no file", "bridge no -to raw -o x", '101 MissingFile: "no"')
     wrong, kept = turned()
     refused("a wrong CRC of MacBinary", "bridge n.bin -to raw -o x", "424 BadCrc: " + kept, [("n.bin", wrong)])
@@ -163,33 +182,8 @@ def refusals():
     case("nor does a file that has one", "bridge T.bin -to hqx -o 語", [("T.bin", macbin(T))], leaves=[("語", hqx(T))])
 
 
-def dates():
-    BOOK.say("Dates of AppleDouble.")
-    first, last = T.but(created=882045953, modified=4294967295), T.but(created=3029529599, modified=3029529600)
-    for name, file in [("at both ends", first), ("on both sides of 2000", last)]:
-        case("dates " + name, "bridge T.bin -to double -o ._T", [("T.bin", macbin(file))],
-             leaves=[("T", b"a"), ("._T", double(file))])
-        case("dates %s, read" % name, "bridge ._T -to macbin -o again.bin", [("._T", double(file)), ("T", b"a")],
-             leaves=[("again.bin", macbin(file.but(locked=False)))])
-    early = T.but(created=882045952, modified=1)
-    case("dates that are too early are written as none", "bridge T.bin -to double -o ._T", [("T.bin", macbin(early))],
-         leaves=[("T", b"a"), ("._T", dated(T, bytes.fromhex("80000000") * 4))])
-    end = bytes.fromhex("4b6d0bff4b6d0bff")
-    for name, stored, created, modified in [
-            ("80000000 is no date", bytes.fromhex("8000000080000001"), 0, 882045953),
-            ("a negative date", bytes.fromhex("ffffffff00000000"), 3029529599, 3029529600),
-            ("the last date and the second after it", bytes.fromhex("4b6d0bff4b6d0c00"), 4294967295, 0),
-            ("the latest stored date", bytes.fromhex("7fffffff00000001"), 0, 3029529601),
-            ("dates of 7 bytes", end[:7], 0, 0), ("dates of 8 bytes", end, 4294967295, 4294967295),
-            ("no bytes of dates", b"", 0, 0)]:
-        case("dates: " + name, "bridge ._T -to macbin -o again.bin", [("._T", dated(T, stored)), ("T", b"a")],
-             leaves=[("again.bin", macbin(T.but(locked=False, created=created, modified=modified)))])
-    case("dates: the first entry counts", "bridge ._T -to macbin -o again.bin", [("._T", dated(T, end, bytes(16)))],
-         leaves=[("again.bin", macbin(T.but(locked=False, created=4294967295, modified=4294967295, data=b"")))])
-
-
+@BOOK.part("Words.")
 def words():
-    BOOK.say("Words.")
     for name, given, position in [
             ("no file", "bridge", 2), ("no form", "bridge a -o b", 5), ("no name", "bridge a -to raw", 5),
             ("neither", "bridge a", 3),
@@ -204,8 +198,8 @@ def words():
         case("words: " + name, given, status=1, err="rezkit: usage: word %d\n" % position)
 
 
+@BOOK.part("Forms of derez and rez.")
 def rez_and_derez():
-    BOOK.say("Forms of derez and rez.")
     for name, given, data in [
             ("MacBinary", "derez f", macbin(T)), ("BinHex", "derez f", hqx(T)), ("AppleDouble", "derez f", double(T)),
             ("AppleSingle", "derez f", single(T)), ("AppleSingle that is given", "derez f -from single", single(T)),
@@ -226,14 +220,3 @@ def rez_and_derez():
     refused("rez refuses a name that Mac Roman hasn't", "rez one.r -form double -o 語", "425 BadName: 1", SOURCE, ("語",))
     refused("rez refuses a name of 64 bytes", "rez one.r -form hqx -o " + LONG, "425 BadName: 64", SOURCE, (LONG,))
     case("Rez.Out is a name too", "rez one.r -form macbin", SOURCE, leaves=[("Rez.Out", macbin(new.but(name=b"Rez.Out")))])
-
-
-if __name__ == "__main__":
-    checks()
-    from_form_to_form()
-    data_files()
-    dates()
-    refusals()
-    words()
-    rez_and_derez()
-    sys.exit(0 if BOOK.finish() else 1)

@@ -1,17 +1,12 @@
-#!/usr/bin/env python3
 """Writes carried.cases: files from each form to each form, and all that AppleDouble, AppleSingle and MacBinary may
 have.
 
-    python3 tools/cases/carried_cases.py [--check]
-
 What is read stands here by hand: as a file, or by what_is_kept, the table of docs/FORMATS.md that says what a form
 carries; and each fault as its message. The readers of forms.py have to come to the same, and its writers give the
-bytes. With --check nothing is written, and the status is 1 where the file would change.
+bytes.
 """
 import struct
-import sys
 
-import top  # noqa: F401
 from casefile import Book
 from model.faults import Refused
 from model.forms import (FIRST_DATE, MAGICS, MOST, File, crc, dated, entries_of, form_of, hqx, macbin, parts_of,
@@ -36,7 +31,7 @@ ROW_DOUBLE = bytes.fromhex(
     "00051607 00020000" + "00" * 16 + "0004" "00000003 0000004A 00000001 00000008 0000004B 00000010"
     "00000009 0000005B 00000020 00000002 0000007B 00000000"
     "61 00000000 4B6D0BFF 80000000 80000000 3F3F3F3F 3F3F3F3F" + "00" * 24)
-NAMED = set()
+case = BOOK.case
 
 
 def what_is_kept(form, f):
@@ -61,12 +56,6 @@ def told(held, form=None):
     form = form or form_of(held[0][1])
     file = read_form(form, held[0][1])
     return file.but(data=held[1][1]) if form == "double" and held[1:] else file
-
-
-def case(name, *rest, **more):
-    assert name not in NAMED, name
-    NAMED.add(name)
-    BOOK.case(name, *rest, **more)
 
 
 def words_of(held, to, form):
@@ -98,6 +87,7 @@ def laid(form, entries, body=b"", version=0x00020000, filler=bytes(16), count=No
             + b"".join(struct.pack(">III", *each) for each in entries) + body)
 
 
+@BOOK.part()
 def checks():
     """What is known of these forms from elsewhere."""
     assert single(ROW) == ROW_SINGLE and len(ROW_SINGLE) == 136
@@ -106,6 +96,7 @@ def checks():
     assert stored[102:106].hex() == "6d42494e" and stored[122:124].hex() == "8281"
 
 
+@BOOK.part()
 def each_to_each():
     empty = FULL.but(data=b"", res=b"")
     for what, file in [("", FULL), ("without a fork, ", empty)]:
@@ -115,8 +106,9 @@ def each_to_each():
                 carry("%s%s to %s" % (what, SPOKEN[form], SPOKEN[to]), files_of(form, file), what_is_kept(form, file), to)
 
 
+@BOOK.part("Dates, created and modified: the first and the last that AppleDouble and AppleSingle have, those beside "
+           "them, and both sides of 2000.")
 def dates():
-    BOOK.say("Dates, created and modified: the first and the last that AppleDouble and AppleSingle have, those beside them, and both sides of 2000.")
     for form in DATED:
         for to in DATED:
             for created, modified in [(882045952, 882045953), (882045953, 882045952), (3029529599, 3029529600),
@@ -135,8 +127,8 @@ def dates():
               early.but(locked=False, created=0, modified=0))
 
 
+@BOOK.part("What stands in the entry of the dates.")
 def stored_dates():
-    BOOK.say("What stands in the entry of the dates.")
     file = FULL.but(locked=False, data=b"")
     end, ones = bytes.fromhex("4B6D0BFF4B6D0BFE"), bytes.fromhex("0000000100000002")
     rest = b"copied and read!"
@@ -160,8 +152,9 @@ def stored_dates():
               file.but(created=0, modified=0))
 
 
+@BOOK.part("Names: AppleDouble and AppleSingle have up to 255 bytes, MacBinary and BinHex 1 to 63, and a file without "
+           "one takes one.")
 def names():
-    BOOK.say("Names: AppleDouble and AppleSingle have up to 255 bytes, MacBinary and BinHex 1 to 63, and a file without one takes one.")
     for form in MAGICS:
         for length, kept in [(0, 0), (1, 1), (63, 63), (64, 64), (255, 255), (256, 255), (300, 255)]:
             file = FULL.but(name=b"", locked=False, data=b"")
@@ -206,8 +199,8 @@ def again(data, *changes):
     return bytes(data)
 
 
+@BOOK.part("The script and the further flags of MacBinary III, which are bytes 8 and 9 of the 16 further bytes.")
 def scripts():
-    BOOK.say("The script and the further flags of MacBinary III, which are bytes 8 and 9 of the 16 further bytes.")
     for script, more in [(0, 0), (1, 0), (0, 0x80), (255, 255), (0x84, 0x40)]:
         two = bytes([script, more])
         file = FULL.but(extra=bytes(8) + two + bytes(6))
@@ -237,8 +230,8 @@ def scripts():
             carry("byte %d of the further ones, %s to MacBinary" % (place, SPOKEN[form]), files_of(form, file), file)
 
 
+@BOOK.part("Entries in any order, twice, over one another, and of other ids.")
 def orders():
-    BOOK.say("Entries in any order, twice, over one another, and of other ids.")
     whole = FULL.but(locked=False)
     for form in MAGICS:
         spoken, data = SPOKEN[form], b"data fork" if form == "single" else b""
@@ -293,8 +286,8 @@ def shared(form, spoken):
     entries("a name of no bytes after the end, and then a name", [(3, 9999, 0), (3, 50, 1)], BARE, b"n")
 
 
+@BOOK.part("Entries that end after the file, and entries that are cut: the first in the order of the entries is told.")
 def cuts():
-    BOOK.say("Entries that end after the file, and entries that are cut: the first in the order of the entries is told.")
     for form in MAGICS:
         spoken, parts = SPOKEN[form], parts_of(form, FULL)
         whole = entries_of(form, parts)
@@ -324,8 +317,8 @@ def cuts():
         refused("a second entry of an id outside", laid(form, [(3, 50, 1), (3, 50, 2)], b"n"), "423 EntryOutside: 3")
 
 
+@BOOK.part("Entry 1 is the data fork of AppleSingle, and AppleDouble has it in a file of its own.")
 def first_entries():
-    BOOK.say("Entry 1 is the data fork of AppleSingle, and AppleDouble has it in a file of its own.")
     parts = [(1, b"an entry"), (2, b"\0\1")]
     read = BARE.but(res=b"\0\1")
     carry("AppleDouble with an entry 1 and a data file", [("._f", entries_of("double", parts)), ("f", b"a file")], read.but(data=b"a file"))
@@ -343,8 +336,8 @@ def first_entries():
          [("._f", written("double", FULL)), ("f", b"a file")], leaves=[("f", single(FULL.but(data=b"a file")))])
 
 
+@BOOK.part("Two files whose bytes stand in tools/cases/carried_cases.py by hand.")
 def rows():
-    BOOK.say("Two files whose bytes stand in tools/cases/carried_cases.py by hand.")
     for to, data in [("single", ROW_SINGLE), ("double", ROW_DOUBLE)]:
         case("a file of two dates as %s" % SPOKEN[to], "bridge a.bin -to %s -o a" % to, [("a.bin", macbin(ROW))],
              leaves=[("a", data)] + [("a.data", b"\0")] * (to == "double"))
@@ -352,8 +345,8 @@ def rows():
     carry("and back from AppleDouble", [("a", ROW_DOUBLE), ("a.data", b"\0")], ROW)
 
 
+@BOOK.part("Each form read as each other one.")
 def given_forms():
-    BOOK.say("Each form read as each other one.")
     short = FULL.but(name=b"f", data=b"")
     bad = {("raw", "macbin"): "421 ShortHeader: 5", ("raw", "double"): "421 ShortHeader: 5", ("raw", "single"): "421 ShortHeader: 5",
            ("raw", "hqx"): "441 NoStart: 0", ("double", "single"): "422 BadMagic: 333319", ("double", "macbin"): "422 BadMagic: 102",
@@ -383,8 +376,8 @@ def given_forms():
     carry("and is read as what it is", held, named, "hqx", "macbin")
 
 
+@BOOK.part("What AppleSingle is refused for, the first rule that is broken.")
 def refusals():
-    BOOK.say("What AppleSingle is refused for, the first rule that is broken.")
 
     def refused(name, data, says, form=None):
         refuse("AppleSingle: " + name, [("f", data)], says, form=form)
@@ -407,10 +400,3 @@ def refusals():
          err="rezkit: read fault\n")
     case("AppleSingle: the file can't be written", "bridge f -to single -o x", [("f", whole)], ["fail folder 2"], status=3, gone=["x"],
          err="rezkit: write fault\n")
-
-
-if __name__ == "__main__":
-    checks()
-    for part in (each_to_each, dates, stored_dates, names, scripts, orders, cuts, first_entries, rows, given_forms, refusals):
-        part()
-    sys.exit(0 if BOOK.finish() else 1)

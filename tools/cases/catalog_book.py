@@ -1,5 +1,4 @@
 """The cases of catalogues, and resources that many of them have. catalog_cases.py writes them."""
-import top  # noqa: F401
 from casefile import Book
 from model.catalogues import entry_text, message, restring, strings
 from model.faults import Refused
@@ -8,7 +7,6 @@ from model.fork import admitted, image
 
 BOOK = Book("catalog.cases", "Catalogues of texts by `strings`, and texts put back by `restring`.",
             "Written by tools/cases/catalog_cases.py, by the second reading of tools/model/catalogues.py.")
-NAMED = set()
 LIST = "type 'STR#' { integer = $$CountOf(Strings); array Strings { pstring; }; };\n"
 
 
@@ -28,8 +26,6 @@ FORK = image([TWO])
 
 
 def case(name, words, files, keys=(), **more):
-    assert name not in NAMED, name
-    NAMED.add(name)
     BOOK.case(name, words, list(files.items()), keys, **more)
 
 

@@ -1,25 +1,19 @@
-#!/usr/bin/env python3
 """Writes catalog.cases: catalogues of texts by `strings`, and texts put back by `restring`.
-
-    python3 tools/cases/catalog_cases.py [--check]
 
 What comes is told by catalogues.py, a second reading of docs/LANGUAGE.md. Beside it stand by hand each line of `err`,
 the bytes of resources by rows that are known from elsewhere, the stored form of each text, and the texts of each row.
-With --check nothing is written, and the status is 1 where the file would change.
 """
 import itertools
-import sys
 
-import top  # noqa: F401
 from catalog_book import BOOK, FORK, LIST, TWO, case, entry, listed, put, resource, texts_of, told
-from catalog_texts import SIZE, application, long_texts, orders, rows, shapes, texts
+from catalog_texts import SIZE
 from model.case_lines import spelled
 from model.case_reader import read_cases
 from model.catalogues import message, restring, strings
 from model.faults import Refused
 from model.fork import fork_of, image
 from model.fork_shapes import each, held, laid, named, reference
-from model.forms import MAGICS, File, form_of, single, written
+from model.forms import FORMS, MAGICS, File, form_of, single, written
 
 
 # A catalogue as tokens.
@@ -29,8 +23,8 @@ FIVE = [resource("STR#", -5, texts_of(b"A", b"BC")), resource("STR#", 5, texts_o
 BAD = "c:1: error 461 BadEntry"
 
 
+@BOOK.part("A catalogue that is cut at each token, and one with other tokens.")
 def tokens():
-    BOOK.say("A catalogue that is cut at each token, and one with other tokens.")
     for count in range(len(TOKENS) + 1):
         err = "" if count in (0, len(TOKENS)) else BAD
         put("cut: %d tokens" % count, LIST, FIVE, " ".join(TOKENS[:count]), err=err)
@@ -46,8 +40,8 @@ def tokens():
         put("token %d is %s" % (at, other), LIST, FIVE, " ".join(given), err=BAD)
 
 
+@BOOK.part("Ids and leaves.")
 def numbers():
-    BOOK.say("Ids and leaves.")
     ends = [resource("STR#", -32768, texts_of(b"A")), resource("STR#", 32767, texts_of(b"B")), resource("STR#", 0, texts_of(b"C"))]
     for text, err in [("32767", ""), ("-32768", ""), ("- 32768", ""), ("-0", ""), ("0", ""), ("0x7FFF", ""), ("$7fff", ""), ("077777", ""),
                       ("0b0", ""), ("-0x8000", ""), ("32768", BAD), ("-32769",
@@ -95,8 +89,8 @@ LINES = {
 }
 
 
+@BOOK.part("Lines, comments, texts and wrong tokens of a catalogue.")
 def lines():
-    BOOK.say("Lines, comments, texts and wrong tokens of a catalogue.")
     for name, (text, err) in LINES.items():
         put("lines: " + name, LIST, [TWO], text, err=err)
     own = "'STR#' 128 0\n    \"new\";\n\n'STR#' 128 1\n    \"text\"\n    \"s\";\n'STR#' 9 0 \"\";\n"
@@ -126,7 +120,6 @@ def lines():
 
 FULL = File(name=b"File", kind=b"TEXT", creator=b"ttxt", flags=0x8123, vertical=-2, horizontal=3, folder=-4, extra=bytes(range(1, 17)),
             locked=True, created=3000000000, modified=3000000001, data=b"data fork")
-OTHERS = ("raw", "double", "single", "macbin", "hqx")
 HELLO = "'STR#' 128 0 \"Hello\";"
 
 
@@ -139,15 +132,15 @@ def wrong_form(form, data):
         return message(fault)
 
 
+@BOOK.part("Files of each form, as they are found and as they are named.")
 def forms():
-    BOOK.say("Files of each form, as they are found and as they are named.")
-    for form in OTHERS:
+    for form in FORMS:
         file = written(form, FULL.but(res=FORK))
         assert form_of(file) == form
         listed("found: " + form, LIST, file)
         put("found: " + form, LIST, file, HELLO)
         put("found, 1 day later: " + form, LIST, file, HELLO, moment=86400)
-        for other in OTHERS:
+        for other in FORMS:
             err = wrong_form(other, file)
             assert (err == "") == (form == other), (form, other, err)
             listed("%s as %s" % (form, other), LIST, file, words="strings f t.r -from " + other, err=err)
@@ -172,8 +165,8 @@ def forms():
     put("no type files, and an entry", None, [TWO], HELLO, words="restring f c", err="c:1: error 462 NoLeaf: 'STR#' 128")
 
 
+@BOOK.part("What is written, and over what.")
 def outputs():
-    BOOK.say("What is written, and over what.")
     put("Rez.Out", LIST, [TWO], HELLO, words="restring f c t.r")
     put("over the fork", LIST, [TWO], HELLO, words="restring f c t.r -o f")
     put("over the catalogue", LIST, [TWO], HELLO, words="restring f c t.r -o c")
@@ -190,8 +183,8 @@ def outputs():
 
 # Type files.
 
+@BOOK.part("Type files: declarations again.")
 def types():
-    BOOK.say("Type files: declarations again.")
     pair = LIST + "type 'STR#' (128) { string; };\n"
     warned = "rezkit: t.r:2: warning 240 Redeclared: 'STR#' 0\n"
     again = LIST + "type 'STR#' { string; };\n"
@@ -203,8 +196,8 @@ def types():
     put("a warning before the line of a fault", again, [TWO], "@", warned=warned, err="c:1: error 111 BadCharacter: 64")
 
 
+@BOOK.part("Type files: macros, paths, and several of them.")
 def macros():
-    BOOK.say("Type files: macros, paths, and several of them.")
     button = "type 'Case' { switch { case Button: key byte = 1; pstring; }; };\n"
     held = [resource("Case", 1, "01 0161")]
     for name, text in (("", button), (" that is a macro", button + "#define Button 3\n")):
@@ -257,8 +250,28 @@ def without(files):
     return {name: held for name, held in files.items() if held is not None}
 
 
+@BOOK.part("Types that a file of templates declares.")
+def templates():
+    files, own = {"f": FORK, "T": image([TEMPLATE])}, entry("STR#", 128, 0, b"A") + entry("STR#", 128, 1, b"BC")
+    changed = {**files, "c": HELLO}
+    after = image([resource("STR#", 128, texts_of(b"Hello", b"BC"))])
+    case("templates: listed", "strings f -tmpl T", files, out=own)
+    case("templates: put", "restring f c -tmpl T -o x", changed, leaves=[("x", after)])
+    again = "type 'STR#' { integer; pstring; cstring; };\n"
+    warned = "rezkit: t.r:1: warning 240 Redeclared: 'STR#' 0\n"
+    case("templates: declared again", "restring f c t.r -tmpl T -o x", {**changed, "t.r": again}, status=2, gone=["x"],
+         err=warned + "rezkit: c:1: error 462 NoLeaf: 'STR#' 128\n")
+    case("templates: declared again with -rd", "strings f t.r -tmpl T -rd", {**files, "t.r": again})
+    case("templates: no file", "strings f -tmpl U", files, status=2, err='rezkit: error 101 MissingFile: "U"\n')
+    case("templates: one that is broken, before a missing fork", "restring g c -tmpl T -o x", {**changed, "T": image([BROKEN])}, status=2,
+         gone=["x"], err="rezkit: error 454 CountUnpaired: 128 12\n")
+    case("templates: a wrong statement, and a missing fork", "restring g c t.r -tmpl T -o x", {**changed, "t.r": "type;"}, status=2,
+         gone=["x"],
+         err="rezkit: t.r:1: error 201 Syntax\n")
+
+
+@BOOK.part("Of two refusals the first is told.")
 def refusals():
-    BOOK.say("Of two refusals the first is told.")
     for (name, text, err), (fault, fork, _) in itertools.product(TYPE_FAULTS, FORK_FAULTS[:3] + [("a fork", FORK, "")]):
         for word in ("strings f t.r", "restring f c t.r -o x"):
             files = without({"f": fork, "t.r": text, "c": None if fork is None else "@"})
@@ -279,24 +292,8 @@ def refusals():
             words="restring f c t.r -o \u0416", err=err)
 
 
-def big():
-    BOOK.say("Resources and forks at their limits.")
-    long = fork_of([resource("Long", 1, bytes(16777213))])
-    put_read_only = int.from_bytes(long[4:8], "big") + 23
-    for name, fork in [("a long resource", long), ("a long resource in a fork that is read only",
-                                                   long[:put_read_only] + b"\x80" + long[put_read_only + 1:])]:
-        listed(name, LIST, fork, err="error 301 ResourceTooLong: 16777213")
-        put(name, LIST, fork, None, err="error 301 ResourceTooLong: 16777213")
-    most = image([resource("Long", 1, bytes(16777200)), resource("STR ", 1, "0161")])
-    limit("a data area that is too long", most, "'STR ' 1 0 \"%s\";" % ("a" * 8), "error 302 DataFull: 16777217")
-    data = single(FULL.but(data=bytes(33554433), res=image([resource("STR ", 1, "0161")])))
-    limit("a data fork that is too long", data, "'STR ' 1 0 \"b\";", "error 428 ForkTooLong: 33554433")
-    limit("a text that doesn't fit before a data fork that is too long", data, "'STR ' 1 0 \"%s\";" % ("b" * 256),
-          "c:1: error 464 TextRefused: 'STR ' 1")
-
-
+@BOOK.part("Forks whose resources share bytes and names, which are too many to be written.")
 def shared():
-    BOOK.say("Forks whose resources share bytes and names, which are too many to be written.")
     for name, count, at_name, err in [("a map that is too long", 5460, 0xFFFF, "303 MapFull: 65558"),
                                       ("names that are too long", 300, 0, "304 NamesFull: 76800")]:
         names = [] if at_name else [b"n" * 255]
@@ -311,38 +308,25 @@ def shared():
                  err="rezkit: %s\n" % line)
 
 
+@BOOK.part("Resources and forks at their limits.")
+def big():
+    long = fork_of([resource("Long", 1, bytes(16777213))])
+    put_read_only = int.from_bytes(long[4:8], "big") + 23
+    for name, fork in [("a long resource", long), ("a long resource in a fork that is read only",
+                                                   long[:put_read_only] + b"\x80" + long[put_read_only + 1:])]:
+        listed(name, LIST, fork, err="error 301 ResourceTooLong: 16777213")
+        put(name, LIST, fork, None, err="error 301 ResourceTooLong: 16777213")
+    most = image([resource("Long", 1, bytes(16777200)), resource("STR ", 1, "0161")])
+    limit("a data area that is too long", most, "'STR ' 1 0 \"%s\";" % ("a" * 8), "error 302 DataFull: 16777217")
+    data = single(FULL.but(data=bytes(33554433), res=image([resource("STR ", 1, "0161")])))
+    limit("a data fork that is too long", data, "'STR ' 1 0 \"b\";", "error 428 ForkTooLong: 33554433")
+    limit("a text that doesn't fit before a data fork that is too long", data, "'STR ' 1 0 \"%s\";" % ("b" * 256),
+          "c:1: error 464 TextRefused: 'STR ' 1")
+
+
 TEMPLATE = resource("TMPL", 128, "05436F756E74 4F434E54 012A 4C535443 0454657874 50535452 012A 4C535445", "STR#")
 BROKEN = resource("TMPL", 128, "0141 4F434E54 0142 44425954", "STR#")
 
 
-def templates():
-    BOOK.say("Types that a file of templates declares.")
-    files, own = {"f": FORK, "T": image([TEMPLATE])}, entry("STR#", 128, 0, b"A") + entry("STR#", 128, 1, b"BC")
-    changed = {**files, "c": HELLO}
-    after = image([resource("STR#", 128, texts_of(b"Hello", b"BC"))])
-    case("templates: listed", "strings f -tmpl T", files, out=own)
-    case("templates: put", "restring f c -tmpl T -o x", changed, leaves=[("x", after)])
-    again = "type 'STR#' { integer; pstring; cstring; };\n"
-    warned = "rezkit: t.r:1: warning 240 Redeclared: 'STR#' 0\n"
-    case("templates: declared again", "restring f c t.r -tmpl T -o x", {**changed, "t.r": again}, status=2, gone=["x"],
-         err=warned + "rezkit: c:1: error 462 NoLeaf: 'STR#' 128\n")
-    case("templates: declared again with -rd", "strings f t.r -tmpl T -rd", {**files, "t.r": again})
-    case("templates: no file", "strings f -tmpl U", files, status=2, err='rezkit: error 101 MissingFile: "U"\n')
-    case("templates: one that is broken, before a missing fork", "restring g c -tmpl T -o x", {**changed, "T": image([BROKEN])}, status=2,
-         gone=["x"], err="rezkit: error 454 CountUnpaired: 128 12\n")
-    case("templates: a wrong statement, and a missing fork", "restring g c t.r -tmpl T -o x", {**changed, "t.r": "type;"}, status=2,
-         gone=["x"],
-         err="rezkit: t.r:1: error 201 Syntax\n")
-
-
 def limit(name, fork, catalogue, err):
     put(name, "type 'STR ' { pstring; };\n", fork, catalogue, err=err)
-
-
-PARTS = (rows, application, texts, long_texts, shapes, orders, tokens, numbers, lines, forms, outputs, types, macros, templates, refusals,
-         shared, big)
-
-if __name__ == "__main__":
-    for part in PARTS:
-        part()
-    sys.exit(0 if BOOK.finish() else 1)

@@ -1,7 +1,6 @@
 """The cases of catalogues that are about rows: which texts a row has, and how they are stored. catalog_cases.py writes them."""
 import itertools
 
-import top  # noqa: F401
 from catalog_book import BOOK, LIST, TWO, case, entry, files_of, listed, put, resource, says, texts_of, told
 from model.case_lines import spelled
 from model.catalogues import restring
@@ -51,8 +50,8 @@ APP_TEXT = """'vers' 1 0
 """
 
 
+@BOOK.part("Rows with their own bytes.")
 def rows():
-    BOOK.say("Rows with their own bytes.")
     listed("a list of two strings", LIST, [TWO], "'STR#' 128 0\n    \"A\";\n'STR#' 128 1\n    \"BC\";\n")
     put("a longer string in a list", LIST, [TWO], "'STR#' 128 0 \"Hello\";", "0002 0548656C6C6F 024243")
     ends = [resource("Ends", 128, "0002 0102 0005")]
@@ -73,8 +72,8 @@ def rows():
     put("other texts in the same rows", HALF, half, "'Half' 1 2 \"bcd\";", "03 00 00 03626364 017A")
 
 
+@BOOK.part("An application, whose texts go out and come back to the same 777 bytes.")
 def application():
-    BOOK.say("An application, whose texts go out and come back to the same 777 bytes.")
     fork = image(APP)
     assert len(fork) == 777 and fork[:16].hex() == "00000100000002730000017300000096"
     listed("an application", APP_TYPES, fork, APP_TEXT)
@@ -124,8 +123,8 @@ def one_text(form, number, text):
         listed(name, types, [resource("Text", 1, b"\1" + new + b"\2")], given)
 
 
+@BOOK.part("Texts of each form and size.")
 def texts():
-    BOOK.say("Texts of each form and size.")
     for form in FORMS:
         for number, text in enumerate(SHORT):
             one_text(form, number, text)
@@ -141,8 +140,8 @@ def texts():
         err="c:1: error 464 TextRefused: 'STR#' -1")
 
 
+@BOOK.part("Texts at the limits of their forms.")
 def long_texts():
-    BOOK.say("Texts at the limits of their forms.")
     big = {"pstring": (255, 256), "wstring": (65535, 65536), "pstring[255]": (255, 256), "string[300]": (300, 301),
            "cstring[300]": (299, 300)}
     for form, (fits, over) in big.items():
@@ -204,8 +203,8 @@ def catalogue_of(texts):
     return "".join(entry("Test", 1, leaf, text.encode()) for leaf, text in enumerate(texts))
 
 
+@BOOK.part("Texts in rows, in cases, and behind what is counted and measured: each alone, and all.")
 def shapes():
-    BOOK.say("Texts in rows, in cases, and behind what is counted and measured: each alone, and all.")
     for name, (fields, digits, own) in SHAPES.items():
         types, fork = "type 'Test' { %s };\n" % fields, [resource("Test", 1, digits)]
         listed(name, types, fork, catalogue_of(own))
@@ -255,8 +254,8 @@ def answer(names, over):
     return "c:%d: error %s" % (min(late)[1] + 1, min(late)[2]) if late else ""
 
 
+@BOOK.part("Entries in any order, twice, for what isn't there, and for texts that don't fit.")
 def orders():
-    BOOK.say("Entries in any order, twice, for what isn't there, and for texts that don't fit.")
     types = LIST + SIZE
     put("no entries", types, STOCK, "", [])
     put("no entries but a comment", types, STOCK, "// nothing\n/* at all */\n", [])

@@ -1,15 +1,10 @@
-#!/usr/bin/env python3
 """Writes dates.cases: the numbers and strings of the date and the time, by the calendar of Python's datetime alone.
 
-    python3 tools/cases/date_cases.py [--check]
-
 It knows nothing of the code. Bytes and shown text are put together here of the moment's parts, and each fault is
-written by hand. With --check nothing is written, and the status is 1 where the file would change.
+written by hand.
 """
-import sys
 from datetime import datetime, timedelta
 
-import top  # noqa: F401
 from casefile import Book, one, pascal
 from model.fork import image
 
@@ -47,9 +42,7 @@ def word(value):
 
 def rez(name, source, leaves=None, err="", moment=NOW, files=(), words="rez s.r -o x"):
     """A case of `rez`: what it leaves in x, or the line on `err` behind the file's name."""
-    BOOK.case(name, words, [("s.r", source)] + list(files), ["moment %d" % unix(moment)], 2 if err else 0,
-              [("x", leaves)] if leaves else [], ["x"] if err and "-a" not in words else [], "",
-              "rezkit: s.r:%s\n" % err if err else "")
+    BOOK.rez(name, source, leaves, err, files, words, ["moment %d" % unix(moment)])
 
 
 def refused(name, statement, err="1: error 201 Syntax", files=()):
@@ -58,7 +51,7 @@ def refused(name, statement, err="1: error 201 Syntax", files=()):
 
 
 def derez(name, types, fork, shown, moment=NOW):
-    BOOK.case(name, "derez f t.r", [("f", fork), ("t.r", types + "\n")], ["moment %d" % unix(moment)], out=shown)
+    BOOK.derez(name, types, fork, shown, ["moment %d" % unix(moment)])
 
 
 ALL = """type 'Date' { integer; byte; byte; byte; byte; byte; byte; pstring; pstring; };
@@ -74,6 +67,7 @@ def at(name, *parts):
         moment=moment)
 
 
+@BOOK.part()
 def checks():
     """What is known of these moments from elsewhere."""
     assert unix(datetime(1904, 1, 1)) == -2082844800 and unix(datetime(2039, 12, 31, 23, 59, 59)) == 2208988799
@@ -82,8 +76,8 @@ def checks():
     assert numbers(NOW) == [2024, 2, 29, 13, 5, 9, 5] and date(NOW) == b"2024-02-29" and time(NOW) == b"13:05:09"
 
 
+@BOOK.part("All of them at moments that tell. The years 1900 and 2100, which have no leap day, have no moments.")
 def moments():
-    BOOK.say("All of them at moments that tell. The years 1900 and 2100, which have no leap day, have no moments.")
     row = "type 'Date' { integer; pstring; };\nresource 'Date' (1) { $$Weekday, $$Date };\n"
     rez("at the first second of 1970", row, one(bytes.fromhex("00050A313937302D30312D3031"), b"Date"), moment=EPOCH)
     at("the first second that has a moment", 1904, 1, 1)
@@ -117,8 +111,8 @@ def moments():
         at("%02d:%02d:%02d" % parts, 1984, 1, 24, *parts)
 
 
+@BOOK.part("In the strings of `data`.")
 def texts():
-    BOOK.say("In the strings of `data`.")
     for name, text, content in [
             ("the date", "$$Date", date(NOW)), ("the time", "$$Time", time(NOW)), ("the version", "$$Version", b"V1.0"),
             ("the date in small letters", "$$date", date(NOW)), ("the time in capitals", "$$TIME", time(NOW)),
@@ -135,8 +129,8 @@ def texts():
     refused("data: nor is a number behind a string", "data 'Test' (1) { \"a\" $$Day };")
 
 
+@BOOK.part("In items.")
 def items():
-    BOOK.say("In items.")
     for name, value in zip(WORDS, numbers(NOW)):
         rez("item: $$%s" % name, "type 'Test' { integer; };\nresource 'Test' (1) { $$%s };\n" % name, one(word(value)))
     rez("item: in small letters", "type 'Test' { integer; };\nresource 'Test' (1) { $$weekday };\n", one(word(5)))
@@ -168,8 +162,8 @@ def items():
         rez("item: " + name, "type 'Test' { integer; };\nresource 'Test' (1) { %s };\n" % item, err="2: error 201 Syntax")
 
 
+@BOOK.part("In types.")
 def types():
-    BOOK.say("In types.")
 
     def made(name, fields, content, items="", moment=NOW):
         rez("type: " + name, "type 'Test' { %s };\nresource 'Test' (1) { %s };\n" % (fields, items), one(content), moment=moment)
@@ -204,8 +198,8 @@ def types():
     refused("type: no id of a copy", "type 'Test' as 'Else' ($$Day);")
 
 
+@BOOK.part("In the headers of new resources.")
 def heads():
-    BOOK.say("In the headers of new resources.")
     for name, value in zip(WORDS, numbers(NOW)):
         rez("head: the id is $$%s" % name, "data 'Test' ($$%s) { \"a\" };\n" % name, one(b"a", ident=value))
     rez("head: a name and attributes", "data 'Test' (1, $$Date, $$Month | $$Hour) { };\n", one(b"", name=date(NOW), attr=15))
@@ -230,8 +224,8 @@ def heads():
     refused("head: no date as an id", "data 'Test' ($$Date) { };")
 
 
+@BOOK.part("In picks, and in headers after `as` and `to`.")
 def lists():
-    BOOK.say("In picks, and in headers after `as` and `to`.")
     test, day, named = (b"Test", 1, b"old", 0x20, b"a"), (b"Test", 29, b"", 0, b"b"), (b"Test", 3, date(NOW), 0, b"c")
     files = [("f", image([test, day, named]))]
     base = [("x", image([test, day, named]))]
@@ -255,8 +249,8 @@ def lists():
     refused("nor as that of a read statement", "read 'Test' (1) $$Date;")
 
 
+@BOOK.part("What derez shows.")
 def shown():
-    BOOK.say("What derez shows.")
     stamped = one(pascal(date(NOW)) + b"\7")
     types = "type 'Test' { pstring = $$Date; byte; };"
     resource = "resource 'Test' (1) {\n    7\n};\n\n"
@@ -280,15 +274,3 @@ def shown():
           "resource 'Date' (1) {\n    5,\n    \"1970-01-01\"\n};\n\n")
     for name, moment in (("the same moment", NOW), ("another day", LATER)):
         rez("again: what was shown with a fixed date, at " + name, types + "\n" + resource, one(pascal(date(moment)) + b"\7"), moment=moment)
-
-
-if __name__ == "__main__":
-    checks()
-    moments()
-    texts()
-    items()
-    types()
-    heads()
-    lists()
-    shown()
-    sys.exit(0 if BOOK.finish() else 1)

@@ -1,22 +1,16 @@
-#!/usr/bin/env python3
 """Writes det.cases: what `det` tells of forks that break rules of admission, alone, together, and past every bound.
-
-    python3 tools/cases/det_cases.py [--check]
 
 Each list is that of tools/model/breaks.py, a second reading of docs/FORMATS.md. Beside it stand by hand the lines of
 each rule that is broken alone, of each bound and of the examples, and which rules of two can be told together. The
-forks of the last part are changed by a sequence of numbers of its own. With --check nothing is written, and the
-status is 1 where the file would change.
+forks of the last part are changed by a sequence of numbers of its own.
 """
 import itertools
-import sys
 
-import top  # noqa: F401
-from casefile import Book
+from casefile import Book, put
 from fork_cases import SHAPES
 from model.breaks import breaks, text_of
 from model.faults import Refused
-from model.fork import admitted, image, number
+from model.fork import image, number, number_at, type_places
 from model.fork_shapes import ABSENT, each, held, laid, named, reference
 from model.forms import File, double, form_of, hqx, macbin, read_form, single, written
 
@@ -29,14 +23,6 @@ TWO = image([(b"Test", 128, b"", 0, b"\1\2"), (b"Test", 129, b"", 0, b"")])
 # names are at 106. The types stand at 301 and 309, the references of the first at 317 and 329, of the second at 341, 353, 365.
 BASE = laid(*each(("Test", [reference(1), reference(2, 6, 0)]), ("Last", [reference(1, 6, 4), reference(-1), reference(3, 11)])),
             held(b"\1\2", b"\3", b""), named(b"one", b"two"))
-
-
-def put(data, *changes):
-    """The bytes with others from places on: pairs of a place and hexadecimal digits."""
-    for at, digits in changes:
-        other = bytes.fromhex(digits)
-        data = data[:at] + other + data[at + len(other):]
-    return data
 
 
 # Each rule: its name here, what breaks it in the fork, and what is told of it alone. The rules of types and of ids have one number.
@@ -57,52 +43,23 @@ RULES = [
 HIDES = {0: {6}, 1: set(range(3, 10)), 2: set(range(3, 10)), 3: set(range(4, 10)), 4: set(range(5, 10))}
 
 
-def told(data):
-    """What is told of a fork. The first broken rule is that of casefile.admitted."""
-    try:
-        admitted(data)
-        first = None
-    except Refused as refused:
-        first = refused.args
-    faults = breaks(data)
-    assert (faults[0] if faults else None) == first, (faults[:1], first)
-    return faults
-
-
 def case(name, data, *lines, words=None, file=None):
     """A case of a fork, as a file of its own unless another is given. Where lines stand by hand, they have to be what the
     second reading tells."""
     words = words or ("det f" if file is not None or form_of(data) == "raw" else "det f -from raw")
-    text = text_of(told(data))
+    text = text_of(breaks(data))
     assert not lines or text == "".join(line + "\n" for line in lines) + "broken %d\n" % len(lines), (name, text)
     BOOK.case(name, words, [("f", data if file is None else file)], out=text)
 
 
 def sound(name, data):
     """A case of a fork that is admitted."""
-    assert not told(data), (name, told(data)[:3])
+    assert not breaks(data), (name, breaks(data)[:3])
     case(name, data)
 
 
-def pairs():
-    BOOK.say("Each rule broken alone, and each two together.")
-    sound("none is broken", BASE)
-    for name, change, line in RULES:
-        case("%s alone" % name, put(BASE, change), line)
-        case("a header cut short, and %s" % name, put(BASE, change)[:15], "401 ShortHeader offset 0 value 15")
-    for (one, (first, change, line)), (other, (second, more, behind)) in itertools.combinations(enumerate(RULES), 2):
-        both = put(BASE, change, more)
-        numbers = [int(line[:3])] + [int(behind[:3])] * (other not in HIDES.get(one, ()))
-        assert [fault[0] for fault in told(both)] == numbers, (first, second, told(both))
-        case("%s and %s" % (first, second), both)
-    case("all that can be broken at once", put(BASE, (8, "0000FFFF"), (307, "0100"), *(change for _, change, _ in RULES[6:])))
-    case("the header alone, of zeros", bytes(16), "404 ShortMap offset 12 value 0")
-    case("the header alone, of ones", b"\xFF" * 16, "402 DataAreaOutside offset 0 value 4294967295",
-         "403 MapOutside offset 4 value 4294967295")
-
-
+@BOOK.part("A fork that is cut, and one with a wrong length and a wrong place of a name.")
 def examples():
-    BOOK.say("A fork that is cut, and one with a wrong length and a wrong place of a name.")
     case("a fork cut behind the data", ONE[:261], "402 DataAreaOutside offset 0 value 6", "403 MapOutside offset 4 value 50")
     case("a length of 3 and a name at the end of the map", put(ONE, (256, "00000003"), (302, "0000")),
          "408 DataOutside offset 256 value 3", "409 NameOutside offset 312 value 0")
@@ -112,7 +69,7 @@ def examples():
         case("its first bytes: %d" % length, ONE[:length])
     case("a byte behind it", ONE + b"\0")
     BOOK.say("Forks of other layouts, which share bytes, names and lists, and are admitted.")
-    for name, fork in SHAPES.held.items():
+    for name, fork in SHAPES.items():
         if name != "no bytes":
             if breaks(fork):
                 case(name, fork)
@@ -120,8 +77,25 @@ def examples():
                 sound(name, fork)
 
 
+@BOOK.part("Each rule broken alone, and each two together.")
+def pairs():
+    sound("none is broken", BASE)
+    for name, change, line in RULES:
+        case("%s alone" % name, put(BASE, change), line)
+        case("a header cut short, and %s" % name, put(BASE, change)[:15], "401 ShortHeader offset 0 value 15")
+    for (one, (first, change, line)), (other, (second, more, behind)) in itertools.combinations(enumerate(RULES), 2):
+        both = put(BASE, change, more)
+        numbers = [int(line[:3])] + [int(behind[:3])] * (other not in HIDES.get(one, ()))
+        assert [fault[0] for fault in breaks(both)] == numbers, (first, second, breaks(both))
+        case("%s and %s" % (first, second), both)
+    case("all that can be broken at once", put(BASE, (8, "0000FFFF"), (307, "0100"), *(change for _, change, _ in RULES[6:])))
+    case("the header alone, of zeros", bytes(16), "404 ShortMap offset 12 value 0")
+    case("the header alone, of ones", b"\xFF" * 16, "402 DataAreaOutside offset 0 value 4294967295",
+         "403 MapOutside offset 4 value 4294967295")
+
+
+@BOOK.part("The last place that is allowed, and the one behind it.")
 def bounds():
-    BOOK.say("The last place that is allowed, and the one behind it.")
     sound("a data area up to the end of the file", put(ONE, (8, "00000038")))
     case("a data area up to one byte behind it", put(ONE, (8, "00000039")), "402 DataAreaOutside offset 0 value 57")
     case("a data area at 16,777,216", put(ONE, (0, "01000000"), (8, "00000000")), "402 DataAreaOutside offset 0 value 0")
@@ -159,9 +133,9 @@ def bounds():
     case("a name and a name list at 65,534", put(ONE, (288, "FFFE"), (302, "FFFE")), "409 NameOutside offset 131330 value 65534")
 
 
+@BOOK.part("References are looked at where the list of their type is sound, data where the data area is, too.")
 def only_where():
     """Rules that are asked of some types and references alone."""
-    BOOK.say("References are looked at where the list of their type is sound, data where the data area is, too.")
     far = [reference(1, 99), reference(1, 0, 99)]
     types = [("A   ", far), ("B   ", far), ("A   ", far)]
     for name, places in [("no list is broken", []), ("the first list is", [0]), ("the list in the midst is", [1]),
@@ -199,26 +173,24 @@ def counted(first, last, behind):
 
 
 def spelled(data, first, last, behind):
-    """The lines of a content in which such entries stand once, spelled as one piece."""
+    """The pieces of a content in which such entries stand once, spelled as one."""
     entries = counted(first, last, behind)
     at = data.index(entries)
     rows = lambda part: [part[k:k + 32].hex().upper() for k in range(0, len(part), 32)]
     zeros = data[16:256] == bytes(240)
     head = rows(data[:16]) + ["00*240"] * zeros + rows(data[256 if zeros else 16:at])
-    return ["| " + row for row in head + ["%s..%s:%s" % (first, last, behind.hex().upper())] + rows(data[at + len(entries):])]
+    return head + ["%s..%s:%s" % (first, last, behind.hex().upper())] + rows(data[at + len(entries):])
 
 
 def large(name, data, first, last, behind, *lines):
     """A case of a fork with such entries."""
     text = text_of(breaks(data))
     assert text == "".join(line + "\n" for line in lines) + "broken %d\n" % len(lines), (name, text[:300])
-    BOOK.count += 1
-    BOOK.lines += ["case " + name, "words det f", "file bytes f", *spelled(data, first, last, behind), "status 0", "out text",
-                   *("| " + line for line in text.splitlines()), ""]
+    BOOK.case(name, "det f", [("f", spelled(data, first, last, behind))], out=text)
 
 
+@BOOK.part("8,192 types and one more; their codes are numbers that count up, and none has references.")
 def limits():
-    BOOK.say("8,192 types and one more; their codes are numbers that count up, and none has references.")
     none = b"\xFF\xFF\0\0"
 
     def types(count, *others):
@@ -261,16 +233,16 @@ def limits():
     case("65,535 references outside, and others", far, *("407 ReferencesOutside offset 314 value %d" % count for count in (65535, 3, 0)))
 
 
+@BOOK.part("A hundred faults, each rule in the order of the map, and one list in the midst that is broken.")
 def hundred():
-    BOOK.say("A hundred faults, each rule in the order of the map, and one list in the midst that is broken.")
     types = [("T%03d" % (k % 7), [reference(j % 3, 40 + k, 30 * j) for j in range(4 + k % 3)]) for k in range(10)]
     data = put(laid(*each(*types), held(b"\1\2"), named(b"name")), (262 + 28 + 2 + 8 * 4 + 6, "FF00"))
-    assert len(told(data)) == 100, len(told(data))
+    assert len(breaks(data)) == 100, len(breaks(data))
     case("a hundred faults", data)
 
 
+@BOOK.part("The forks of files of each form: offsets are those of the fork. No data file is read.")
 def files():
-    BOOK.say("The forks of files of each form: offsets are those of the fork. No data file is read.")
     broken = put(ONE, (256, "00000003"), (302, "0000"))
     lines = ["408 DataOutside offset 256 value 3", "409 NameOutside offset 312 value 0"]
     file = File(name=b"App", kind=b"APPL", creator=b"Samp", data=b"its data fork", res=broken)
@@ -284,7 +256,8 @@ def files():
     case("MacBinary as a raw fork", macbin(file), words="det f -from raw", file=macbin(file))
     case("AppleDouble as a raw fork", double(file), words="det f -from raw", file=double(file))
     case("a text as a raw fork", b"data 'Test' (128) { };\n", words="det f -from raw")
-    BOOK.case("a data file beside AppleDouble is left alone", "det ._f", [("._f", double(file)), ("f", "text\n")], out=text_of(told(broken)))
+    BOOK.case("a data file beside AppleDouble is left alone", "det ._f", [("._f", double(file)), ("f", "text\n")],
+              out=text_of(breaks(broken)))
     BOOK.say("What can't be told.")
 
     def refused(name, words, says, data=None):
@@ -351,16 +324,14 @@ class Changes:
 
     def places(self, data):
         """The places and lengths of the fields of a fork, some of them more than once."""
-        def at(place, size):
-            return int.from_bytes(data[place:place + size], "big")
-        the_map = at(4, 4)
-        types = the_map + at(the_map + 24, 2)
+        the_map = number_at(data, 4, 4)
+        types = the_map + number_at(data, the_map + 24, 2)
         fields = [(0, 4), (4, 4), (8, 4), (12, 4), (the_map + 24, 2), (the_map + 26, 2), (the_map + 26, 2), (types, 2)]
-        for entry in range(types + 2, types + 2 + 8 * ((at(types, 2) + 1) % 65536), 8):
+        for entry, references in type_places(data):
             fields += [(entry, 4), (entry + 4, 2), (entry + 6, 2)] * 2
-            for k in range((at(entry + 4, 2) + 1) % 65536):
-                one = types + at(entry + 6, 2) + 12 * k
-                fields += [(one, 2), (one, 2), (one + 2, 2), (one + 5, 3), (at(0, 4) + at(one + 5, 3), 4)]
+            for one in references:
+                content = number_at(data, 0, 4) + number_at(data, one + 5, 3)
+                fields += [(one, 2), (one, 2), (one + 2, 2), (one + 5, 3), (content, 4)]
         return fields
 
     def field(self, data, place, size):
@@ -400,27 +371,15 @@ KINDS = [("one field", 50), ("two fields", 45), ("four fields", 45), ("some byte
          ("cut, and a field", 12)]
 
 
+@BOOK.part("200 forks with changes by chance; of each kind at most every second breaks one rule alone, and every tenth "
+           "none.")
 def mutated():
-    BOOK.say("200 forks with changes by chance; of each kind at most every second breaks one rule alone, and every tenth none.")
     changes, seen = Changes(18), set()
     for kind, count in KINDS:
         for made in range(count):
             least = 0 if made % 10 == 0 else 1 + made % 2
             data = changes.changed(kind)
-            while data in seen or len(told(data)) < least:
+            while data in seen or len(breaks(data)) < least:
                 data = changes.changed(kind)
             seen.add(data)
             case("the fork %d: %s" % (len(seen), kind), data)
-
-
-if __name__ == "__main__":
-    assert (len(ONE), len(TWO), len(BASE)) == (312, 328, 385)
-    examples()
-    pairs()
-    bounds()
-    only_where()
-    limits()
-    hundred()
-    files()
-    mutated()
-    sys.exit(0 if BOOK.finish() else 1)

@@ -1,18 +1,7 @@
-#!/usr/bin/env python3
-"""Writes ends.cases: what `derez` shows of types in which strings and arrays end at a label.
-
-    python3 tools/cases/end_cases.py [--check]
-
-Each type stands here as a list of fields, and each resource as its bytes or as the values of a row. Behind the name
-stands by hand which of them `derez` shows by a `resource` statement, `r`, and which as bytes, `d`; label_reading.py and
-shown.py have to say the same. With --check nothing is written, and the status is 1 where a file would change.
-"""
-import sys
-
-import top  # noqa: F401
-from label_book import KINDS, Shown, WRONG
-from model.label_types import (Align, Array, Fill, Format, Label, Switch, at, byte, byte_at, field_bits, integer, key, longint,
-                         points, rows_of, text)
+"""Writes ends.cases: what `derez` shows of types in which strings and arrays end at a label."""
+from label_book import KINDS, Shown
+from model.label_types import (Align, Array, Fill, Label, Switch, at, byte, byte_at, field_bits, integer, key, longint,
+                               points, rows_of, text)
 from model.labels import width_of
 
 ENDS = Shown("ends.cases", "end_cases.py", "What derez shows of strings and arrays that end at a label.")
@@ -21,8 +10,8 @@ BYTES = Array(None, None, [byte()])
 LAST = text("pstring")  # with it behind, the end of the resource ends nothing
 
 
+@ENDS.part("Each kind of field between a string or an array and the label that ends it.")
 def kinds():
-    ENDS.say("Each kind of field between a string or an array and the label that ends it.")
     for name, field, values in KINDS:
         for said, opened, value in [("a string", text("string"), b"xyz"), ("an array", BYTES, [[1], [2]])]:
             if name.startswith("an array") and field.count is None and said == "an array":
@@ -31,29 +20,29 @@ def kinds():
             fixed = width_of(field) is not None
             body = before + [longint(at("e")), opened, field, Label("e"), Align("byte"), LAST]
             row = [value] + values + [b"end"]
-            ENDS.case("%s and %s up to a label" % (said, name), body, "r" if fixed else "d", row)
+            ENDS.shows("%s and %s up to a label" % (said, name), body, "r" if fixed else "d", row)
     for name, field, values in KINDS:
         if width_of(field) is None:
             body = [longint(at("e")), text("string"), Label("e"), field, Align("byte"), LAST]
             if not (isinstance(field, Array) and field.count is None):
                 is_open = getattr(field, "form", None) == "string" and field.size is None
-                ENDS.case("a string up to a label before %s" % name, body, "d" if is_open else "r",
+                ENDS.shows("a string up to a label before %s" % name, body, "d" if is_open else "r",
                     [b"xyz"] + values + [b"end"])
     for name, field, values in KINDS:
         if width_of(field) is not None:
             body = [longint(at("e")), field, Align("byte"), Label("s"), text("string"), field, field, Label("e"), Align("byte"),
                 LAST]
-            ENDS.case("a string between %s and two more" % name, body, "rr", values + [b"xyz"] + values + values + [b"end"],
+            ENDS.shows("a string between %s and two more" % name, body, "rr", values + [b"xyz"] + values + values + [b"end"],
                 values + [b""] + values + values + [b""])
 
 
+@ENDS.part("Several fields up to the label.")
 def several():
-    ENDS.say("Several fields up to the label.")
-    case = ENDS.case
-    case("a string at its label at once", [byte(at("e") / 8), text("string"), Label("e"), LAST], "rrddd", "01 00",
-        '03 "ab" 01 "c"', "00 00", "02 00", '04 "ab" 01 "c"')
-    case("a string, a byte and a label", [byte(at("e") / 8), text("string"), byte(), Label("e"), LAST], "rrdd", "02 07 00",
-        '04 "ab" 07 00', "01 00", "01 07 00")
+    case = ENDS.shows
+    case("a string at its label at once", "byte = e / 8; string; e: pstring;", "rrddd", "01 00", '03 "ab" 01 "c"',
+         "00 00", "02 00", '04 "ab" 01 "c"')
+    case("a string, a byte and a label", "byte = e / 8; string; byte; e: pstring;", "rrdd", "02 07 00", '04 "ab" 07 00',
+         "01 00", "01 07 00")
     case("a string, five fields and a label", [byte(LENGTH), Label("s"), text("string"), byte(), Fill("bit", 4),
             field_bits(4, 9), points(1, -1), text("pstring", 2), Label("e"), LAST], "rrdddd", '09 05 09 0001FFFF 01 "a" 00 00',
         '0B "xy" 05 09 0001FFFF 02 "ab" 00', '08 05 09 0001FFFF 01 "a" 00 00', '09 05 0A 0001FFFF 01 "a" 00 00',
@@ -61,84 +50,74 @@ def several():
     case("an array, five fields and a label", [byte(LENGTH), Label("s"), Array(None, None, [integer()]), byte(), Fill("bit", 4),
             field_bits(4, 9), Array(None, 2, [byte()]), Label("e"), LAST], "rrddd", "04 05 09 01 02 00",
         "08 0102 0304 05 09 01 02 00", "07 0102 03 05 09 01 02 00", "03 05 09 01 00", "04 05 08 01 02 00")
-    case("labels between a string and its label",
-        [byte(at("e") / 8), text("string"), Label("a"), byte(at("a")), Label("b"), Label("c"), byte(at("c")), Label("e"), LAST],
-        "rrd", "03 08 10 00", '04 "x" 10 18 00', '04 "x" 10 19 00')
-    case("a string up to the second of two labels", [byte(at("e") / 8), text("string"), Label("a"), byte(), Label("e"), LAST],
-        "rd", '03 "x" 07 00', "01 00")
-    case("a string up to two labels that are solved",
-        [byte(at("a") / 8), byte(at("b") / 8), text("string"), Label("a"), integer(), Label("b"), LAST], "rrddd",
-        '03 05 "x" 0007 00', "02 04 0007 00", '03 06 "x" 0007 00', '04 05 "x" 0007 00', "02 02 0007 00")
+    case("labels between a string and its label", "byte = e / 8; string; a: byte = a; b: c: byte = c; e: pstring;",
+         "rrd", "03 08 10 00", '04 "x" 10 18 00', '04 "x" 10 19 00')
+    case("a string up to the second of two labels", "byte = e / 8; string; a: byte; e: pstring;", "rd", '03 "x" 07 00',
+         "01 00")
+    case("a string up to two labels that are solved", "byte = a / 8; byte = b / 8; string; a: integer; b: pstring;",
+         "rrddd", '03 05 "x" 0007 00', "02 04 0007 00", '03 06 "x" 0007 00', '04 05 "x" 0007 00', "02 02 0007 00")
     case("a string up to two labels of which the second is solved first",
-        [byte(at("b") / 8), byte(at("a") / 8), text("string"), Label("a"), integer(), Label("b"), LAST], "rrddd",
-        '05 03 "x" 0007 00', "04 02 0007 00", '06 03 "x" 0007 00', '05 04 "x" 0007 00', "02 02 0007 00")
-    case("two labels at one place of which both are solved",
-        [byte(at("a") / 8), byte(at("b") / 8), text("string"), Label("a"), Label("b"), LAST], "rdd", '03 03 "x" 00',
-        '03 04 "x" 00', '04 03 "x" 00')
-    case("a string behind a string by two lengths", [byte(at("a") / 8), byte((at("b") - at("s")) / 8), text("string"),
-            Label("a"), byte(), Label("s"), text("string"), Label("b"), LAST], "d", '03 02 "x" 07 "yz" 00')
-    case("a string behind a string by two places",
-        [byte(at("a") / 8), byte(at("b") / 8), text("string"), Label("a"), byte(), text("string"), Label("b"), LAST], "rrdrdd",
-        '03 06 "x" 07 "yz" 00', "02 03 07 00", '03 07 "x" 07 "yz" 00', '04 06 "x" 07 "yz" 00', '03 03 "x" 07 "yz" 00',
-        '06 03 "x" 07 "yz" 00')
-    case("two strings of which one alone ends", [byte(at("b") / 8), text("string"), text("string"), Label("b"), LAST], "d",
-        '03 "xy" 00')
-    case("a string and an array up to one label", [byte(at("b") / 8), text("string"), BYTES, Label("b"), LAST], "d",
-        '03 "xy" 00')
+         "byte = b / 8; byte = a / 8; string; a: integer; b: pstring;", "rrddd", '05 03 "x" 0007 00', "04 02 0007 00",
+         '06 03 "x" 0007 00', '05 04 "x" 0007 00', "02 02 0007 00")
+    case("two labels at one place of which both are solved", "byte = a / 8; byte = b / 8; string; a: b: pstring;",
+         "rdd", '03 03 "x" 00', '03 04 "x" 00', '04 03 "x" 00')
+    case("a string behind a string by two lengths",
+         "byte = a / 8; byte = (b - s) / 8; string; a: byte; s: string; b: pstring;", "d", '03 02 "x" 07 "yz" 00')
+    case("a string behind a string by two places", "byte = a / 8; byte = b / 8; string; a: byte; string; b: pstring;",
+         "rrdrdd", '03 06 "x" 07 "yz" 00', "02 03 07 00", '03 07 "x" 07 "yz" 00', '04 06 "x" 07 "yz" 00',
+         '03 03 "x" 07 "yz" 00', '06 03 "x" 07 "yz" 00')
+    case("two strings of which one alone ends", "byte = b / 8; string; string; b: pstring;", "d", '03 "xy" 00')
+    case("a string and an array up to one label", "byte = b / 8; string; array { byte; }; b: pstring;", "d",
+         '03 "xy" 00')
     case("an array up to a label behind a string with a size", [byte(), Label("p"), byte(at("b") / 8), BYTES, text("string", 2),
         Label("b"), LAST], "rrdd", "00 04 6162 00", "00 05 07 6162 00", "00 03 61 00", "00 06 07 6162 00")
     case("a string with a size that is read stands between",
-        [Label("n"), byte(), byte(at("b") / 8), text("string"), text("string", byte_at("n")), Label("b"), LAST], "d",
-        '01 04 "x" "y" 00')
+         "n: byte; byte = b / 8; string; string[$$Byte(n)]; b: pstring;", "d", '01 04 "x" "y" 00')
 
 
+@ENDS.part("Labels in front of the beginning, behind the end, and within bytes.")
 def places():
-    ENDS.say("Labels in front of the beginning, behind the end, and within bytes.")
-    case = ENDS.case
-    case("a string whose label stands before its beginning", [byte(at("e")), byte(), text("string"), Label("e"), LAST], "rdddd",
-        "10 07 00", "08 07 00", "00 07 00", "0F 07 00", "09 07 00")
-    case("a string whose label stands behind the end", [byte(at("e") / 8), text("string"), Label("e"), byte()], "rrddd",
-        '04 "abc" 07', "01 07", '05 "abc" 07', '06 "abc" 07', 'FF "abc" 07')
-    case("a string whose label stands at the end", [byte(at("e") / 8), text("string"), Label("e")], "rrdd", "01", '04 "abc"',
-        '05 "abc"', '03 "abc"')
-    case("an array whose label stands before its beginning", [byte(at("e")), byte(), BYTES, Label("e"), LAST], "rdddd",
-        "10 07 00", "08 07 00", "00 07 00", "0F 07 00", "11 07 00")
-    case("an array whose label stands behind the end", [byte(at("e") / 8), BYTES, Label("e"), byte()], "rrddd", '04 "abc" 07',
-        "01 07", '05 "abc" 07', '06 "abc" 07', 'FF "abc" 07')
+    case = ENDS.shows
+    case("a string whose label stands before its beginning", "byte = e; byte; string; e: pstring;", "rdddd", "10 07 00",
+         "08 07 00", "00 07 00", "0F 07 00", "09 07 00")
+    case("a string whose label stands behind the end", "byte = e / 8; string; e: byte;", "rrddd", '04 "abc" 07',
+         "01 07", '05 "abc" 07', '06 "abc" 07', 'FF "abc" 07')
+    case("a string whose label stands at the end", "byte = e / 8; string; e:", "rrdd", "01", '04 "abc"', '05 "abc"',
+         '03 "abc"')
+    case("an array whose label stands before its beginning", "byte = e; byte; array { byte; }; e: pstring;", "rdddd",
+         "10 07 00", "08 07 00", "00 07 00", "0F 07 00", "11 07 00")
+    case("an array whose label stands behind the end", "byte = e / 8; array { byte; }; e: byte;", "rrddd",
+         '04 "abc" 07', "01 07", '05 "abc" 07', '06 "abc" 07', 'FF "abc" 07')
     for bits in range(8, 25):
-        case("a string up to bit %d" % bits, [byte(at("e")), text("string"), Label("e"), Align("byte"), LAST],
-            "r" if bits % 8 == 0 else "d",
-            "%02X %s 00" % (bits, "EE" * (bits // 8 - 1)) if bits % 8 == 0 else "%02X %s 00" % (bits, "00" * (bits // 8)))
+        case("a string up to bit %d" % bits, "byte = e; string; e: align byte; pstring;", "r" if bits % 8 == 0 else "d",
+             "%02X %s 00" % (bits, "EE" * (bits // 8 - 1)) if bits % 8 == 0 else "%02X %s 00"
+             % (bits, "00" * (bits // 8)))
     for skip in range(8):
         case("a string from bit %d on" % (8 + skip),
             [byte(at("e")), field_bits(skip) if skip else Fill("bit", 0), text("string"), Label("e"), Align("byte"), LAST],
             "rrd", *[([1] if skip else []) + [value, b"z"] for value in (b"", b"ab")] + ["%02X 0000 00" % (9 + skip)])
     for width in (1, 2, 3, 5, 7, 8, 9):
-        case("rows of %d bits up to a bit" % width,
-            [byte(at("e") - 8), Array(None, None, [field_bits(width)]), Label("e"), Align("byte"), LAST],
-            "rrrrd" if width > 1 else "rrrrr",
-            *[[[[1]] * count, b""] for count in (0, 1, 3, 8)] + ["%02X %s 00" % (width + 1, "00" * (width // 8 + 1))])
-        case("rows of %d bits in bytes" % width,
-            [byte(at("e") / 8 - 1), Array(None, None, [field_bits(width)]), Label("e"), Align("byte"), LAST], "rr",
-            *[[[[1]] * count, b""] for count in (0, 8)])
-    case("rows of two widths up to a label", [byte(LENGTH), Label("s"),
-            Array(None, None, [Switch([("A", [key("byte", 1)]), ("B", [key("byte", 2), integer()])])]), Label("e"), LAST],
-        "rrrdddd", "00 00", "01 01 00", "05 02 0007 01 01 00", "04 02 0007 02 00", "02 02 0007 00", "03 03 0007 00",
-        "05 02 0007 01 00")
-    case("rows of strings up to a label", [byte(LENGTH), Label("s"), Array(None, None, [text("pstring")]), Label("e"), LAST],
-        "rrddd", '05 01 "a" 02 "bc" 00', "00 00", '04 01 "a" 02 "bc" 00', '06 01 "a" 02 "bc" 00', '03 01 "a" 02 "bc" 00')
-    case("rows with an align up to a label",
-        [byte(LENGTH), Label("s"), Array(None, None, [byte(), Align("word")]), Label("e"), LAST], "rrrdd", "01 05 00", "00 00",
-        "03 05 06 00 00", "02 05 06 00", "03 05 06 01 00")
-    case("the last row is cut", [byte(LENGTH), Label("s"), Array(None, None, [integer(), byte()]), Label("e"), LAST], "rddr",
-        "03 0001 02 00", "04 0001 02 03 00", "02 0001 02 00", "06 0001 02 0003 04 00")
-    case("rows that end behind the label", [byte(LENGTH), Label("s"), Array(None, None, [text("cstring")]), Label("e"), LAST],
-        "rrdd", '03 "a" 00 00 00', "02 00 00 00", '02 "a" 00 00 00 00', '01 "a" 00 00 00')
+        case("rows of %d bits up to a bit" % width, "byte = e - 8; array { bitstring[%d]; }; e: align byte; pstring;"
+             % width, "rrrrd" if width > 1 else "rrrrr", *[[[[1]] * count, b""] for count in (0, 1, 3, 8)]
+             + ["%02X %s 00" % (width + 1, "00" * (width // 8 + 1))])
+        case("rows of %d bits in bytes" % width, "byte = e / 8 - 1; array { bitstring[%d]; }; e: align byte; pstring;"
+             % width, "rr", *[[[[1]] * count, b""] for count in (0, 8)])
+    case("rows of two widths up to a label",
+         "byte = (e - s) / 8; s: array { switch { case A: key byte = 1; case B: key byte = 2; integer; }; }; e: pstring;",
+         "rrrdddd", "00 00", "01 01 00", "05 02 0007 01 01 00", "04 02 0007 02 00", "02 02 0007 00", "03 03 0007 00",
+         "05 02 0007 01 00")
+    case("rows of strings up to a label", "byte = (e - s) / 8; s: array { pstring; }; e: pstring;", "rrddd",
+         '05 01 "a" 02 "bc" 00', "00 00", '04 01 "a" 02 "bc" 00', '06 01 "a" 02 "bc" 00', '03 01 "a" 02 "bc" 00')
+    case("rows with an align up to a label", "byte = (e - s) / 8; s: array { byte; align word; }; e: pstring;", "rrrdd",
+         "01 05 00", "00 00", "03 05 06 00 00", "02 05 06 00", "03 05 06 01 00")
+    case("the last row is cut", "byte = (e - s) / 8; s: array { integer; byte; }; e: pstring;", "rddr", "03 0001 02 00",
+         "04 0001 02 03 00", "02 0001 02 00", "06 0001 02 0003 04 00")
+    case("rows that end behind the label", "byte = (e - s) / 8; s: array { cstring; }; e: pstring;", "rrdd",
+         '03 "a" 00 00 00', "02 00 00 00", '02 "a" 00 00 00 00', '01 "a" 00 00 00')
 
 
+@ENDS.part("The least width of the rows.")
 def least():
-    ENDS.say("The least width of the rows.")
-    case = ENDS.case
     for name, row, by_label, by_end in [
             ("a bit", [field_bits(1)], "r", "d"),
             ("seven bits", [field_bits(7)], "r", "d"),
@@ -167,10 +146,10 @@ def least():
             ("a cstring with a size that is read", [text("cstring", byte_at("n"))], "r", "r"),
             ("bits and a size that is read", [field_bits(4), Align("byte"), text("string", byte_at("n"))], "r", "d"),
     ]:
-        ENDS.case("rows of %s up to a label" % name,
+        ENDS.shows("rows of %s up to a label" % name,
             [Label("n"), byte(1), byte(at("e")), Array(None, None, row), Label("e"), Align("byte"), LAST], by_label, "01 10 00")
-        ENDS.case("rows of %s up to the end" % name, [Label("n"), byte(1), Array(None, None, row), Label("e")], by_end, "01")
-        ENDS.case("rows of %s by their number" % name,
+        ENDS.shows("rows of %s up to the end" % name, [Label("n"), byte(1), Array(None, None, row), Label("e")], by_end, "01")
+        ENDS.shows("rows of %s by their number" % name,
             [Label("n"), byte(1), byte(rows_of("a")), Array("a", None, row), Align("byte"), LAST], by_label, "01 00 00")
 
 
@@ -186,9 +165,9 @@ def with_array(body):
     return out
 
 
+@ENDS.part("What doesn't end a string or an array.")
 def not_ended():
-    ENDS.say("What doesn't end a string or an array.")
-    case = ENDS.case
+    case = ENDS.shows
     for name, body, *contents in [
             ("a label that nothing tells", [byte(), text("string"), Label("e"), LAST], "01 00"),
             ("a near label", [text("string"), byte(at("e")), Label("e"), LAST], "08 00"),
@@ -212,70 +191,50 @@ def not_ended():
     ]:
         case("a string isn't ended by %s" % name, body, "d", *contents)
         case("an array isn't ended by %s" % name, with_array(body), "d", *contents)
-    case("a fixed string without an end", [byte(), text("string", None, b"ab"), LAST], "d", '01 "ab" 00')
-    case("a fixed string up to a label", [byte(at("e") / 8), text("string", None, b"ab"), Label("e"), LAST], "rdd",
-        '03 "ab" 00', '02 "a" 00', '03 "ac" 00')
-    case("a fixed string up to the end", [byte(), text("string", None, b"ab"), byte()], "rdd", '01 "ab" 07', '01 "a" 07',
-        '01 "abc" 07')
-    case("a fixed string with a size needs no end", [byte(), text("string", 3, b"ab"), LAST], "rd", '01 "ab" 00 00',
-        '01 "ab" 01 00')
+    case("a fixed string without an end", 'byte; string = "ab"; pstring;', "d", '01 "ab" 00')
+    case("a fixed string up to a label", 'byte = e / 8; string = "ab"; e: pstring;', "rdd", '03 "ab" 00', '02 "a" 00',
+         '03 "ac" 00')
+    case("a fixed string up to the end", 'byte; string = "ab"; byte;', "rdd", '01 "ab" 07', '01 "a" 07', '01 "abc" 07')
+    case("a fixed string with a size needs no end", 'byte; string[3] = "ab"; pstring;', "rd", '01 "ab" 00 00',
+         '01 "ab" 01 00')
 
 
+@ENDS.part("Numbers of rows, labels and the end of the resource together.")
 def both():
-    ENDS.say("Numbers of rows, labels and the end of the resource together.")
-    case = ENDS.case
+    case = ENDS.shows
     case("rows by their number and a label that says the same",
-        [byte(rows_of("a")), byte(at("e") / 8), Array("a", None, [byte()]), Label("e"), LAST], "rdd", "02 04 01 02 00",
-        "02 03 01 02 00", "01 04 01 02 00")
-    case("rows by a stated number and a label",
-        [byte(at("e") / 8), text("cstring"), Array(None, 2, [byte()]), Label("e"), LAST], "rdd", "04 00 01 02 00",
-        "03 00 01 02 00", "05 00 01 02 00")
-    case("a string up to a label and the end of the resource", [byte(at("e") / 8), text("string"), Label("e"), byte()], "rdd",
-        '03 "ab" 07', '02 "ab" 07', '04 "ab" 07')
-    case("a string up to the end, and labels behind it",
-        [byte(), text("string"), Label("e"), byte(at("e")), Label("f"), integer(at("f") - at("e"))], "rdd", '01 "ab" 18 0008',
-        '01 "ab" 19 0008', '01 "ab" 18 0000')
-    case("a string up to the end, and a label that a number behind the string solves",
-        [text("cstring"), text("string"), byte(at("f")), Label("f")], "rrd", "00 10", '"a" 00 "b" 20', '"a" 00 "b" 18')
-    case("a string up to the end, and a label in front of it", [Label("p"), byte(), text("string"), byte(byte_at("p"))], "rrd",
-        "07 07", '07 "abc" 07', '07 "abc" 06')
-    case("a string up to the end behind one up to a label", [byte(at("e") / 8), text("string"), Label("e"), text("string")],
-        "rrrd", '03 "ab" "cd"', '05 "abcd"', '01 "abcd"', '06 "abcd"')
-    case("an array up to the end behind one up to a label",
-        [byte(at("e") / 8), BYTES, Label("e"), Array(None, None, [integer()])], "rrdd", "03 0102 0304", "05 01020304",
-        "04 010203 04", "00 01020304")
+         "byte = $$CountOf(a); byte = e / 8; array a { byte; }; e: pstring;", "rdd", "02 04 01 02 00", "02 03 01 02 00",
+         "01 04 01 02 00")
+    case("rows by a stated number and a label", "byte = e / 8; cstring; array[2] { byte; }; e: pstring;", "rdd",
+         "04 00 01 02 00", "03 00 01 02 00", "05 00 01 02 00")
+    case("a string up to a label and the end of the resource", "byte = e / 8; string; e: byte;", "rdd", '03 "ab" 07',
+         '02 "ab" 07', '04 "ab" 07')
+    case("a string up to the end, and labels behind it", "byte; string; e: byte = e; f: integer = f - e;", "rdd",
+         '01 "ab" 18 0008', '01 "ab" 19 0008', '01 "ab" 18 0000')
+    case("a string up to the end, and a label that a number behind the string solves", "cstring; string; byte = f; f:",
+         "rrd", "00 10", '"a" 00 "b" 20', '"a" 00 "b" 18')
+    case("a string up to the end, and a label in front of it", "p: byte; string; byte = $$Byte(p);", "rrd", "07 07",
+         '07 "abc" 07', '07 "abc" 06')
+    case("a string up to the end behind one up to a label", "byte = e / 8; string; e: string;", "rrrd", '03 "ab" "cd"',
+         '05 "abcd"', '01 "abcd"', '06 "abcd"')
+    case("an array up to the end behind one up to a label", "byte = e / 8; array { byte; }; e: array { integer; };",
+         "rrdd", "03 0102 0304", "05 01020304", "04 010203 04", "00 01020304")
     case("an array up to the end and bits behind a label",
-        [byte(at("e")), field_bits(3), text("string"), Label("e"), field_bits(5), BYTES], "rrd", "0B 2A", "13 20 2A 07",
-        "10 20 2A")
+         "byte = e; bitstring[3]; string; e: bitstring[5]; array { byte; };", "rrd", "0B 2A", "13 20 2A 07", "10 20 2A")
     case("rows of rows up to a label, each with its number",
-        [byte(LENGTH), Label("s"), Array(None, None, [byte(rows_of("in")), Array("in", None, [byte()])]), Label("e"), LAST],
-        "rrddd", "03 02 05 06 00", "04 01 05 01 06 00", "02 02 05 06 00", "04 02 05 06 01 00", "00 02 05 06 00")
-    case("rows of stated rows up to a label",
-        [byte(LENGTH), Label("s"), Array(None, None, [Array(None, 2, [byte()])]), Label("e"), LAST], "rrd", "04 01 02 03 04 00",
-        "00 00", "03 01 02 03 00")
+         "byte = (e - s) / 8; s: array { byte = $$CountOf(in); array in { byte; }; }; e: pstring;", "rrddd",
+         "03 02 05 06 00", "04 01 05 01 06 00", "02 02 05 06 00", "04 02 05 06 01 00", "00 02 05 06 00")
+    case("rows of stated rows up to a label", "byte = (e - s) / 8; s: array { array[2] { byte; }; }; e: pstring;",
+         "rrd", "04 01 02 03 04 00", "00 00", "03 01 02 03 00")
     case("rows up to a label with a late number in each",
-        [byte(LENGTH), Label("s"), Array(None, None, [byte(), byte(at("f"))]), Label("e"), LAST, Label("f")], "d",
-        "02 07 28 00")
+         "byte = (e - s) / 8; s: array { byte; byte = f; }; e: pstring; f:", "d", "02 07 28 00")
     case("rows up to a label with its place in each",
-        [byte(LENGTH), Label("s"), Array(None, None, [byte(), integer(at("e"))]), Label("e"), LAST], "rrrd", "03 07 0020 00",
-        "06 07 0038 08 0038 00", "00 00", "06 07 0038 08 0039 00")
-    case("rows up to a label with formats of its place", [byte(LENGTH), Label("s"),
-            Array(None, None, [byte(), text("pstring", None, [Format(b"%d", [at("e")])])]), Label("e"), LAST], "d",
-        '04 07 02 "40" 00')
+         "byte = (e - s) / 8; s: array { byte; integer = e; }; e: pstring;", "rrrd", "03 07 0020 00",
+         "06 07 0038 08 0038 00", "00 00", "06 07 0038 08 0039 00")
+    case("rows up to a label with formats of its place",
+         'byte = (e - s) / 8; s: array { byte; pstring = $$Format("%d", e); }; e: pstring;', "d", '04 07 02 "40" 00')
     for count in (1, 2, 16, 17, 64, 65, 200):
-        case("a string of %d bytes up to a label" % count, [byte(LENGTH), Label("s"), text("string"), Label("e"), byte()], "r",
-            [b"\\'\"\0" * (count // 4) + b"q" * (count % 4), 7])
-        case("%d rows up to a label" % count,
-            [byte(LENGTH), Label("s"), Array(None, None, [field_bits(8)]), Label("e"), byte()], "r",
-            [[[k] for k in range(count)], 7])
-
-
-def main():
-    for section in (kinds, several, places, least, not_ended, both):
-        section()
-    done = ENDS.book.finish()
-    sys.exit(0 if done and not WRONG else 1)
-
-
-if __name__ == "__main__":
-    main()
+        case("a string of %d bytes up to a label" % count, "byte = (e - s) / 8; s: string; e: byte;", "r",
+             [b"\\'\"\0" * (count // 4) + b"q" * (count % 4), 7])
+        case("%d rows up to a label" % count, "byte = (e - s) / 8; s: array { bitstring[8]; }; e: byte;", "r",
+             [[[k] for k in range(count)], 7])

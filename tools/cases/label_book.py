@@ -1,26 +1,24 @@
-"""A case file of types with labels: each row stands as fields and values, and in part with its bytes or its fault by
-hand.
+"""Books of types with labels.
 
-labels.py tells what comes, and what label_spelling.py says of the bytes must be the same. Of `derez` label_reading.py
-tells which bytes are rows, and shown.py, which reads the text of the type, has to say so too. label_cases.py,
-late_cases.py and the scripts on what `derez` shows stand on it.
+Each type stands as the text of its fields, or as a list of them, of which label_types.py writes the text. labels.py
+lays its rows, and what label_spelling.py says of the bytes must be the same. Where bytes or the line on `err` stand by
+hand, they are compared with what labels.py says. Of `derez` stands by hand after the name which resources it shows by
+a `resource` statement, `r`, and which as bytes, `d`; each resource stands as its bytes or as the values of a row.
+label_reading.py has to say the same, and so has shown.py, which reads the text of the type.
 """
 import re
 
-import top  # noqa: F401
 from casefile import Book
-from model import shown
+from model import shown, type_files
 from model.faults import Refused
 from model.fork import image, spelled as bytes_spelled
 from model.label_reading import read
 from model.label_spelling import is_spelled
-from model.label_types import (Align, Array, Fill, Number, Points, Switch, bits_at, byte, byte_at, field_bits, integer, items_text, key,
-                         long_at, longint, num, number, points, text, type_text, word_at)
+from model.label_types import (Align, Array, Fill, Number, Points, Switch, bits_at, body_text, byte, byte_at,
+    field_bits, integer, items_text, key, long_at, longint, num, number, points, text, type_text, word_at)
 from model.labels import FACTS, bytes_of, check
 
 WRITTEN = "Written by tools/cases/%s. The bytes are told by tools/model/labels.py, and in part by hand."
-
-WRONG = []
 
 
 def rows(name, *row):
@@ -33,33 +31,39 @@ def stated(count, *row):
     return Array(None, count, list(row))
 
 
+def fields_of(given):
+    """The fields of a type, which stand as a list or as a text that is spelled as label_types.py spells them."""
+    if not isinstance(given, str):
+        return given
+    fields = type_files.fields_of(given)
+    assert body_text(fields) == given, given
+    return fields
+
+
 def agree(same, *says):
     """What stands here by hand is what labels.py and label_spelling.py say."""
-    if not same:
-        WRONG.append(says)
-        print("differs: %s\n%s  told %s, by hand %s" % says)
+    assert same, "%s\n%s  told %s, by hand %s" % says
 
 
-class Cases:
-    """The cases of `rez`: of a type and a row, or of a source by hand."""
+class Cases(Book):
+    """The cases of `rez`: of a type and a row, or of a source by hand. What `derez` shows of the rows may be another book."""
 
     def __init__(self, name, script, says, read_back=None):
-        self.book = Book(name, says, WRITTEN % script)
-        self.say = self.book.say
+        super().__init__(name, says, WRITTEN % script)
         self.read_back = read_back and Shown(read_back, script, "What derez shows of the rows of %s." % name)
-
-    def finish(self):
-        """Writes the files; with --check it says whether they are what stands there."""
-        return self.book.finish() & (self.read_back is None or self.read_back.book.finish())
 
     def add(self, name, source, resources, error, words="rez s.r -o x", keys=(), files=()):
         """A case with its source, and the resources or the line that come."""
-        self.book.case(name, words, [("s.r", source)] + list(files), keys, 2 if error else 0,
-                       [] if error else [("x", image(resources))], (), "", "rezkit: %s\n" % error if error else "")
+        files = [("s.r", source), *files]
+        if error:
+            self.refused(name, words, error, files, keys=keys)
+        else:
+            self.case(name, words, files, keys, leaves=[("x", image(resources))])
 
     def row(self, name, body, values, by_hand=None, facts=FACTS):
         """A case of a type and one row: the bytes by hand, in the pieces of fork.py, or the fault by hand, or neither."""
         head = "%d" % facts["ID"] + (', "%s"' % facts["Name"].decode() if facts["Name"] else "")
+        body = fields_of(body)
         source = type_text(body) + "resource 'Test' (%s) { %s };\n" % (head, items_text(values))
         is_fault = by_hand is not None and re.match("[0-9]{3} [A-Z][a-z]", by_hand)
         wanted = None if by_hand is None or is_fault else bytes_spelled(by_hand)
@@ -88,19 +92,19 @@ class Cases:
             self.add(name, source, [(b"Test", k + 1, b"", 0, bytes_spelled(each)) for k, each in enumerate(given)], None)
 
 
-class Shown:
+class Shown(Book):
     """Cases of `derez` of types with labels, and of `rez` on what it shows."""
 
     def __init__(self, name, script, says):
-        self.book = Book(name, says, WRITTEN_OF_SHOWN % script)
-        self.say = self.book.say
+        super().__init__(name, says, WRITTEN_OF_SHOWN % script)
 
-    def case(self, name, body, marks, *contents, out=None, kind="Test", first=1, also=""):
+    def shows(self, name, body, marks, *contents, out=None, kind="Test", first=1, also=""):
         """A type and resources of it with the ids from the first on, each bytes in the pieces of fork.py, or a row.
 
         The marks by hand say of each whether it is shown by a `resource` statement, `r`, or as bytes, `d`; so may the
         whole text. A row that has no bytes is given with zeros in the fixed numbers of the type.
         """
+        body = fields_of(body)
         check(body)
         types = also + type_text(body, kind)
         resources = [(kind.encode(), first + k, b"", 0, content_of(body, each, first + k)) for k, each in enumerate(contents)]
@@ -115,9 +119,9 @@ class Shown:
         agree(told == "".join(line[0] for line in text.split("\n") if re.match("(resource|data) '", line)),
             name, types, text, told)
         agree(out in (None, text), name, types, text, out)
-        self.book.case("shown: " + name, "derez f t.r", [("f", fork), ("t.r", types)], (), 0, (), (), text, "")
+        self.case("shown: " + name, "derez f t.r", [("f", fork), ("t.r", types)], out=text)
         if again and "r" in told:
-            self.book.case("again: " + name, "rez t.r s.r -o x", [("t.r", types), ("s.r", text)], (), 0, [("x", fork)], (), "", "")
+            self.case("again: " + name, "rez t.r s.r -o x", [("t.r", types), ("s.r", text)], leaves=[("x", fork)])
 
 
 WRITTEN_OF_SHOWN = ("Written by tools/cases/%s. What is shown is told by tools/model/label_reading.py and tools/model/shown.py, and in part by hand; "

@@ -1,18 +1,7 @@
-#!/usr/bin/env python3
-"""Writes label_rules.cases: where labels may stand, and how they are named.
-
-    python3 tools/cases/label_rule_cases.py [--check]
-
-A type stands here as a list of fields, and labels.py writes its text and lays its rows. What label_spelling.py says of
-the bytes must be the same. Where bytes or the line on `err` stand here, they are written by hand, and are compared with
-what labels.py says. With --check nothing is written, and the status is 1 where a file would change.
-"""
-import sys
-
-import top  # noqa: F401
-from label_book import Cases, WRONG
-from model.label_types import (Array, Fill, Format, Label, Switch, at, at_row, bits_at, byte, byte_at, integer, key,
-                               long_at, number, points, row_of, rows_of, text, word_at)
+"""Writes label_rules.cases: where labels may stand, and how they are named."""
+from label_book import Cases
+from model.label_types import (Array, Format, Label, Switch, at, at_row, bits_at, byte, byte_at, integer, key, long_at,
+                               number, points, row_of, rows_of, text, word_at)
 
 RULES = Cases("label_rules.cases", "label_rule_cases.py", "Where labels may stand, how they are named, and what is no label.")
 
@@ -24,8 +13,8 @@ longint bitstring boolean char string pstring wstring cstring point rect hex dec
 nonpurgeable purgeable unlocked locked unprotected protected nonpreload preload unchanged changed defined true false rez derez""".split()
 
 
+@RULES.part("What is no name of a label.")
 def grammar():
-    RULES.say("What is no name of a label.")
     for word in RESERVED:
         RULES.told("the label %s" % word, "type 'Test' { byte; %s: byte; };\nresource 'Test' (1) { 1, 2 };\n" % word, 1,
             "201 Syntax")
@@ -166,17 +155,17 @@ def grammar():
         "208 TooFew: 1")
 
 
+@RULES.part("Two labels of one name.")
 def rules():
-    RULES.say("Two labels of one name.")
     row = RULES.row
     switch = [("A", [Label("in"), key("byte", 1)]), ("B", [Label("other"), key("byte", 2)])]
-    row("two labels of one name", [Label("a"), byte(), Label("a"), byte()], [1, 2], '230 LabelTwice: "a"')
+    row("two labels of one name", "a: byte; a: byte;", [1, 2], '230 LabelTwice: "a"')
     row("two labels of one name in other letters", [Label("aB"), byte(), Label("Ab"), byte()], [1, 2], '230 LabelTwice: "Ab"')
     row("two labels of one name side by side", [Label("a"), Label("A")], [], '230 LabelTwice: "A"')
     row("three labels of one name", [Label("a"), Label("A"), Label("b"), Label("B")], [], '230 LabelTwice: "A"')
     row("a label of a case and one before", [Label("IN"), Switch(switch)], [("A", [])], '230 LabelTwice: "in"')
     row("a label of a case and one behind", [Switch(switch), Label("IN")], [("A", [])], '230 LabelTwice: "IN"')
-    row("a label in two cases", [Switch([("A", [Label("l"), key("byte", 1)]), ("B", [Label("l"), key("byte", 2)])])], [("A", [])],
+    row("a label in two cases", "switch { case A: l: key byte = 1; case B: l: key byte = 2; };", [("A", [])],
         '230 LabelTwice: "l"')
     row("a label in cases of two switches", [Switch(switch), Switch([("A", [key("byte", 1), Label("other")])])],
         [("A", []), ("A", [])], '230 LabelTwice: "other"')
@@ -189,14 +178,13 @@ def rules():
     row("two labels before a bad width", [Label("a"), Label("A"), text("pstring", 256)], [b""], '230 LabelTwice: "A"')
     row("a bad width before two labels", [text("pstring", 256), Label("a"), Label("A")], [b""], "238 BadWidth: 256")
     row("two labels before an unknown one", [byte(at("none")), Label("a"), Label("A")], [], '230 LabelTwice: "A"')
-    row("the position of an array counts labels", [Label("a"), Label("b"), Array(None, None, [byte(1)])], [[]],
-        "237 ElementWithoutValues: 2")
-    row("labels have no width before a key", [Switch([("A", [Label("a"), byte(), Label("b"), key("byte", 1)]),
-        ("B", [byte(), key("byte", 2)])])], [("B", [1])], "01 02")
-    row("another distance of a key behind a label", [Switch([("A", [Label("a"), byte(), key("byte", 1)]),
-        ("B", [Label("b"), key("byte", 2)])])], [("B", [])], '235 KeyDistance: "B"')
-    row("a size by a label isn't a fixed width", [Label("n"), Switch([("A", [text("string", at("n")), key("byte", 1)])])],
-        [("A", [b""])], '235 KeyDistance: "A"')
+    row("the position of an array counts labels", "a: b: array { byte = 1; };", [[]], "237 ElementWithoutValues: 2")
+    row("labels have no width before a key",
+        "switch { case A: a: byte; b: key byte = 1; case B: byte; key byte = 2; };", [("B", [1])], "01 02")
+    row("another distance of a key behind a label",
+        "switch { case A: a: byte; key byte = 1; case B: b: key byte = 2; };", [("B", [])], '235 KeyDistance: "B"')
+    row("a size by a label isn't a fixed width", "n: switch { case A: string[n]; key byte = 1; };", [("A", [b""])],
+        '235 KeyDistance: "A"')
     RULES.say("Labels that a field can't name.")
     no = '212 UnknownLabel: "none"'
     for name, field, values in [("a number", byte(at("none")), []), ("a key's neighbour", integer(at("none") + 1), []),
@@ -265,16 +253,15 @@ def rules():
             ("in a size before the rows", [text("string", row_of("none")), Array("none", None, [byte()])], [b"", []]),
             ("in an index behind the rows", [Array("none", None, [Label("w"), byte()]), byte(at_row("w", row_of("none")))], [[]])]:
         RULES.row("the number of the row %s" % where, body, values, no)
-    row("the unknown label of an index before that in it", [byte(at_row("x", at("y")))], [], '212 UnknownLabel: "x"')
-    row("the unknown label in an index before the next", [Array(None, None, [Label("w"), byte()]),
-        byte(at_row("w", at("x")) + at("y"))], [[]], '212 UnknownLabel: "x"')
-    row("the unknown array in an index", [Array(None, None, [Label("w"), byte()]), byte(at_row("w", rows_of("x")))], [[]],
+    row("the unknown label of an index before that in it", "byte = x[y];", [], '212 UnknownLabel: "x"')
+    row("the unknown label in an index before the next", "array { w: byte; }; byte = w[x] + y;", [[]],
         '212 UnknownLabel: "x"')
-    row("the unknown label of bits before an index in their start", [byte(bits_at("x", at_row("y", 1), number(1)))], [],
+    row("the unknown array in an index", "array { w: byte; }; byte = w[$$CountOf(x)];", [[]], '212 UnknownLabel: "x"')
+    row("the unknown label of bits before an index in their start", "byte = $$BitField(x, y[1], 1);", [],
         '212 UnknownLabel: "x"')
-    row("an index in a point that is unknown", [points(1, at_row("none", 1))], [], no)
-    row("an index in a format that is unknown", [text("string", None, [Format(b"%d", [at_row("none", 1)])])], [], no)
-    row("an index of an array without rows that is known", [Array(None, 0, [Label("w"), byte()]), byte(at_row("w", 1))], [[]],
+    row("an index in a point that is unknown", "point = {1, none[1]};", [], no)
+    row("an index in a format that is unknown", 'string = $$Format("%d", none[1]);', [], no)
+    row("an index of an array without rows that is known", "array[0] { w: byte; }; byte = w[1];", [[]],
         "223 BadIndex: 1")
     RULES.say("Two labels of one name, in rows.")
     for where, body, values in [
@@ -288,20 +275,20 @@ def rules():
             ("in two cases of a row", [Array(None, None, [Switch([("A", [Label("aB"), key("byte", 1)]),
                 ("B", [Label("Ab"), key("byte", 2)])])])], [[]])]:
         RULES.row("two labels of one name %s" % where, body, values, '230 LabelTwice: "Ab"')
-    row("an array of labels alone", [Array(None, None, [Label("a"), byte(1)])], [[]], "237 ElementWithoutValues: 0")
-    row("the position of an array counts labels in rows before it", [Array(None, None, [Label("a"), byte(), Label("b")]),
-        Array(None, None, [Label("c"), Fill("bit", 1)])], [[], []], "237 ElementWithoutValues: 4")
+    row("an array of labels alone", "array { a: byte = 1; };", [[]], "237 ElementWithoutValues: 0")
+    row("the position of an array counts labels in rows before it", "array { a: byte; b: }; array { c: fill bit[1]; };",
+        [[], []], "237 ElementWithoutValues: 4")
     row("an array twice, the second in the first one's rows with labels", [Array("r", None, [Label("a"),
         Array("R", None, [Label("b"), byte()])])], [[]], '231 ArrayTwice: "R"')
     row("labels in rows have no width before a key", [Switch([("A", [Array(None, 2, [Label("a"), byte(), Label("b")]),
         key("byte", 1)]), ("B", [Array(None, 1, [integer()]), key("byte", 2)])])], [("A", [[[1], [2]]])], "0102 01")
     RULES.say("Which unknown label comes first.")
-    row("the unknown label that is written first", [byte(at("x") + at("y"))], [], '212 UnknownLabel: "x"')
+    row("the unknown label that is written first", "byte = x + y;", [], '212 UnknownLabel: "x"')
     row("the unknown label of bits before that of their start", [byte(bits_at("x", at("y"), at("z")))], [], '212 UnknownLabel: "x"')
-    row("the unknown label of a size before that of its format", [text("string", at("x"), [Format(b"%d", [at("y")])])], [],
+    row("the unknown label of a size before that of its format", 'string[x] = $$Format("%d", y);', [],
         '212 UnknownLabel: "x"')
-    row("the unknown label of the first field", [byte(at("x")), byte(at("y"))], [], '212 UnknownLabel: "x"')
-    row("the unknown label of a field before that of its rows", [Array(None, None, [byte(), byte(at("x"))]), byte(at("y"))], [[]],
+    row("the unknown label of the first field", "byte = x; byte = y;", [], '212 UnknownLabel: "x"')
+    row("the unknown label of a field before that of its rows", "array { byte; byte = x; }; byte = y;", [[]],
         '212 UnknownLabel: "x"')
     row("the unknown label of a row before that of a field behind", [byte(at("X")), Array(None, None, [byte(), byte(at("y"))])],
         [[]], '212 UnknownLabel: "X"')
@@ -311,9 +298,9 @@ def rules():
         '212 UnknownLabel: "IN"')
     row("a label of a case from a row outside", [Switch(switch), Array(None, None, [byte(), byte(at("in"))])], [("A", []), []],
         '212 UnknownLabel: "in"')
-    row("an array by itself is no label", [byte(at("r")), Array("r", None, [byte()])], [[]], '212 UnknownLabel: "r"')
-    row("bits of an array", [byte(byte_at("r")), Array("r", None, [byte()])], [[]], '212 UnknownLabel: "r"')
-    row("a label has no rows", [Label("a"), byte(rows_of("a"))], [], '212 UnknownLabel: "a"')
+    row("an array by itself is no label", "byte = r; array r { byte; };", [[]], '212 UnknownLabel: "r"')
+    row("bits of an array", "byte = $$Byte(r); array r { byte; };", [[]], '212 UnknownLabel: "r"')
+    row("a label has no rows", "a: byte = $$CountOf(a);", [], '212 UnknownLabel: "a"')
     row("a case is no label", [Switch([("A", [key("byte", 1)])]), byte(at("A"))], [("A", [])], '212 UnknownLabel: "A"')
     row("true and false are names without a label", [byte(at("true")), byte(at("FALSE"))], [], "01 00")
     row("true in a size", [text("string", at("true"))], [b"ab"], '"a"')
@@ -327,13 +314,3 @@ def rules():
     RULES.told("a word of a fact without its signs", "type 'Test' { byte = ID; };\n", 1, '212 UnknownLabel: "ID"')
     RULES.told("a word of an attribute is a name and no label", "type 'Test' { byte = locked; };\n", 1,
         '212 UnknownLabel: "locked"')
-
-def main():
-    for section in (grammar, rules):
-        section()
-    done = [cases.book.finish() for cases in (RULES,)]
-    sys.exit(0 if all(done) and not WRONG else 1)
-
-
-if __name__ == "__main__":
-    main()

@@ -1,18 +1,7 @@
-#!/usr/bin/env python3
-"""Writes late.cases: numbers that are computed after all others, and what reads bits.
-
-    python3 tools/cases/late_cases.py [--check]
-
-A type stands here as a list of fields, and labels.py writes its text and lays its rows. What label_spelling.py says of
-the bytes must be the same. Where bytes or the line on `err` stand here, they are written by hand, and are compared with
-what labels.py says. With --check nothing is written, and the status is 1 where a file would change.
-"""
-import sys
-
-import top  # noqa: F401
-from label_book import Cases, FUNCTIONS, KINDS, WRONG
-from model.label_types import (Align, Array, Fill, Format, Label, Switch, at, bits_at, byte, byte_at, field_bits, integer, key,
-                         long_at, longint, num, number, points, rows_of, text, word_at)
+"""Writes late.cases: numbers that are computed after all others, and what reads bits."""
+from label_book import Cases, FUNCTIONS, KINDS
+from model.label_types import (Array, Fill, Format, Label, Switch, at, bits_at, byte, byte_at, field_bits, integer, key,
+                               long_at, longint, num, number, points, text, word_at)
 
 LATE = Cases("late.cases", "late_cases.py", "Numbers that are computed after all others, what reads bits, and the order of refusals.",
     "late_read.cases")
@@ -20,8 +9,8 @@ LATE = Cases("late.cases", "late_cases.py", "Numbers that are computed after all
 
 # Bits.
 
+@LATE.part("What reads bits: widths, and where they begin and end.")
 def reading():
-    LATE.say("What reads bits: widths, and where they begin and end.")
     row = LATE.row
     eight = [Label("a"), longint(), longint(), Label("m")]
     values = [0x01234567, -1985229329]  # 89ABCDEF
@@ -42,48 +31,42 @@ def reading():
         (-31, 32, 65), (1, 8, 73), (2147483647, 32, 2147483743)]:
         row("%d bits %d behind a label, which aren't there" % (width, start),
             eight + [longint(bits_at("m", number(start), number(width)))], values, "213 LaterData: %d" % end)
-    row("bits up to the place of the number", [Label("a"), field_bits(3), field_bits(5, bits_at("a", number(0), number(3)))], [5],
-        "A5")
-    row("bits of which the last is the number's first", [Label("a"), field_bits(3),
-        field_bits(5, bits_at("a", number(0), number(4)))], [5], "213 LaterData: 4")
-    row("a byte over bounds of bytes", [Label("a"), field_bits(4), Label("b"), byte(), field_bits(4), byte(byte_at("b"))],
-        [1, 0x23, 4], "1234 23")
-    row("a long of which the first bit is set", [Label("a"), longint(), longint(long_at("a"))], [-2], "FFFFFFFE FFFFFFFE")
-    row("a long of which the first bit is set, in an integer", [Label("a"), longint(), integer(long_at("a"))], [-2],
+    row("bits up to the place of the number", "a: bitstring[3]; bitstring[5] = $$BitField(a, 0, 3);", [5], "A5")
+    row("bits of which the last is the number's first", "a: bitstring[3]; bitstring[5] = $$BitField(a, 0, 4);", [5],
+        "213 LaterData: 4")
+    row("a byte over bounds of bytes", "a: bitstring[4]; b: byte; bitstring[4]; byte = $$Byte(b);", [1, 0x23, 4],
+        "1234 23")
+    row("a long of which the first bit is set", "a: longint; longint = $$Long(a);", [-2], "FFFFFFFE FFFFFFFE")
+    row("a long of which the first bit is set, in an integer", "a: longint; integer = $$Long(a);", [-2],
         "FFFFFFFE FFFE")
-    row("a word of which the first bit is set, in an integer", [Label("a"), integer(), integer(word_at("a"))], [-2], "FFFE FFFE")
-    row("a word is never negative", [Label("a"), integer(), longint(word_at("a") + 1)], [-1], "FFFF 00010000")
-    row("a byte is never negative", [Label("a"), byte(), integer(byte_at("a") - 256)], [-1], "FF FFFF")
-    row("the start is computed", [Label("a"), byte(), byte(), byte(), byte(bits_at("a", byte_at("a") * 8, number(8)))], [2, 5, 6],
-        "020506 06")
-    row("the width is computed", [Label("a"), byte(), byte(), byte(bits_at("a", number(8), byte_at("a")))], [4, 0x5F], "045F 05")
-    row("start and width from places", [Label("a"), byte(), Label("b"), byte(), Label("c"),
-        byte(bits_at("a", at("b"), at("c") - at("b")))], [1, 7], "0107 07")
-    row("the fault of the start before that of the width", [Label("a"), byte(), byte(bits_at("a", number(1) / 0, number(1) << 32))],
-        [1], "211 ZeroDivisor")
-    row("the fault in the width", [Label("a"), byte(), byte(bits_at("a", number(99), number(1) << 32))], [1], "215 BadShift: 32")
-    row("the width before the place of the bits", [Label("a"), byte(), byte(bits_at("a", number(99), number(33)))], [1],
-        "213 LaterData: 33")
-    row("bits in the start that aren't there", [Label("a"), byte(), byte(bits_at("a", long_at("a"), number(33)))], [1],
+    row("a word of which the first bit is set, in an integer", "a: integer; integer = $$Word(a);", [-2], "FFFE FFFE")
+    row("a word is never negative", "a: integer; longint = $$Word(a) + 1;", [-1], "FFFF 00010000")
+    row("a byte is never negative", "a: byte; integer = $$Byte(a) - 256;", [-1], "FF FFFF")
+    row("the start is computed", "a: byte; byte; byte; byte = $$BitField(a, $$Byte(a) * 8, 8);", [2, 5, 6], "020506 06")
+    row("the width is computed", "a: byte; byte; byte = $$BitField(a, 8, $$Byte(a));", [4, 0x5F], "045F 05")
+    row("start and width from places", "a: byte; b: byte; c: byte = $$BitField(a, b, c - b);", [1, 7], "0107 07")
+    row("the fault of the start before that of the width", "a: byte; byte = $$BitField(a, 1 / 0, 1 << 32);", [1],
+        "211 ZeroDivisor")
+    row("the fault in the width", "a: byte; byte = $$BitField(a, 99, 1 << 32);", [1], "215 BadShift: 32")
+    row("the width before the place of the bits", "a: byte; byte = $$BitField(a, 99, 33);", [1], "213 LaterData: 33")
+    row("bits in the start that aren't there", "a: byte; byte = $$BitField(a, $$Long(a), 33);", [1],
         "213 LaterData: 32")
-    row("bits of zeros in a fill", [Label("a"), Fill("word", None), byte(byte_at("a"))], [], "0000 00")
-    row("bits of an align", [byte(), Label("a"), Align("long"), byte(byte_at("a"))], [255], "FF000000 00")
-    row("bits of a point", [Label("a"), points(count=2), integer(bits_at("a", number(16), number(16)))], [(1, -2)],
-        "0001 FFFE FFFE")
-    row("a number of a point reads the one before it", [Label("a"), points(7, word_at("a"))], [], "0007 0007")
-    row("a number of a rectangle reads those before it", [Label("a"), points(7, word_at("a") + 1,
-        bits_at("a", number(16), number(16)) + 1, word_at("a"))], [], "0007 0008 0009 0007")
-    row("a number of a point reads itself", [Label("a"), points(word_at("a"), 1)], [], "213 LaterData: 16")
-    row("bits of a string", [Label("a"), text("string"), integer(word_at("a"))], [b"AB"], '"AB" 4142')
-    row("bits of the length of a string", [Label("a"), text("pstring"), byte(byte_at("a"))], [b"ABC"], '03 "ABC" 03')
-    row("bits of rows", [Label("a"), Array(None, None, [byte()]), integer(word_at("a"))], [[[1], [2], [3]]], "010203 0102")
-    row("bits of rows that aren't there", [Label("a"), Array(None, None, [byte()]), integer(word_at("a"))], [[[1]]],
-        "213 LaterData: 16")
-    row("bits of a key", [Label("a"), Switch([("A", [key("byte", 7)]), ("B", [key("byte", 9)])]), byte(byte_at("a"))], [("B", [])],
+    row("bits of zeros in a fill", "a: fill word; byte = $$Byte(a);", [], "0000 00")
+    row("bits of an align", "byte; a: align long; byte = $$Byte(a);", [255], "FF000000 00")
+    row("bits of a point", "a: point; integer = $$BitField(a, 16, 16);", [(1, -2)], "0001 FFFE FFFE")
+    row("a number of a point reads the one before it", "a: point = {7, $$Word(a)};", [], "0007 0007")
+    row("a number of a rectangle reads those before it",
+        "a: rect = {7, $$Word(a) + 1, $$BitField(a, 16, 16) + 1, $$Word(a)};", [], "0007 0008 0009 0007")
+    row("a number of a point reads itself", "a: point = {$$Word(a), 1};", [], "213 LaterData: 16")
+    row("bits of a string", "a: string; integer = $$Word(a);", [b"AB"], '"AB" 4142')
+    row("bits of the length of a string", "a: pstring; byte = $$Byte(a);", [b"ABC"], '03 "ABC" 03')
+    row("bits of rows", "a: array { byte; }; integer = $$Word(a);", [[[1], [2], [3]]], "010203 0102")
+    row("bits of rows that aren't there", "a: array { byte; }; integer = $$Word(a);", [[[1]]], "213 LaterData: 16")
+    row("bits of a key", "a: switch { case A: key byte = 7; case B: key byte = 9; }; byte = $$Byte(a);", [("B", [])],
         "09 09")
-    row("a row reads the row before it", [Label("a"), Array(None, None, [byte(), byte(byte_at("a"))])], [[[5], [6]]], "0505 0605")
-    row("a number as it grows", [Label("a"), Array("r", None, [byte(), byte(bits_at("a", rows_of("r") * 8 - 8, number(8)))])],
-        [[[5], [6]]], "213 LaterData: 16")
+    row("a row reads the row before it", "a: array { byte; byte = $$Byte(a); };", [[[5], [6]]], "0505 0605")
+    row("a number as it grows", "a: array r { byte; byte = $$BitField(a, $$CountOf(r) * 8 - 8, 8); };", [[[5], [6]]],
+        "213 LaterData: 16")
     for which, function in FUNCTIONS:
         row("%s at its own place" % which, [Label("a"), longint(function("a"))], [],
             "213 LaterData: %d" % ({"a byte": 8, "a word": 16, "a long": 32}.get(which) or int(which.split()[0])))
@@ -95,8 +78,8 @@ def reading():
 
 # Late numbers.
 
+@LATE.part("Late numbers of each type.")
 def lateness():
-    LATE.say("Late numbers of each type.")
     row = LATE.row
     for form, fits in [("boolean", (0, 1)), ("byte", (-128, 255)), ("char", (0, 255)), ("integer", (-32768, 65535)),
         ("bitstring[1]", (-1, 1)), ("bitstring[5]", (-16, 31)),
@@ -109,115 +92,96 @@ def lateness():
     for form in ("longint", "bitstring[32]"):
         for value in (-2 ** 31, -1, 2 ** 31 - 1):
             row("a late %s of %d" % (form, value), [num(form, (at("e") - at("e")) + value), Label("e")], [])
-    row("a late number of a point", [points(at("e"), 5), Label("e")], [], "0020 0005")
-    row("both numbers of a point late", [points(at("e"), at("e") + 1), Label("e")], [], "0020 0021")
-    row("late numbers of a rectangle", [points(at("e"), 1, at("a"), 2), Label("a"), byte(), Label("e")], [9],
-        "0048 0001 0040 0002 09")
-    row("a late number of a point that is out of range", [points(5, at("e") << 16), Label("e")], [], "207 OutOfRange: 2097152")
-    row("a number of a point reads a late one before it", [Label("a"), points(at("e"), word_at("a") + 1), Label("e")], [],
-        "0020 0021")
+    row("a late number of a point", "point = {e, 5}; e:", [], "0020 0005")
+    row("both numbers of a point late", "point = {e, e + 1}; e:", [], "0020 0021")
+    row("late numbers of a rectangle", "rect = {e, 1, a, 2}; a: byte; e:", [9], "0048 0001 0040 0002 09")
+    row("a late number of a point that is out of range", "point = {5, e << 16}; e:", [], "207 OutOfRange: 2097152")
+    row("a number of a point reads a late one before it", "a: point = {e, $$Word(a) + 1}; e:", [], "0020 0021")
     LATE.say("Late because bits of a late number are read.")
-    row("a late number that reads a late one", [Label("a"), byte(at("e")), byte(byte_at("a") + 1), Label("e")], [], "10 11")
-    row("late numbers that read each the one before it", [Label("a"), byte(at("e")), Label("b"), byte(byte_at("a") + 1), Label("c"),
-        byte(byte_at("b") + 1), Label("d"), byte(byte_at("c") + 1), Label("e")],
-        [], "20 21 22 23")
-    row("the last bit of a late number", [Label("a"), field_bits(3, at("e") & 7 | 1),
-        field_bits(5, bits_at("a", number(2), number(1))), byte(), Label("e")], [255], "21 FF")
-    row("the first bit of a late number", [field_bits(3, 5), Label("a"), field_bits(5, at("e")),
-        byte(bits_at("a", number(-3), number(4))), Label("e")], [], "B0 0B")
-    row("bits directly before a late number", [field_bits(3, 5), Label("a"), field_bits(5, at("e")),
-        text("string", bits_at("a", number(-3), number(3))), Label("e")], [b"abcdef"],
-        "207 OutOfRange: 48")
-    row("bits directly before a late number in a size", [field_bits(3, 5), Label("a"), field_bits(5, at("e") & 31),
-        text("string", bits_at("a", number(-3), number(3))), Label("e")], [b"abcdef"],
-        'B0 "abcde"')
-    row("bits directly behind a late number in a size", [Label("a"), field_bits(5, at("e") & 31), field_bits(3, 2),
-        text("string", bits_at("a", number(5), number(3))), Label("e")], [b"abcdef"],
-        'C2 "ab"')
-    row("a bit of a late number in a size", [Label("a"), field_bits(5, at("e") & 31), field_bits(3, 2),
-        text("string", bits_at("a", number(4), number(4))), Label("e")], [b"abcdef"], "214 SizeLater: 3")
-    row("a late number between two others in a size", [Label("a"), byte(1), byte(at("e")), byte(2),
-        text("string", bits_at("a", number(0), number(24))), Label("e")], [b"a"], "214 SizeLater: 4")
-    row("all bits of a late number in a size", [Label("a"), byte(at("e")), text("string", byte_at("a")), Label("e")], [b"a"],
-        "214 SizeLater: 2")
-    row("a number that doesn't name a label, of late bits and others", [Label("a"), byte(at("e")), byte(2), integer(word_at("a")),
-        Label("e")], [], "2002 2002")
-    row("a size of a number that is late by its bits", [Label("a"), byte(at("e")), Label("b"), byte(byte_at("a")),
-        text("string", byte_at("b")), Label("e")], [b"a"], "214 SizeLater: 4")
-    row("a number that isn't late beside one that is", [Label("a"), byte(at("e")), Label("b"), byte(3),
-        text("string", byte_at("b")), Label("e")], [b"abcd"], '28 03 "abc"')
-    row("late bits that a product with 0 hides", [Label("a"), byte(at("e")), text("string", byte_at("a") * 0), Label("e")], [b"a"],
-        "214 SizeLater: 2")
-    row("a label that a product with 0 hides", [text("string", at("e") * 0), Label("e")], [b"a"], "214 SizeLater: 0")
-    row("a late number of no label", [byte(at("e") * 0 + 7), Label("e")], [], "07")
-    row("late bits in the start", [Label("a"), byte(at("e")), byte(7), byte(bits_at("a", byte_at("a") - 16, number(8))),
-        Label("e")], [], "18 07 07")
-    row("late bits in the width", [Label("a"), byte(at("e") / 3), byte(7), byte(bits_at("a", number(8), byte_at("a"))), Label("e")],
-        [], "08 07 07")
-    row("late bits in the start, and bits that aren't there", [Label("a"), byte(at("e")), byte(7),
-        byte(bits_at("a", byte_at("a"), number(8))), Label("e")], [], "213 LaterData: 32")
-    row("late bits in the width, and a width that can't be", [Label("a"), byte(at("e") + 16), byte(7),
-        byte(bits_at("a", number(8), byte_at("a"))), Label("e")], [], "213 LaterData: 40")
-    row("a late number read at a label that stands later", [byte(bits_at("e", number(-8), number(8))), Label("e")], [],
-        "213 LaterData: 8")
-    row("bits before a label that stands later", [byte(), byte(bits_at("e", number(-16), number(8))), Label("e")], [7], "07 07")
-    row("bits before a label that stands later, in a size", [byte(), text("string", bits_at("e", number(-8), number(8))),
-        Label("e")], [1, b"a"], "214 SizeLater: 1")
-    row("a late number reads a later one", [Label("a"), byte(byte_at("b")), Label("b"), byte(at("e")), Label("e")], [],
-        "213 LaterData: 16")
-    row("places around late numbers are as wide", [integer(at("a")), Label("a"), longint(at("b")), Label("b"),
-        field_bits(3, at("c") & 7), Label("c")], [], "0010 00000030 60")
+    row("a late number that reads a late one", "a: byte = e; byte = $$Byte(a) + 1; e:", [], "10 11")
+    row("late numbers that read each the one before it",
+        "a: byte = e; b: byte = $$Byte(a) + 1; c: byte = $$Byte(b) + 1; d: byte = $$Byte(c) + 1; e:", [], "20 21 22 23")
+    row("the last bit of a late number", "a: bitstring[3] = e & 7 | 1; bitstring[5] = $$BitField(a, 2, 1); byte; e:",
+        [255], "21 FF")
+    row("the first bit of a late number", "bitstring[3] = 5; a: bitstring[5] = e; byte = $$BitField(a, -3, 4); e:", [],
+        "B0 0B")
+    row("bits directly before a late number", "bitstring[3] = 5; a: bitstring[5] = e; string[$$BitField(a, -3, 3)]; e:",
+        [b"abcdef"], "207 OutOfRange: 48")
+    row("bits directly before a late number in a size",
+        "bitstring[3] = 5; a: bitstring[5] = e & 31; string[$$BitField(a, -3, 3)]; e:", [b"abcdef"], 'B0 "abcde"')
+    row("bits directly behind a late number in a size",
+        "a: bitstring[5] = e & 31; bitstring[3] = 2; string[$$BitField(a, 5, 3)]; e:", [b"abcdef"], 'C2 "ab"')
+    row("a bit of a late number in a size",
+        "a: bitstring[5] = e & 31; bitstring[3] = 2; string[$$BitField(a, 4, 4)]; e:", [b"abcdef"], "214 SizeLater: 3")
+    row("a late number between two others in a size",
+        "a: byte = 1; byte = e; byte = 2; string[$$BitField(a, 0, 24)]; e:", [b"a"], "214 SizeLater: 4")
+    row("all bits of a late number in a size", "a: byte = e; string[$$Byte(a)]; e:", [b"a"], "214 SizeLater: 2")
+    row("a number that doesn't name a label, of late bits and others", "a: byte = e; byte = 2; integer = $$Word(a); e:",
+        [], "2002 2002")
+    row("a size of a number that is late by its bits", "a: byte = e; b: byte = $$Byte(a); string[$$Byte(b)]; e:",
+        [b"a"], "214 SizeLater: 4")
+    row("a number that isn't late beside one that is", "a: byte = e; b: byte = 3; string[$$Byte(b)]; e:", [b"abcd"],
+        '28 03 "abc"')
+    row("late bits that a product with 0 hides", "a: byte = e; string[$$Byte(a) * 0]; e:", [b"a"], "214 SizeLater: 2")
+    row("a label that a product with 0 hides", "string[e * 0]; e:", [b"a"], "214 SizeLater: 0")
+    row("a late number of no label", "byte = e * 0 + 7; e:", [], "07")
+    row("late bits in the start", "a: byte = e; byte = 7; byte = $$BitField(a, $$Byte(a) - 16, 8); e:", [], "18 07 07")
+    row("late bits in the width", "a: byte = e / 3; byte = 7; byte = $$BitField(a, 8, $$Byte(a)); e:", [], "08 07 07")
+    row("late bits in the start, and bits that aren't there",
+        "a: byte = e; byte = 7; byte = $$BitField(a, $$Byte(a), 8); e:", [], "213 LaterData: 32")
+    row("late bits in the width, and a width that can't be",
+        "a: byte = e + 16; byte = 7; byte = $$BitField(a, 8, $$Byte(a)); e:", [], "213 LaterData: 40")
+    row("a late number read at a label that stands later", "byte = $$BitField(e, -8, 8); e:", [], "213 LaterData: 8")
+    row("bits before a label that stands later", "byte; byte = $$BitField(e, -16, 8); e:", [7], "07 07")
+    row("bits before a label that stands later, in a size", "byte; string[$$BitField(e, -8, 8)]; e:", [1, b"a"],
+        "214 SizeLater: 1")
+    row("a late number reads a later one", "a: byte = $$Byte(b); b: byte = e; e:", [], "213 LaterData: 16")
+    row("places around late numbers are as wide", "integer = a; a: longint = b; b: bitstring[3] = c & 7; c:", [],
+        "0010 00000030 60")
 
 
+@LATE.part("Late numbers in rows and in cases.")
 def late_rows():
-    LATE.say("Late numbers in rows and in cases.")
     row = LATE.row
     lines = [[[1], [2], [3]]]
-    row("a late number in each row", [Array(None, None, [byte(), integer(at("e"))]), Label("e")], lines, "01 0048 02 0048 03 0048")
-    row("late numbers in rows of rows", [Array(None, None, [Array(None, None, [byte(at("e")), byte()]), byte(at("e") + 1)]),
-        Label("e")], [[[[[1], [2]]], [[]], [[[3]]]]],
-        "48014802 49 49 4803 49")
-    row("late numbers in rows of rows of rows", [Array("a", None, [Array("b", None,
-        [Array("c", None, [byte(at("e") + rows_of("c")), byte()]),
-        byte(rows_of("b"))]), byte(at("e") + rows_of("a"))]), Label("e")],
+    row("a late number in each row", "array { byte; integer = e; }; e:", lines, "01 0048 02 0048 03 0048")
+    row("late numbers in rows of rows", "array { array { byte = e; byte; }; byte = e + 1; }; e:",
+        [[[[[1], [2]]], [[]], [[[3]]]]], "48014802 49 49 4803 49")
+    row("late numbers in rows of rows of rows",
+        "array a { array b { array c { byte = e + $$CountOf(c); byte; }; byte = $$CountOf(b); }; byte = e + $$CountOf(a); }; e:",
         [[[[[[[1], [2]]], [[]]]]]], "3A01 3A02 02 02 39")
-    row("the number of rows of its own row in a late number", [Array(None, None,
-        [byte(at("e") + rows_of("in")), Array("in", None, [byte()])]), Label("e")], [[[[[1], [2]]], [[]], [[[3]]]]],
+    row("the number of rows of its own row in a late number",
+        "array { byte = e + $$CountOf(in); array in { byte; }; }; e:", [[[[[1], [2]]], [[]], [[[3]]]]],
         "32 0102 30 31 03")
-    row("the number of rows of the row around in a late number", [Array(None, None,
-        [Array("in", None, [byte(at("e") + rows_of("in")), byte()])]), Label("e")], [[[[[1], [2]]], [[[3]]]]],
-        "3201 3202 3103")
-    row("late numbers in rows that read the row before", [Label("a"), Array("r", None,
-        [byte(), byte(bits_at("a", number(0), number(8)) + at("e"))]), Label("e")], lines, "0131 0231 0331")
+    row("the number of rows of the row around in a late number",
+        "array { array in { byte = e + $$CountOf(in); byte; }; }; e:", [[[[[1], [2]]], [[[3]]]]], "3201 3202 3103")
+    row("late numbers in rows that read the row before", "a: array r { byte; byte = $$BitField(a, 0, 8) + e; }; e:",
+        lines, "0131 0231 0331")
     row("a late number in each row that reads a late one before the rows",
-        [Label("a"), byte(at("e")), Array(None, None, [byte(), byte(byte_at("a"))]), Label("e")], lines, "38 0138 0238 0338")
-    row("numbers in rows that read late ones in rows", [Label("a"), Array(None, None, [byte(at("e")), byte()]),
-        byte(bits_at("a", number(16), number(8)) + 1), Label("e")], lines, "3801 3802 3803 39")
-    row("a size in rows that reads a late number in rows before", [Label("a"), Array(None, None, [byte(at("e")), byte()]),
-        Array(None, None, [text("string", byte_at("a"))]), Label("e")],
-        [[[1]], [[b"a"]]], "214 SizeLater: 3")
-    row("a size in rows that reads a late number in a row before it", [byte(), Label("a"),
-        Array(None, None, [text("string", bits_at("a", number(-8), number(8))), byte(at("e"))]), Label("e")],
-        [0, [[b"a"], [b"b"]]], "00 18 18")
-    row("a late number in rows that is out of range in the second", [Array(None, None,
-        [Array("in", None, [byte()]), byte(at("e") * rows_of("in"))]), Label("e")], [[[[[1]]], [[[1], [2], [3], [4], [5], [6]]]]],
+        "a: byte = e; array { byte; byte = $$Byte(a); }; e:", lines, "38 0138 0238 0338")
+    row("numbers in rows that read late ones in rows",
+        "a: array { byte = e; byte; }; byte = $$BitField(a, 16, 8) + 1; e:", lines, "3801 3802 3803 39")
+    row("a size in rows that reads a late number in rows before",
+        "a: array { byte = e; byte; }; array { string[$$Byte(a)]; }; e:", [[[1]], [[b"a"]]], "214 SizeLater: 3")
+    row("a size in rows that reads a late number in a row before it",
+        "byte; a: array { string[$$BitField(a, -8, 8)]; byte = e; }; e:", [0, [[b"a"], [b"b"]]], "00 18 18")
+    row("a late number in rows that is out of range in the second",
+        "array { array in { byte; }; byte = e * $$CountOf(in); }; e:", [[[[[1]]], [[[1], [2], [3], [4], [5], [6]]]]],
         "207 OutOfRange: 432")
-    row("a late number in no row", [Array(None, None, [byte(), byte(at("e") / 0)]), Label("e")], [[]], "")
-    row("late numbers in rows with a stated number", [Array(None, 2, [byte(), byte(at("e"))]), Label("e")], [[[1], [2]]],
-        "0120 0220")
-    row("a late number in a case", [Switch([("A", [key("byte", 1), byte(at("e"))]), ("B", [key("byte", 2), integer(at("e"))])]),
-        Label("e")], [("B", [])], "02 0018")
-    row("a late number in a case by its own label", [Switch([("A", [key("byte", 1), byte(at("e")), text("cstring"), Label("e")])]),
-        byte()], [("A", [b"ab"]), 9], '01 28 "ab" 00 09')
-    row("late numbers in cases in rows", [Array(None, None, [Switch([("A", [key("byte", 1), byte(at("e"))]),
-        ("B", [key("byte", 2), integer(at("e"))])])]), Label("e")],
+    row("a late number in no row", "array { byte; byte = e / 0; }; e:", [[]], "")
+    row("late numbers in rows with a stated number", "array[2] { byte; byte = e; }; e:", [[[1], [2]]], "0120 0220")
+    row("a late number in a case", "switch { case A: key byte = 1; byte = e; case B: key byte = 2; integer = e; }; e:",
+        [("B", [])], "02 0018")
+    row("a late number in a case by its own label", "switch { case A: key byte = 1; byte = e; cstring; e: }; byte;",
+        [("A", [b"ab"]), 9], '01 28 "ab" 00 09')
+    row("late numbers in cases in rows",
+        "array { switch { case A: key byte = 1; byte = e; case B: key byte = 2; integer = e; }; }; e:",
         [[[("B", [])], [("A", [])]]], "02 0028 01 28")
     row("a late number in rows of a case by labels of the case and around",
-        [Label("o"), Switch([("A", [key("byte", 1), Label("s"), Array(None, None,
-        [byte(), byte(at("t") - at("s")), byte(at("e") - at("o"))]), Label("t")])]), Label("e")],
+        "o: switch { case A: key byte = 1; s: array { byte; byte = t - s; byte = e - o; }; t: }; e:",
         [("A", [[[5], [6]]])], "01 053038 063038")
-    row("late numbers in their order over rows and behind", [Label("a"), byte(at("e")),
-        Array(None, None, [byte(byte_at("a")), byte()]), byte(byte_at("a") + 2), Label("e")], lines, "40 4001 4002 4003 42")
+    row("late numbers in their order over rows and behind",
+        "a: byte = e; array { byte = $$Byte(a); byte; }; byte = $$Byte(a) + 2; e:", lines, "40 4001 4002 4003 42")
     for count in (0, 1, 2, 7, 40):
         row("%d rows with late numbers" % count, [longint(at("e")), Array("r", None, [byte(), integer(at("e") - at("s"))]),
             Label("s"), pad(count), Label("e")], [[[k] for k in range(count)]])
@@ -232,8 +196,8 @@ def pad(count):
 ZERO, SHIFT, GONE = number(1) / 0, number(1) << 32, at("e") - at("e")
 
 
+@LATE.part("A late number has its faults in the second pass.")
 def refusals():
-    LATE.say("A late number has its faults in the second pass.")
     row = LATE.row
     tail = [Label("e")]
     row("a late number with a zero divisor", [byte(at("e") / 0)] + tail, [], "211 ZeroDivisor")
@@ -353,13 +317,3 @@ def refusals():
     LATE.told("a size out of range with a late number out of range behind it",
         "type 'Test' { a: byte = 0; cstring[$$Byte(a)] = \"\"; byte = e * 999; e: };\nresource 'Test' (1) { };\n", 2,
         "207 OutOfRange: 0")
-
-def main():
-    for section in (reading, lateness, late_rows, refusals):
-        section()
-    done = LATE.finish()
-    sys.exit(0 if done and not WRONG else 1)
-
-
-if __name__ == "__main__":
-    main()

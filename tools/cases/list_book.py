@@ -1,11 +1,10 @@
-"""The cases of a book that are runs of lists.py: list_cases.py and fork_cases.py write them. Also forks that several of
-them have.
+"""Books whose cases are runs of lists.py, and forks that several of them have.
 
 Each line of `err` is written by hand where a case stands, and must be what the run comes to.
 """
-import top  # noqa: F401
+from casefile import Book
 from model.fork import image, number
-from model.lists import DeRez, Folder, Rez, Source, ends, text_of
+from model.lists import DeRez, Folder, Rez, Source, ends, paired, text_of
 
 
 def resource(kind, ident, name="", attr=0, content=b""):
@@ -17,6 +16,7 @@ FOUR = [resource("Test", 1, "a", 0, b"\1"), resource("Test", 2, "b", 0x10, b"\2"
         resource("Last", 1, "c", 0x20, b"\4")]
 ONE, SOME = image([TEST]), image(FOUR)
 LONG = "n" * 256
+NOTHING = (";", None)
 
 
 def odd_fork():
@@ -34,14 +34,12 @@ def cut_fork():
     return ONE[:15] + b"\x2E" + ONE[16:308]
 
 
-class Runs:
-    """The cases of a book, each a run of lists.py."""
+class Runs(Book):
+    """A book whose cases are runs of lists.py, those of `rez` with these words."""
 
-    def __init__(self, book):
-        self.book = book
-
-    def say(self, *says):
-        self.book.say(*says)
+    def __init__(self, name, *says, words="rez s.r -o x"):
+        super().__init__(name, *says)
+        self.words = words
 
     def add(self, name, words, run, before, after, gone, err, keys, warned=""):
         """A case of a run, whose line on `err` is as it was written by hand."""
@@ -51,11 +49,12 @@ class Runs:
         left = [(file, held) for file, held in after.files.items() if before.get(file) != held]
         if after.fails:
             keys = keys + ["fail folder %d" % after.fails] + ["fails never"] * (after.calls < after.fails)
-        self.book.case(name, words, before.items(), keys, status, left, gone, out, warned + line)
+        self.case(name, words, before.items(), keys, status, left, gone, out, warned + line)
 
-    def rez(self, name, words, *items, files=None, more=None, err="", fails=None, moment=0, room="", gone=(), code=None,
+    def rez(self, name, *items, words=None, files=None, more=None, err="", fails=None, moment=0, room="", gone=(), code=None,
             warned=""):
-        """A case of `rez`: the items of the source s.r, other sources, other files, and the line on `err`."""
+        """A case of `rez`: the items of the source s.r, other words, sources and files, and the line on `err`."""
+        words = words or self.words
         sources = dict({"s.r": items}, **(more or {}))
         sources = {file: given for file, given in sources.items() if given is not None}
         before = {file: coded(text_of(given), code) for file, given in every(sources).items()}
@@ -77,8 +76,13 @@ def every(sources):
     found = {}
     for file, items in sources.items():
         found[file] = items
-        found.update(every({what.name: what.items for _, what in items if isinstance(what, Source)}))
+        found.update(every({what.name: what.items for _, what in paired(items) if isinstance(what, Source)}))
     return found
+
+
+def said_as(text, statement):
+    """A statement with a text of its own, if there is one."""
+    return (text, statement) if text else statement
 
 
 def coded(text, code):

@@ -1,15 +1,12 @@
 """The cases of forms.cases: statements, `rez` and `derez` over files of all forms. list_cases.py writes them."""
-import top  # noqa: F401
-from casefile import Book
 from list_book import FOUR, ONE, Runs, SOME, TEST, cut_fork
 from model.fork import image, number
 from model.forms import MAGICS, File, checked, crc, dated, double, hqx, hqx_head, hqx_text, macbin, single
 from model.lists import Head, Id, Name, Stray, data, delete, include, read, wrong
 
-formed = Runs(Book("forms.cases",
-                   "Statements, `rez` and `derez` over files in the forms raw, AppleDouble, AppleSingle, MacBinary and BinHex.",
-                   "Written by tools/cases/list_cases.py. What each run leaves is told by tools/model/lists.py and"
-                   " tools/model/forms.py."))
+formed = Runs("forms.cases",
+    "Statements, `rez` and `derez` over files in the forms raw, AppleDouble, AppleSingle, MacBinary and BinHex.",
+    "Written by tools/cases/list_cases.py. What each run leaves is told by tools/model/lists.py and tools/model/forms.py.")
 
 T = File(name=b"T", data=b"data of T", kind=b"TEXT", creator=b"ttxt", flags=0x0123, vertical=-2, horizontal=3,
          folder=-4,
@@ -36,52 +33,49 @@ def entries(version, *parts, form="double"):
     return number(MAGICS[form], 4) + number(version, 4) + b"filler".ljust(16, b"!") + number(len(parts), 2) + head + body
 
 
+@formed.part("include and read over the forms.")
 def included_forms():
-    formed.say("include and read over the forms.")
     for name, _, write, file in WRITERS:
-        formed.rez("include from " + name, "rez s.r -o x", ('include "%s";' % file, include(file)),
-                   files={file: write(T.but(res=ONE))})
-    formed.rez("include by a name from a file behind a path, as another type", "rez s.r -o x -s d",
+        formed.rez("include from " + name, ('include "%s";' % file, include(file)), files={file: write(T.but(res=ONE))})
+    formed.rez("include by a name from a file behind a path, as another type",
                ("include \"T\" 'Test' (\"b\") as 'Last' ($$ID);",
-                include("T", "Test", Name("b"), "Last", Head(lambda one: one.ident))), files={"d/T": macbin(T)})
-    formed.rez("include from MacBinary with a second header and a comment", "rez s.r -o x",
-               ('include "f";', include("f")), files={"f": parted(T.but(res=ONE))})
-    formed.rez("include from MacBinary without a resource fork", "rez s.r -o x", ('include "f";', include("f")),
-               files={"f": macbin(T.but(res=b""))})
-    formed.rez("include from AppleDouble without a name, 394 bytes", "rez s.r -o x",
-               ('include "._App";', include("._App")), files={"._App": dated(File(res=ONE))})
-    formed.rez("include from AppleDouble of the first version with other entries", "rez s.r -o x",
-               ('include "f";', include("f")),
+                include("T", "Test", Name("b"), "Last", Head(lambda one: one.ident))), words="rez s.r -o x -s d",
+               files={"d/T": macbin(T)})
+    formed.rez("include from MacBinary with a second header and a comment", include("f"),
+               files={"f": parted(T.but(res=ONE))})
+    formed.rez("include from MacBinary without a resource fork", include("f"), files={"f": macbin(T.but(res=b""))})
+    formed.rez("include from AppleDouble without a name, 394 bytes", include("._App"),
+               files={"._App": dated(File(res=ONE))})
+    formed.rez("include from AppleDouble of the first version with other entries", include("f"),
                files={"f": entries(0x00010000, (1, b"data"), (2, ONE), (8, b"dates"), (2, b"second"))})
-    formed.rez("include from AppleDouble without a resource fork", "rez s.r -o x", ('include "f";', include("f")),
+    formed.rez("include from AppleDouble without a resource fork", include("f"),
                files={"f": entries(0x00020000, (3, b"T"))})
-    formed.rez("include from AppleDouble reads the header file alone", "rez s.r -o x",
-               ('include "._T";', include("._T")), files={"._T": double(T.but(res=ONE)), "T": b"data"},
-               fails=4)
-    formed.rez("include from AppleSingle of the first version with other entries", "rez s.r -o x", ('include "f";', include("f")),
+    formed.rez("include from AppleDouble reads the header file alone", include("._T"),
+               files={"._T": double(T.but(res=ONE)), "T": b"data"}, fails=4)
+    formed.rez("include from AppleSingle of the first version with other entries", include("f"),
                files={"f": entries(0x00010000, (1, b"data"), (2, ONE), (8, b"dates"), (2, b"second"), form="single")})
-    formed.rez("include from AppleSingle without a resource fork", "rez s.r -o x", ('include "f";', include("f")),
+    formed.rez("include from AppleSingle without a resource fork", include("f"),
                files={"f": entries(0x00020000, (1, ONE), form="single")})
-    formed.rez("a map that is read-only within AppleSingle that is included", "rez s.r -o x", ('include "f";', include("f")),
+    formed.rez("a map that is read-only within AppleSingle that is included", include("f"),
                files={"f": single(T.but(res=image([TEST], 0x0080)))})
-    formed.rez("include from BinHex behind other lines", "rez s.r -o x", ('include "f";', include("f")),
+    formed.rez("include from BinHex behind other lines", include("f"),
                files={"f": b"From: someone\n\n" + hqx(T.but(res=ONE)).replace(b"\n:", b"\n \t\n:") + b"Bye!\n"})
-    formed.rez("include from BinHex whose lines end in CR and in CR LF", "rez s.r -o x", ('include "f";', include("f")),
+    formed.rez("include from BinHex whose lines end in CR and in CR LF", include("f"),
                files={"f": hqx(T.but(res=ONE)).replace(b"\n", b"\r", 1).replace(b"\n", b"\r\n")})
     for name, _, write, file in WRITERS:
-        formed.rez("read %s as it is" % name, "rez s.r -o x", ("read 'File' (1) \"%s\";" % file, read("File", file, 1)),
+        formed.rez("read %s as it is" % name, ("read 'File' (1) \"%s\";" % file, read("File", file, 1)),
                    files={file: write(T.but(res=b""))})
-    formed.rez("a map that is read-only within MacBinary that is included", "rez s.r -o x",
-               ('include "f";', include("f")), files={"f": macbin(T.but(res=image([TEST], 0x0080)))})
+    formed.rez("a map that is read-only within MacBinary that is included", include("f"),
+               files={"f": macbin(T.but(res=image([TEST], 0x0080)))})
 
 
+@formed.part("Broken forms in a statement: the mark is that of the statement, and the pick comes later.")
 def broken_forms():
-    formed.say("Broken forms in a statement: the mark is that of the statement, and the pick comes later.")
     whole, text, name = macbin(T), hqx(T.but(res=b"")), entries(0x00020000, (3, b"T"))
 
     def refused(name, says, held):
-        formed.rez("include " + name, "rez s.r -o x", (";", None),
-                   ("include \"f\" 'Test'\n    (40000);", include("f", "Test", Id(40000))), files={"f": held},
+        formed.rez("include " + name, (";", None), ("include \"f\" 'Test'\n    (40000);",
+                                                    include("f", "Test", Id(40000))), files={"f": held},
                    err="s.r:2: error " + says)
 
     refused("a text", "441 NoStart: 0", b"no fork\n")
@@ -120,12 +114,12 @@ def bent(res):
     return hqx_text(checked(hqx_head(File(name=b"T", res=res))) + checked(b"") + res + bytes(2))
 
 
+@formed.part("-a keeps the form of the file that is there, and what it has beside its resources.")
 def added_forms():
-    formed.say("-a keeps the form of the file that is there, and what it has beside its resources.")
-    item = ("data 'Test' (1) { };", data("Test", 1, b""))
+    item = data("Test", 1, b"")
 
     def added(name, words, base, file="x", others=(), **more):
-        formed.rez("add to " + name, "rez s.r -a " + words, item, files=dict({file: base}, **dict(others)),
+        formed.rez("add to " + name, item, words="rez s.r -a " + words, files=dict({file: base}, **dict(others)),
                    moment=86400, **more)
 
     added("MacBinary", "-o x", macbin(T))
@@ -164,18 +158,19 @@ def added_forms():
     added("a raw file as AppleSingle", "-form single -o d/One", SOME, "d/One")
     added("a raw file as MacBinary", "-form macbin -o d/One", SOME, "d/One")
     added("a raw file as AppleDouble with a type", "-form double -o x -t TEXT", SOME)
-    formed.rez("add to a file that is missing as MacBinary", "rez s.r -a -form macbin -o One", item)
-    formed.rez("add to a file of no bytes as BinHex", "rez s.r -a -form hqx -o One", item, files={"One": b""})
-    formed.rez("a file that is written anew keeps nothing of what was there", "rez s.r -form macbin -o x", item,
+    formed.rez("add to a file that is missing as MacBinary", item, words="rez s.r -a -form macbin -o One")
+    formed.rez("add to a file of no bytes as BinHex", item, words="rez s.r -a -form hqx -o One", files={"One": b""})
+    formed.rez("a file that is written anew keeps nothing of what was there", item, words="rez s.r -form macbin -o x",
                files={"x": macbin(T)}, moment=86400)
 
 
+@formed.part("Broken forms that -a can't read: there is no mark.")
 def broken_form_bases():
-    formed.say("Broken forms that -a can't read: there is no mark.")
     whole, item = macbin(T), ("x;", wrong(201))
 
     def refused(name, says, base):
-        formed.rez("add to " + name, "rez s.r -a -ov -form raw -o x", item, files={"x": base}, err="error " + says)
+        formed.rez("add to " + name, item, words="rez s.r -a -ov -form raw -o x", files={"x": base},
+                   err="error " + says)
 
     refused("a text", "441 NoStart: 0", b"no fork\n")
     refused("MacBinary with a wrong CRC", "424 BadCrc: 0 0 %d" % crc(whole[:124]), whole[:124] + b"\0\0" + whole[126:])
@@ -187,50 +182,51 @@ def broken_form_bases():
     refused("MacBinary with a map that is read-only", "220 ReadOnlyMap: 128", macbin(T.but(res=image(FOUR, 0x0080))))
 
 
+@formed.part("Names: of the file that is there, else the last one of the words.")
 def names():
-    formed.say("Names: of the file that is there, else the last one of the words.")
-    item = ("data 'Test' (128) { $\"0102\" };", data("Test", 128, b"\1\2"))
+    item = data("Test", 128, b"\1\2")
     long = "n" * 64
-    formed.rez("a name of 63 bytes in Mac Roman", "rez s.r -form macbin -o d/é" + long[2:], item)
-    formed.rez("a name of 64 bytes", "rez s.r -form macbin -o d/" + long, item, err="error 425 BadName: 64")
-    formed.rez("a name of 64 bytes as AppleDouble", "rez s.r -form double -o d/" + long, item)
-    formed.rez("a name of 64 bytes as AppleSingle", "rez s.r -form single -o d/" + long, item)
-    formed.rez("no name behind the last folder as AppleSingle", "rez s.r -form single -o d/", item)
-    formed.rez("a name that Mac Roman hasn't, as AppleSingle", "rez s.r -form single -o d/語", item, err="error 425 BadName: 1")
-    formed.rez("a name that Mac Roman hasn't, of an AppleSingle that has one", "rez s.r -a -o 語", item,
+    formed.rez("a name of 63 bytes in Mac Roman", item, words="rez s.r -form macbin -o d/é" + long[2:])
+    formed.rez("a name of 64 bytes", item, words="rez s.r -form macbin -o d/" + long, err="error 425 BadName: 64")
+    formed.rez("a name of 64 bytes as AppleDouble", item, words="rez s.r -form double -o d/" + long)
+    formed.rez("a name of 64 bytes as AppleSingle", item, words="rez s.r -form single -o d/" + long)
+    formed.rez("no name behind the last folder as AppleSingle", item, words="rez s.r -form single -o d/")
+    formed.rez("a name that Mac Roman hasn't, as AppleSingle", item, words="rez s.r -form single -o d/語",
+               err="error 425 BadName: 1")
+    formed.rez("a name that Mac Roman hasn't, of an AppleSingle that has one", item, words="rez s.r -a -o 語",
                files={"語": single(T)})
-    formed.rez("a name of 64 bytes that AppleSingle has", "rez s.r -a -form macbin -o x", item,
+    formed.rez("a name of 64 bytes that AppleSingle has", item, words="rez s.r -a -form macbin -o x",
                files={"x": single(D.but(name=b"n" * 64))}, err="error 425 BadName: 64")
-    formed.rez("no name behind the last folder", "rez s.r -form macbin -o d/", item, err="error 425 BadName: 0")
-    formed.rez("no name behind the last folder as AppleDouble", "rez s.r -form double -o d/", item)
-    formed.rez("a name of 70 characters that Mac Roman hasn't", "rez s.r -form macbin -o 語/" + long + "語12345", item,
-               err="error 425 BadName: 70")
-    formed.rez("a folder that Mac Roman hasn't", "rez s.r -form hqx -o 語/n", item)
-    formed.rez("a name that Mac Roman hasn't, of a file that has one", "rez s.r -a -o 語", item, files={"語": macbin(T)})
-    formed.rez("a name that Mac Roman hasn't, of a file that has none", "rez s.r -a -o 語", item,
+    formed.rez("no name behind the last folder", item, words="rez s.r -form macbin -o d/", err="error 425 BadName: 0")
+    formed.rez("no name behind the last folder as AppleDouble", item, words="rez s.r -form double -o d/")
+    formed.rez("a name of 70 characters that Mac Roman hasn't", item,
+               words="rez s.r -form macbin -o 語/" + long + "語12345", err="error 425 BadName: 70")
+    formed.rez("a folder that Mac Roman hasn't", item, words="rez s.r -form hqx -o 語/n")
+    formed.rez("a name that Mac Roman hasn't, of a file that has one", item, words="rez s.r -a -o 語",
+               files={"語": macbin(T)})
+    formed.rez("a name that Mac Roman hasn't, of a file that has none", item, words="rez s.r -a -o 語",
                files={"語": double(D.but(name=b""))}, err="error 425 BadName: 1")
-    formed.rez("a name that Mac Roman hasn't, of a raw file", "rez s.r -a -o 語", item, files={"語": ONE})
-    formed.rez("a name of 64 bytes that AppleDouble has", "rez s.r -a -form hqx -o x", item,
+    formed.rez("a name that Mac Roman hasn't, of a raw file", item, words="rez s.r -a -o 語", files={"語": ONE})
+    formed.rez("a name of 64 bytes that AppleDouble has", item, words="rez s.r -a -form hqx -o x",
                files={"x": double(D.but(name=b"n" * 64))}, err="error 425 BadName: 64")
-    formed.rez("a name of 300 bytes that AppleDouble has", "rez s.r -a -form macbin -o x", item,
+    formed.rez("a name of 300 bytes that AppleDouble has", item, words="rez s.r -a -form macbin -o x",
                files={"x": entries(0x00020000, (3, b"n" * 300))}, err="error 425 BadName: 255")
-    formed.rez("a fault of a statement comes before one of the name", "rez s.r -form double -o 語",
-               ("delete 'Test';", delete("Test")), err="s.r:1: error 205 NeedsAppend")
-    formed.rez("a resource that is too long comes before the name", "rez s.r -form hqx -o d/",
-               ("read 'Big ' (0) \"big\";", read("Big ", "big", 0)), item,
-               files={"big": bytes(16777212)}, err="error 302 DataFull: 16777222")
-    formed.rez("a name comes before a write that fails", "rez s.r -form hqx -o d/", item, fails=2,
+    formed.rez("a fault of a statement comes before one of the name", delete("Test"),
+               words="rez s.r -form double -o 語", err="s.r:1: error 205 NeedsAppend")
+    formed.rez("a resource that is too long comes before the name", read("Big ", "big", 0), item,
+               words="rez s.r -form hqx -o d/", files={"big": bytes(16777212)}, err="error 302 DataFull: 16777222")
+    formed.rez("a name comes before a write that fails", item, words="rez s.r -form hqx -o d/", fails=2,
                err="error 425 BadName: 0")
-    formed.rez("the write of a form fails", "rez s.r -form hqx -o d/n", item, fails=2, err="write fault")
-    formed.rez("the write of AppleSingle fails", "rez s.r -form single -o d/n", item, fails=2, err="write fault")
-    formed.rez("a data fork of AppleSingle that is too long", "rez s.r -a -o x", item,
+    formed.rez("the write of a form fails", item, words="rez s.r -form hqx -o d/n", fails=2, err="write fault")
+    formed.rez("the write of AppleSingle fails", item, words="rez s.r -form single -o d/n", fails=2, err="write fault")
+    formed.rez("a data fork of AppleSingle that is too long", item, words="rez s.r -a -o x",
                files={"x": single(T.but(data=bytes(33554433)))}, err="error 428 ForkTooLong: 33554433")
-    formed.rez("a data fork that is too long for a form", "rez s.r -a -o x", item,
+    formed.rez("a data fork that is too long for a form", item, words="rez s.r -a -o x",
                files={"x": macbin(T.but(data=bytes(33554433)))}, err="error 428 ForkTooLong: 33554433")
 
 
+@formed.part("derez over the forms.")
 def shown_forms():
-    formed.say("derez over the forms.")
     for name, form, write, file in WRITERS:
         formed.derez("derez of %s by its form" % name, "derez %s -from %s" % (file, form), {file: write(T)}, form=form)
     formed.derez("the last of two forms counts", "derez -from hqx f -from macbin", {"f": macbin(T)}, form="macbin")
@@ -260,8 +256,8 @@ def shown_forms():
     refused("MacBinary with a broken fork", "407 ReferencesOutside: 300 1", "derez f", macbin(T.but(res=cut_fork())))
 
 
+@formed.part("derez with type files: what is no `type` statement is read, and does nothing.")
 def type_files():
-    formed.say("derez with type files: what is no `type` statement is read, and does nothing.")
     items = (("include \"no\" 'Test' (40000) as 'Last' (256, \"n\", 256);", None), ("include \"no\" not 'Test';", None),
              ("read 'Test' (1 / 0, 256) \"no\";", None),
              ("change 'Test' (5) to 'Last';", None), ("delete 'Test' (128);", None))
@@ -277,10 +273,3 @@ def type_files():
                  {"t.r": (("delete;", Stray(201)),)}, err="t.r:1: error 201 Syntax")
     formed.derez("a missing file behind a type file", "derez f t.r -from hqx", {}, {"t.r": items}, "hqx",
                  err='error 101 MissingFile: "f"')
-
-
-def finish():
-    """Writes the file, or with --check says whether it is what stands there."""
-    for part in (included_forms, broken_forms, added_forms, broken_form_bases, names, shown_forms, type_files):
-        part()
-    return formed.book.finish()

@@ -1,30 +1,24 @@
-#!/usr/bin/env python3
 """Writes listing.cases: what `list` prints of files of each form, and of which files it prints nothing.
-
-    python3 tools/cases/listing_cases.py [--check]
 
 The text of each file is that of tools/model/listing.py, a second reading of docs/LANGUAGE.md. Beside it stand by hand
 the lines of the examples, of each form, of each date and of each form of a name, and the message of each rule that is
-broken. Forks with changes by chance are those of the sequence of det_cases.py. With --check nothing is written, and
-the status is 1 where the file would change.
+broken. Forks with changes by chance are those of the sequence of det_cases.py.
 """
 import re
 import struct
-import sys
 
-import top  # noqa: F401
-from casefile import Book
-from det_cases import BASE, ONE, RULES, TWO, Changes, put
+from casefile import Book, put
+from det_cases import BASE, ONE, RULES, TWO, Changes
 from fork_cases import SHAPES
 from model.breaks import breaks
 from model.faults import NAMES, Refused
 from model.fork import image
-from model.forms import File, crc, dated, double, entries_of, form_of, hqx, hqx_head, hqx_text, macbin, parts_of, single, written
+from model.forms import (FORMS, File, crc, dated, double, entries_of, form_of, hqx, hqx_head, hqx_text, macbin,
+                         parts_of, single, written)
 from model.listing import text_of
 
 BOOK = Book("listing.cases", "What `list` prints of files of each form.",
             "Written by tools/cases/listing_cases.py, each text by hand or by the second reading of tools/model/listing.py.")
-FORMS = ("raw", "double", "single", "macbin", "hqx")
 NAMED = FORMS[1:]
 LAST_OF_2039 = 4291833599
 FRONT = ["type 'APPL'", "creator 'Samp'", "flags 0x2100"]
@@ -62,8 +56,8 @@ def refused(name, data, says, words="list f"):
     BOOK.case(name, words, [] if data is None else [("f", data)], status=2, err="rezkit: error %s\n" % says)
 
 
+@BOOK.part("An application, and its fork alone.")
 def examples():
-    BOOK.say("An application, and its fork alone.")
     fork = image([resource("CODE", 0, b"", 0, bytes(11302)), resource("PICT", 128, b"About", 32, bytes(842))])
     app = File(name=b"MPWmake.sea", kind=b"APPL", creator=b"aust", flags=0x2100, created=3230404328, modified=3230404360,
                data=bytes(4230), res=fork)
@@ -75,8 +69,8 @@ def examples():
     case("no bytes", b"", "form raw", "fork 0", "resources 0")
 
 
+@BOOK.part("Each form has the facts that it carries, and no others.")
 def forms():
-    BOOK.say("Each form has the facts that it carries, and no others.")
     file = File(name=b"App", kind=b"APPL", creator=b"Samp", flags=0x2100, vertical=7, horizontal=-7, folder=9, extra=bytes(range(16)),
                 locked=True, created=3029529600, modified=LAST_OF_2039, data=b"its data fork", res=TWO)
     rows = ["fork 328", "'Test' (128) 2", "'Test' (129) 0", "resources 2"]
@@ -149,8 +143,8 @@ DATES = [
 ]
 
 
+@BOOK.part("Dates of MacBinary, both ends and beyond.")
 def dates():
-    BOOK.say("Dates of MacBinary, both ends and beyond.")
     file = File(name=b"App", kind=b"APPL", creator=b"Samp", flags=0x2100)
     for seconds, told_as in DATES:
         case("made at %d" % seconds, macbin(file.but(created=seconds, modified=5)),
@@ -183,8 +177,8 @@ def dates():
              among=["created 2000-01-01 00:00:00", "modified 2000-01-01 00:00:00"])
 
 
+@BOOK.part("Names of every byte; none makes a line end.")
 def names():
-    BOOK.say("Names of every byte; none makes a line end.")
     every = [resource("Test", byte, bytes([byte])) for byte in range(256)]
     case("each byte as the name of a resource", image(every), among=[
         "'Test' (0, \"\\0x00\") 0", "'Test' (1, \"\\0x01\") 0"])
@@ -225,8 +219,8 @@ def names():
                  among=["type '%s'" % shown])
 
 
+@BOOK.part("Ids, attributes and lengths.")
 def resources():
-    BOOK.say("Ids, attributes and lengths.")
     for ident in (-32768, -32767, -16455, -1, 0, 1, 9, 10, 99, 128, 9999, 10000, 32766, 32767):
         case("the id %d" % ident, image([resource("Test", ident, b"", 0, b"12")]), "form raw", "fork 312", "'Test' (%d) 2" % ident, "resources 1")
     by_hand = {0x00: "", 0x02: ", changed", 0x04: ", preload", 0x08: ", protected", 0x10: ", locked", 0x20: ", purgeable", 0x40: ", sysheap",
@@ -246,7 +240,7 @@ def resources():
     by_hand = {"lists and bytes in another order than the types": ["'Test' (2, \"two\", preload) 1", "'Test' (1) 2", "'Last' (5) 0", "'More' (-1, \"more\") 2"],
                "a name that is the end of another": ["'Test' (1, \"abc\\0x01z\") 2", "'Test' (2, \"z\") 2", "'Test' (3) 2"],
                "types without references alone": []}
-    for name, fork in SHAPES.held.items():
+    for name, fork in SHAPES.items():
         lines = by_hand.get(name)
         case("a fork of %s" % name, fork, *([] if lines is None else ["form raw", "fork %d" % len(fork), *lines, "resources %d" % len(lines)]))
     BOOK.say("Many resources.")
@@ -256,8 +250,8 @@ def resources():
     case("256 types", image([((k << 24 | 0x616263).to_bytes(4, "big"), k, b"", 0, b"") for k in range(256)]), among=["resources 256"])
 
 
+@BOOK.part("A fork that breaks a rule is refused by the first one, in each form, and nothing of it is told.")
 def broken():
-    BOOK.say("A fork that breaks a rule is refused by the first one, in each form, and nothing of it is told.")
     for name, change, says in RULES:
         number, word, _, offset, _, value = says.split()
         line = "%s %s: %s %s" % (number, word, offset, value)
@@ -292,8 +286,8 @@ def broken():
     assert sound >= 30, sound
 
 
+@BOOK.part("A file that breaks a rule of its form, and no file.")
 def refusals():
-    BOOK.say("A file that breaks a rule of its form, and no file.")
     file = File(name=b"App", kind=b"APPL", creator=b"Samp", data=b"its data fork", res=ONE)
     refused("no file", None, '101 MissingFile: "f"')
     refused("no file, whose form is named", None, '101 MissingFile: "f"', words="list f -from hqx")
@@ -335,8 +329,8 @@ def refusals():
     refused("BinHex without a name", hqx_text(b"\0" + head[4:]), "447 BadName: 0")
 
 
+@BOOK.part("Words that are no command.")
 def usage():
-    BOOK.say("Words that are no command.")
 
     def misused(name, words, position):
         BOOK.case(name, words, [("f", ONE)], status=1, err="rezkit: usage: word %d\n" % position)
@@ -354,16 +348,3 @@ def usage():
     misused("list with help", "list f --help", 3)
     misused("list in capitals", "List f", 1)
     misused("a command that begins as list does", "lists f", 1)
-
-
-if __name__ == "__main__":
-    assert (len(ONE), len(TWO), len(BASE)) == (312, 328, 385)
-    examples()
-    forms()
-    dates()
-    names()
-    resources()
-    broken()
-    refusals()
-    usage()
-    sys.exit(0 if BOOK.finish() else 1)

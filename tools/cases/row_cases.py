@@ -1,27 +1,21 @@
-#!/usr/bin/env python3
 """Writes rows.cases: what bytes tell under fields, that it gives the bytes again, and how it is shown.
-
-    python3 tools/cases/row_cases.py [--check]
 
 Each line of the tables has fields, after ` @ ` bytes in hexadecimal, and after ` => ` by hand what comes. In the
 tables of rows that is the row: numbers without a sign, a text in quote marks, the numbers of a point in brackets, the
 rows of an array in braces with `|` between them, and a case as its name with its row in parentheses; `none` where
 there is no row; and `unreadable` where nothing is read under the fields, with items after it that give the bytes. In
-the others it is the text of a resource, with `¶` for each line end. `«TEXT×N»` is TEXT N times, and a line that
-begins with `//` says what is tried. What tools/model/shown.py tells has to be the same, or the script stops. With
---check nothing is written, and the status is 1 where the file would change.
+the others it is the text of a resource, with `¶` for each line end. `«TEXT×N»` is TEXT N times. What
+tools/model/shown.py tells has to be the same.
 """
-import re
-import sys
-
-import top  # noqa: F401
-from casefile import Book
+from casefile import Book, expanded
 from model import shown
 from model.fork import image
 from model.label_reading import read
 from model.quoting import quoted
 from model.type_files import declarations_of, found, tokens_of
 
+BOOK = Book("rows.cases", "What bytes tell under fields, that it gives the bytes again, and how it is shown.",
+    "Written by tools/cases/row_cases.py, where all that comes stands by hand, and is told by tools/model/shown.py.")
 NUMBERS = r"""
 // the ends of each width
 byte; byte; byte; @ 00 80 FF => 0 128 255
@@ -289,11 +283,6 @@ STRINGS = (b"STR#", 128, b"", 0)
 LONG_HEAD = (b"Long", -32768, b"n" * 64 + b"m" * 64 + b"l", 0x81)
 
 
-def expanded(text):
-    """The text of a row, with its runs."""
-    return re.sub("«(.*?)×([0-9]+)»", lambda run: run[1] * int(run[2]), text)
-
-
 def row_text(row):
     """A row as the tables spell it."""
     return " ".join(value_text(value) for value in row)
@@ -318,9 +307,8 @@ def row_of(types, resource):
 
 
 def same(wanted, told, text):
-    """Stops where what stands by hand isn't what is told."""
-    if wanted != told:
-        sys.exit("%s\nby hand %s\ntold    %s" % (text, wanted, told))
+    """What stands by hand is what is told."""
+    assert wanted == told, "%s\nby hand %s\ntold    %s" % (text, wanted, told)
 
 
 def parts_of(line):
@@ -332,89 +320,67 @@ def parts_of(line):
     return fields if has_fields else None, bytes.fromhex(digits), wanted
 
 
-class Rows:
-    """The book of the cases, whose names are the texts of the rows."""
-
-    def __init__(self):
-        self.book = Book("rows.cases", "What bytes tell under fields, that it gives the bytes again, and how it is shown.",
-                         "Written by tools/cases/row_cases.py, where all that comes stands by hand, and is told by tools/model/shown.py.")
-
-    def case(self, name, words, files, leaves=(), out="", keys=()):
-        """A case that is done."""
-        self.book.case(name, words, files, keys, 0, leaves, (), out)
-
-    def read(self, line, head):
-        """A case of what is read of bytes, and one of the text that is shown, or of items by hand."""
-        fields, content, wanted = parts_of(line)
-        wanted, _, items = wanted.partition(": ") if wanted.startswith("unreadable") else (wanted, "", "")
-        types, resource = "type '%s' { %s };\n" % (head[0].decode(), fields), head + (content,)
-        same("none" if wanted == "unreadable" else wanted, row_of(types, resource), line)
-        fork = image([resource])
-        text = shown.derez(["f", "t.r"], {"f": fork, "t.r": types.encode()})
-        name = line.split(" => ")[0]
-        self.case("shown: " + name, "derez f t.r", [("f", fork), ("t.r", types)], (), text)
-        if items:
-            statement = "%s%s\n};\n" % (shown.head_text("resource", resource), " " + items)
-            self.case("laid: " + name, "rez t.r s.r -o x", [("t.r", types), ("s.r", statement)], [("x", fork)])
-        elif wanted not in ("none", "unreadable"):
-            self.case("again: " + name, "rez t.r s.r -o x", [("t.r", types), ("s.r", text)], [("x", fork)])
-
-    def text(self, line, head):
-        """A case of the whole text of a resource; of its items alone in the table of items."""
-        fields, content, wanted = parts_of(line)
-        resource, files, words = head + (content,), [], "derez f"
-        if fields is not None:
-            files, words = [("t.r", "type '%s' { %s };\n" % (head[0].decode(), fields))], "derez f t.r"
-        if head is TEST:
-            wanted = shown.head_text("resource", resource) + "¶" + wanted + "};¶¶"
-        text, fork = wanted.replace("¶", "\n"), image([resource])
-        told = shown.derez(words.split()[1:], {"f": fork, **{name: types.encode() for name, types in files}})
-        same(text, told, line)
-        name = "%s %s: %s" % (head[0].decode(), head[1], line.split(" => ")[0])
-        self.case(name, words, [("f", fork)] + files, (), text)
-
-    def table(self, says, rows, add, head):
-        """The cases of a table."""
-        self.book.say(says)
-        for line in rows.strip("\n").split("\n"):
-            if line.startswith("//"):
-                self.book.say(line[2:].strip())
-            else:
-                add(line, head)
-
-    def many(self, fields, count, rows):
-        """A case of so many zero bytes, of which so many rows are read at the end; all bytes where there are none."""
-        types, fork = "type 'Test' { %s };\n" % fields, image([TEST + (bytes(count),)])
-        front = "resource 'Test' (128, \"name\") {¶" + "    0,¶" * (count - rows) + "    {¶"
-        pieces = [front, ("        0,¶", rows - 1), "        0¶    }¶};¶¶"]
-        if not rows:
-            whole, rest = divmod(count, 16)
-            line = '    $"' + " ".join(["0000"] * 8) + '"¶'
-            pieces = ["data 'Test' (128, \"name\") {¶", (line, whole), '    $"%s"¶};¶¶' % ("00" * rest)]
-        out = []
-        for piece in pieces:
-            text, times = piece if isinstance(piece, tuple) else (piece, 1)
-            digits = text.replace("¶", "\n").encode().hex().upper()
-            out.append(digits + ("*%d" % times if times > 1 else ""))
-        self.case("%d bytes: %s" % (count, fields), "derez f t.r", [("f", fork), ("t.r", types)], (), out, ["room out 10000000"])
+def read_row(line):
+    """A case of what is read of bytes, and one of the text that is shown, or of items by hand."""
+    fields, content, wanted = parts_of(line)
+    wanted, _, items = wanted.partition(": ") if wanted.startswith("unreadable") else (wanted, "", "")
+    types, resource = "type 'Test' { %s };\n" % fields, TEST + (content,)
+    same("none" if wanted == "unreadable" else wanted, row_of(types, resource), line)
+    fork = image([resource])
+    text = shown.derez(["f", "t.r"], {"f": fork, "t.r": types.encode()})
+    name = line.split(" => ")[0]
+    BOOK.case("shown: " + name, "derez f t.r", [("f", fork), ("t.r", types)], out=text)
+    if items:
+        text = "%s %s\n};\n" % (shown.head_text("resource", resource), items)
+    if items or wanted not in ("none", "unreadable"):
+        BOOK.case(("laid: " if items else "again: ") + name, "rez t.r s.r -o x", [("t.r", types), ("s.r", text)],
+                  leaves=[("x", fork)])
 
 
-def main():
-    cases = Rows()
+def text_row(line, head=TEST):
+    """A case of the whole text of a resource; of its items alone in the table of items."""
+    fields, content, wanted = parts_of(line)
+    kind, resource = head[0].decode(), head + (content,)
+    files = [] if fields is None else [("t.r", "type '%s' { %s };\n" % (kind, fields))]
+    if head is TEST:
+        wanted = shown.head_text("resource", resource) + "¶" + wanted + "};¶¶"
+    text, fork = wanted.replace("¶", "\n"), image([resource])
+    words = ["f"] + [name for name, _ in files]
+    same(text, shown.derez(words, {"f": fork, **{name: types.encode() for name, types in files}}), line)
+    BOOK.case("%s %s: %s" % (kind, head[1], line.split(" => ")[0]), " ".join(["derez", *words]), [("f", fork), *files],
+              out=text)
+
+
+@BOOK.part()
+def tables():
     for says, rows in (("Numbers, points, fills and aligns.", NUMBERS), ("Texts.", TEXTS), ("Arrays.", ARRAYS),
                        ("Switches.", SWITCHES), ("Labels in rows, indexes and numbers of rows.", LABELS)):
-        cases.table(says, rows, cases.read, TEST)
-    cases.table("Items of each kind.", ITEMS, cases.text, TEST)
+        BOOK.say(says)
+        BOOK.table(rows, read_row)
+    BOOK.say("Items of each kind.")
+    BOOK.table(ITEMS, text_row)
     for rows, bytes_alone, head in ((NAMED, NAMED_BYTES, NAMED_HEAD), (LISTS, BYTES, STRINGS), (LONG, LONG_BYTES, LONG_HEAD)):
-        cases.table("Resources of the type '%s', by fields." % head[0].decode(), rows, cases.text, head)
-        cases.table("The same by their bytes.", bytes_alone, cases.text, head)
-    cases.book.say("A row of one number counts as two values. 1,048,576 values are read, and no more.")
-    cases.many("array { byte; };", 524288, 524288)
-    cases.many("array { byte; };", 524289, 0)
-    cases.many("byte; array { byte; };", 524288, 524287)
-    cases.many("byte; array { byte; };", 524289, 0)
-    sys.exit(0 if cases.book.finish() else 1)
+        for says, table in (("Resources of the type '%s', by fields." % head[0].decode(), rows), ("The same by their bytes.", bytes_alone)):
+            BOOK.say(says)
+            BOOK.table(table, lambda line, head=head: text_row(line, head))
 
 
-if __name__ == "__main__":
-    main()
+@BOOK.part("A row of one number counts as two values. 1,048,576 values are read, and no more.")
+def limits():
+    for fields, count, rows in [("array { byte; };", 524288, 524288), ("array { byte; };", 524289, 0),
+                                ("byte; array { byte; };", 524288, 524287), ("byte; array { byte; };", 524289, 0)]:
+        many(fields, count, rows)
+
+
+def many(fields, count, rows):
+    """A case of so many zero bytes, of which so many rows are read at the end; all bytes where there are none."""
+    types, fork = "type 'Test' { %s };\n" % fields, image([TEST + (bytes(count),)])
+    front = "resource 'Test' (128, \"name\") {¶" + "    0,¶" * (count - rows) + "    {¶"
+    pieces = [(front, 1), ("        0,¶", rows - 1), ("        0¶    }¶};¶¶", 1)]
+    if not rows:
+        whole, rest = divmod(count, 16)
+        line = '    $"' + " ".join(["0000"] * 8) + '"¶'
+        pieces = [("data 'Test' (128, \"name\") {¶", 1), (line, whole), ('    $"%s"¶};¶¶' % ("00" * rest), 1)]
+    out = [text.replace("¶", "\n").encode().hex().upper() + "*%d" % times * (times > 1) for text, times in pieces]
+    BOOK.case("%d bytes: %s" % (count, fields), "derez f t.r", [("f", fork), ("t.r", types)], ["room out 10000000"],
+              out=out)

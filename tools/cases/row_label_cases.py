@@ -1,18 +1,7 @@
-#!/usr/bin/env python3
-"""Writes row_labels.cases: labels in rows of arrays, their places by an index, and the numbers of rows.
-
-    python3 tools/cases/row_label_cases.py [--check]
-
-A type stands here as a list of fields, and labels.py writes its text and lays its rows. What label_spelling.py says of
-the bytes must be the same. Where bytes or the line on `err` stand here, they are written by hand, and are compared with
-what labels.py says. With --check nothing is written, and the status is 1 where a file would change.
-"""
-import sys
-
-import top  # noqa: F401
-from label_book import Cases, KINDS, WRONG, rows, stated
-from model.label_types import (Align, Array, Expr, Fill, Format, Label, Switch, at, at_row, bits_at, byte, byte_at,
-                               fact, field_bits, integer, key, longint, num, number, points, row_of, rows_of, text)
+"""Writes row_labels.cases: labels in rows of arrays, their places by an index, and the numbers of rows."""
+from label_book import Cases, KINDS, rows, stated
+from model.label_types import (Align, Expr, Fill, Format, Label, Switch, at, at_row, bits_at, byte, byte_at,
+                               fact, integer, key, longint, number, points, row_of, rows_of, text)
 from model.labels import FACTS
 
 ROWS = Cases("row_labels.cases", "row_label_cases.py",
@@ -25,8 +14,8 @@ def counted(name, *row, form=byte):
     return [form(rows_of(name)), rows(name, *row)]
 
 
+@ROWS.part("By hand.")
 def worked():
-    ROWS.say("By hand.")
     row = ROWS.row
     strings = [integer(rows_of("recs")), rows("recs", Label("b"), byte((at("e") - at("b")) / 8), text("string", says="hex "),
         Label("e"))]
@@ -47,22 +36,21 @@ def worked():
     ROWS.told("the number of the row in front of the rows", "type 'Bad ' { integer = $$ArrayIndex(rows); array rows { byte; }; };\n",
         1, '212 UnknownLabel: "rows"')
     row("an index that leads to each of three parts",
-        counted("parts", byte(), Label("p"), text("pstring")) + [byte(at_row("p", 1) / 8), byte(at_row("p", 2) / 8),
-            byte(at_row("p", 3) / 8)], [[[1, b"a"], [2, b""], [3, b"bc"]]], '03 01 01 "a" 02 00 03 02 "bc" 02 05 07')
-    row("a table of places behind rows of any width", counted("a", Label("p"), text("pstring")) + counted("t",
-        byte(at_row("p", row_of("t")) / 8), byte()), [[[b"xy"], [b""], [b"z"]], [[7], [8], [9]]],
-        '03 02 "xy" 00 01 "z" 03 01 07 04 08 05 09')
-    row("a table of places in front of rows of any width", counted("t", integer(at_row("p", row_of("t")) / 8), byte())
-        + counted("a", Label("p"), text("pstring")), [[[7], [8]], [[b"xy"], [b""]]],
-        '02 0008 07 000B 08 02 02 "xy" 00')
-    row("a table of lengths in front of strings, by the label behind each", counted("t",
-        byte((at_row("e", row_of("t")) - at_row("s", row_of("t"))) / 8), byte())
-        + [rows("a", Label("s"), text("pstring"), Label("e"))], [[[1], [2]], [[b"xy"], [b"abc"]]],
-        '02 03 01 04 02 02 "xy" 03 "abc"')
+        "byte = $$CountOf(parts); array parts { byte; p: pstring; }; byte = p[1] / 8; byte = p[2] / 8; byte = p[3] / 8;",
+        [[[1, b"a"], [2, b""], [3, b"bc"]]], '03 01 01 "a" 02 00 03 02 "bc" 02 05 07')
+    row("a table of places behind rows of any width",
+        "byte = $$CountOf(a); array a { p: pstring; }; byte = $$CountOf(t); array t { byte = p[$$ArrayIndex(t)] / 8; byte; };",
+        [[[b"xy"], [b""], [b"z"]], [[7], [8], [9]]], '03 02 "xy" 00 01 "z" 03 01 07 04 08 05 09')
+    row("a table of places in front of rows of any width",
+        "byte = $$CountOf(t); array t { integer = p[$$ArrayIndex(t)] / 8; byte; }; byte = $$CountOf(a); array a { p: pstring; };",
+        [[[7], [8]], [[b"xy"], [b""]]], '02 0008 07 000B 08 02 02 "xy" 00')
+    row("a table of lengths in front of strings, by the label behind each",
+        "byte = $$CountOf(t); array t { byte = (e[$$ArrayIndex(t)] - s[$$ArrayIndex(t)]) / 8; byte; }; array a { s: pstring; e: };",
+        [[[1], [2]], [[b"xy"], [b"abc"]]], '02 03 01 04 02 02 "xy" 03 "abc"')
 
 
+@ROWS.part("Labels before and behind each kind of field of a row; the places stand behind, and in front.")
 def positions():
-    ROWS.say("Labels before and behind each kind of field of a row; the places stand behind, and in front.")
     for name, field, values in KINDS:
         body = counted("rows", byte(), Label("a"), field, Label("z"), integer(at("z") - at("a")))
         behind = [longint(at_row(label, which)) for label in ("a", "z") for which in (1, 2)]
@@ -76,8 +64,8 @@ def positions():
             [[[1, [values + [2]]], [3, [values + [4]]]]])
 
 
+@ROWS.part("Indexes: of the first row, of the last, one more, none, and less.")
 def indexes():
-    ROWS.say("Indexes: of the first row, of the last, one more, none, and less.")
     row = ROWS.row
     for count in range(4):
         for index in (-2147483648, -2, -1, 0, 1, 2, 3, 4, 255, 2147483647):
@@ -136,7 +124,6 @@ def indexes():
 
 
 LINES = [[[1], [2], [3]]]
-ONE_ROW = Array(None, 1, [Label("p"), byte()])
 
 
 def given_by(index):
@@ -145,8 +132,8 @@ def given_by(index):
         Label("e")])
 
 
+@ROWS.part("Early and late: before the array, in it, and behind it.")
 def late():
-    ROWS.say("Early and late: before the array, in it, and behind it.")
     row = ROWS.row
     lines = [[[b"a"], [b"bc"]]]
     strings = rows("a", Label("p"), text("pstring"), Label("q"))
@@ -164,32 +151,31 @@ def late():
         "223 BadIndex: 3")
     row("a size by a place in no row, and too large", [strings, text("pstring", 300 + at_row("p", 0))], lines + [b""],
         "223 BadIndex: 0")
-    row("a size in a row by a place in its own row", [rows("a", byte(), Label("p"), text("string", at("p") / 8 % 2 + 1))],
+    row("a size in a row by a place in its own row", "array a { byte; p: string[p / 8 % 2 + 1]; };",
         [[[7, b"xy"], [8, b"xy"]]], '07 "xy" 08 "x"')
-    row("a size in a row by an index of its own array", [rows("a", Label("p"), byte(), text("string", at_row("p", 1)))],
+    row("a size in a row by an index of its own array", "array a { p: byte; string[p[1]]; };",
         [[[7, b"xy"], [8, b"xy"]]], "214 SizeLater: 2")
-    row("a size in a row by an index of its own array, and no rows", [rows("a", Label("p"), byte(),
-        text("string", at_row("p", 1)))], [[]], "")
-    row("a size in a row by the number of the row", [rows("a", byte(), text("string", row_of("a")))],
+    row("a size in a row by an index of its own array, and no rows", "array a { p: byte; string[p[1]]; };", [[]], "")
+    row("a size in a row by the number of the row", "array a { byte; string[$$ArrayIndex(a)]; };",
         [[[7, b"xyz"], [8, b"xyz"], [9, b"xyz"]]], '07 "x" 08 "xy" 09 "xyz"')
-    row("a size in a row by a label behind the rows", [rows("a", byte(), text("string", at("e"))), Label("e")], [[[1, b""]]],
+    row("a size in a row by a label behind the rows", "array a { byte; string[e]; }; e:", [[[1, b""]]],
         "214 SizeLater: 1")
-    row("a size in a row by a label behind it in the row", [rows("a", byte(), text("string", at("e")), Label("e"))], [[[1, b""]]],
+    row("a size in a row by a label behind it in the row", "array a { byte; string[e]; e: };", [[[1, b""]]],
         "214 SizeLater: 1")
-    row("a late number in each row, of the row's end", [rows("a", byte(at("e")), text("pstring"), Label("e"))], lines,
+    row("a late number in each row, of the row's end", "array a { byte = e; pstring; e: };", lines,
         '18 01 "a" 38 02 "bc"')
-    row("a late number in each row, of the row behind", [rows("a", byte(at_row("p", row_of("a") % rows_of("a") + 1)), Label("p"),
-        text("pstring"))], lines, '20 01 "a" 08 02 "bc"')
-    row("the row behind the last one", [rows("a", byte(at_row("p", row_of("a") + 1)), Label("p"), text("pstring"))], lines,
+    row("a late number in each row, of the row behind",
+        "array a { byte = p[$$ArrayIndex(a) % $$CountOf(a) + 1]; p: pstring; };", lines, '20 01 "a" 08 02 "bc"')
+    row("the row behind the last one", "array a { byte = p[$$ArrayIndex(a) + 1]; p: pstring; };", lines,
         "223 BadIndex: 3")
-    row("the row before the first one", [rows("a", byte(at_row("p", row_of("a") - 1)), Label("p"), text("pstring"))], lines,
+    row("the row before the first one", "array a { byte = p[$$ArrayIndex(a) - 1]; p: pstring; };", lines,
         "223 BadIndex: 0")
-    row("a late number reads a late number before it", [rows("a", Label("n"), byte(at("e") / 8), text("pstring"), Label("e"),
-        byte(byte_at("n") + 1))], lines, '03 01 "a" 04 08 02 "bc" 09')
-    row("a size reads a late number of its row", [rows("a", Label("n"), byte(at("e") / 8), text("pstring"), Label("e"),
-        text("string", byte_at("n")))], [[[b"a", b""]]], "214 SizeLater: 4")
-    row("a size reads a late number of the row before", [Label("s"), rows("a", text("string", at("n") / 8 - at("n") / 8), Label("n"),
-        byte())], [[[b"", 1]]], "214 SizeLater: 1")
+    row("a late number reads a late number before it",
+        "array a { n: byte = e / 8; pstring; e: byte = $$Byte(n) + 1; };", lines, '03 01 "a" 04 08 02 "bc" 09')
+    row("a size reads a late number of its row", "array a { n: byte = e / 8; pstring; e: string[$$Byte(n)]; };",
+        [[[b"a", b""]]], "214 SizeLater: 4")
+    row("a size reads a late number of the row before", "s: array a { string[n / 8 - n / 8]; n: byte; };", [[[b"", 1]]],
+        "214 SizeLater: 1")
     row("an index in a point", [strings, points(at_row("p", 1), at_row("p", 2))], lines, two + " 0000 0010")
     row("an index in a point, and one that isn't there", [strings, points(at_row("p", 1), at_row("p", 3))], lines,
         "223 BadIndex: 3")
@@ -203,15 +189,15 @@ def late():
         "223 BadIndex: 9")
     row("an index in a format in a format", [strings, text("cstring", None, [Format(b"<%s>", [[Format(b"%x", [at_row("q", 2)])]])])],
         lines, two + ' "<28>" 00')
-    row("the number of the row in a format", [rows("a", byte(), text("pstring", None, [Format(b"#%d", [row_of("a")])]))],
+    row("the number of the row in a format", 'array a { byte; pstring = $$Format("#%d", $$ArrayIndex(a)); };',
         [[[7], [8]]], '07 02 "#1" 08 02 "#2"')
     row("the start of bits by an index", [Label("s"), strings, byte(bits_at("s", at_row("p", 2), number(8)))], lines, two + " 02")
     row("the width of bits by an index", [Label("s"), strings, byte(bits_at("s", number(0), at_row("p", 2) / 2))], lines, two + " 01")
     row("the width of bits by an index that isn't there", [Label("s"), strings, byte(bits_at("s", number(99), at_row("p", 3)))],
         lines, "223 BadIndex: 3")
-    row("bits at a label of the row", [rows("a", Label("p"), byte(), byte(byte_at("p") + 1))], [[[7], [8]]], "0708 0809")
-    row("bits before a label of the row", [byte(), rows("a", Label("p"), byte(), byte(bits_at("p", number(-8), number(8))))],
-        [5, [[7], [8]]], "05 07 05 08 05")
+    row("bits at a label of the row", "array a { p: byte; byte = $$Byte(p) + 1; };", [[[7], [8]]], "0708 0809")
+    row("bits before a label of the row", "byte; array a { p: byte; byte = $$BitField(p, -8, 8); };", [5, [[7], [8]]],
+        "05 07 05 08 05")
     ROWS.say("Which fault comes first.")
     row("a late index, and a fault behind it", [byte(at_row("p", 3)), strings, byte(number(1) / 0)], lines, "211 ZeroDivisor")
     row("a late index, and a late fault behind it", [byte(at_row("p", 3)), strings, byte(at("e") / 0), Label("e")], lines,
@@ -231,41 +217,41 @@ def late():
     row("a negative size by rows", [strings, text("string", at_row("p", 1) - at_row("p", 2))], lines + [b""],
         "207 OutOfRange: -16")
     row("a size by rows that is too large", [strings, text("pstring", at_row("p", 2) * 16)], lines + [b""], "207 OutOfRange: 256")
-    row("a late number out of range in a row", [rows("a", num("bitstring[4]", at("e")), text("pstring"), Label("e"), Align("byte"))],
-        lines, "207 OutOfRange: 20")
+    row("a late number out of range in a row", "array a { bitstring[4] = e; pstring; e: align byte; };", lines,
+        "207 OutOfRange: 20")
     row("pieces are counted over rows, with their labels", [strings, text("string", at("e")), Label("e")], lines + [b""],
         "214 SizeLater: 6")
     row("pieces are counted over rows, and over points in them", [rows("a", Label("p"), points(count=4), Align("long"), Fill("bit", 8)),
         text("string", at("e")), Label("e")], [[[(1, 2, 3, 4)], [(5, 6, 7, 8)]], b""], "214 SizeLater: 14")
 
 
+@ROWS.part("The number of the row, of each array around.")
 def numbers_of_rows():
-    ROWS.say("The number of the row, of each array around.")
     row = ROWS.row
-    row("the number of each row", [rows("a", byte(row_of("a")), byte())], [[[7], [8], [9]]], "0107 0208 0309")
-    row("the number of each row in a bit", [rows("a", field_bits(1, row_of("a")), field_bits(7))], [[[7]]], "87")
-    row("the number of each row out of range", [rows("a", field_bits(1, row_of("a")), field_bits(7))], [[[7], [8]]],
-        "207 OutOfRange: 2")
-    row("the number of no row", [rows("a", byte(row_of("a")), byte())], [[]], "")
+    row("the number of each row", "array a { byte = $$ArrayIndex(a); byte; };", [[[7], [8], [9]]], "0107 0208 0309")
+    row("the number of each row in a bit", "array a { bitstring[1] = $$ArrayIndex(a); bitstring[7]; };", [[[7]]], "87")
+    row("the number of each row out of range", "array a { bitstring[1] = $$ArrayIndex(a); bitstring[7]; };",
+        [[[7], [8]]], "207 OutOfRange: 2")
+    row("the number of no row", "array a { byte = $$ArrayIndex(a); byte; };", [[]], "")
     row("the number of each row and of the rows", counted("a", byte(rows_of("a") - row_of("a")), byte()), [[[7], [8], [9]]],
         "03 0207 0108 0009")
     row("the number of each row in a case", [rows("a", Switch([("A", [key("byte", 1), byte(row_of("a"))]),
         ("B", [key("byte", 2), integer(row_of("a"))])]))], [[[("A", [])], [("B", [])], [("A", [])]]], "0101 02 0002 0103")
     row("the number of each row in cases of a case", [rows("a", Switch([("A", [key("byte", 1), Switch([("B", [key("byte", 2),
         byte(row_of("a"))])])])]))], [[[("A", [("B", [])])], [("A", [("B", [])])]]], "010201 010202")
-    row("the number of the row around a row", [rows("a", stated(2, byte(row_of("a")), byte()))], [[[[[7], [8]]], [[[9], [10]]]]],
-        "0107 0108 0209 020A")
-    row("the numbers of both rows", [rows("a", rows("b", byte(row_of("a")), byte(row_of("b")), byte()))],
+    row("the number of the row around a row", "array a { array[2] { byte = $$ArrayIndex(a); byte; }; };",
+        [[[[[7], [8]]], [[[9], [10]]]]], "0107 0108 0209 020A")
+    row("the numbers of both rows", "array a { array b { byte = $$ArrayIndex(a); byte = $$ArrayIndex(b); byte; }; };",
         [[[[[7], [8]]], [[[9]]], [[]]]], "010107 010208 020109")
-    row("the number of the row by an index", [stated(3, Label("p"), byte()), rows("a", byte(at_row("p", row_of("a"))), byte())],
+    row("the number of the row by an index", "array[3] { p: byte; }; array a { byte = p[$$ArrayIndex(a)]; byte; };",
         [[[1], [2], [3]], [[7], [8]]], "010203 0007 0808")
-    row("the number of the row by an index that isn't there", [stated(1, Label("p"), byte()), rows("a",
-        byte(at_row("p", row_of("a"))), byte())], [[[1]], [[7], [8]]], "223 BadIndex: 2")
+    row("the number of the row by an index that isn't there",
+        "array[1] { p: byte; }; array a { byte = p[$$ArrayIndex(a)]; byte; };", [[[1]], [[7], [8]]], "223 BadIndex: 2")
     row("the number of a row in a row behind it", [rows("a", byte(row_of("a")), byte()), rows("b", byte(row_of("b")), byte())],
         [[[7], [8]], [[9]]], "0107 0208 0109")
     row("the number of the row in other letters", [rows("Rows", byte(row_of("rOWS")), byte())], [[[7], [8]]], "0107 0208")
     row("the number of the row of an array named true", [rows("true", byte(row_of("TRUE")), byte())], [[[7]]], "0107")
-    row("the number of the row over 255", [rows("a", integer(row_of("a")), field_bits(1), Fill("bit", 7))],
+    row("the number of the row over 255", "array a { integer = $$ArrayIndex(a); bitstring[1]; fill bit[7]; };",
         [[[k % 2] for k in range(300)]])
     for depth in range(1, 9):
         inner, lines = [byte(sum((row_of("a%d" % k) * 3 ** k for k in range(1, depth)), row_of("a0"))), byte()], [5]
@@ -284,8 +270,8 @@ def numbers_of_rows():
         row("the number of the row %d cases deep" % depth, [rows("a", *inner)], [[values, values]])
 
 
+@ROWS.part("Rows of rows: labels of both, named in the row, from the row around, and from outside.")
 def bodies():
-    ROWS.say("Rows of rows: labels of both, named in the row, from the row around, and from outside.")
     row = ROWS.row
     inner = rows("in", Label("w"), byte())
     nested = rows("out", Label("v"), inner, byte(at_row("w", 1)), byte(at("v")))
@@ -295,40 +281,40 @@ def bodies():
         [[[[[7], [8]]], [[[9]]]]], "0708 08 09 18")
     row("a label of the inner rows, in front in each outer one", [rows("out", byte(at_row("w", 2)), inner)],
         [[[[[7], [8]]], [[[9], [10]]]]], "10 0708 28 090A")
-    row("a label of the outer rows, in the inner ones", [rows("out", Label("v"), rows("in", byte(at("v")), byte()))],
+    row("a label of the outer rows, in the inner ones", "array out { v: array in { byte = v; byte; }; };",
         [[[[[7], [8]]], [[[9]]]]], "0007 0008 2009")
-    row("a label of the outer rows by an index, in the inner ones", [rows("out", Label("v"), rows("in", byte(at_row("v", 2)), byte()))],
-        [[[[[7], [8]]], [[[9]]]]], "2007 2008 2009")
-    row("a label of the other outer row by an index", [rows("out", Label("v"), byte(at_row("v", 3 - row_of("out"))), byte())],
+    row("a label of the outer rows by an index, in the inner ones",
+        "array out { v: array in { byte = v[2]; byte; }; };", [[[[[7], [8]]], [[[9]]]]], "2007 2008 2009")
+    row("a label of the other outer row by an index", "array out { v: byte = v[3 - $$ArrayIndex(out)]; byte; };",
         [[[7], [8]]], "1007 0008")
-    row("a label of the inner rows by an index, in them", [rows("out", rows("in", Label("w"), byte(at_row("w", rows_of("in"))), byte()))],
-        [[[[[7], [8]]], [[[9]]]]], "1007 1008 2009")
-    row("labels of both rows and of the fields around", [Label("a"), byte(),
-        rows("out", Label("v"), rows("in", Label("w"), byte(at("a") + at("v") + at("w") + at("e")), byte()), byte()), Label("e")],
+    row("a label of the inner rows by an index, in them",
+        "array out { array in { w: byte = w[$$CountOf(in)]; byte; }; };", [[[[[7], [8]]], [[[9]]]]], "1007 1008 2009")
+    row("labels of both rows and of the fields around",
+        "a: byte; array out { v: array in { w: byte = a + v + w + e; byte; }; byte; }; e:",
         [1, [[[[7]], 8], [[[9]], 10]]], "01 48 07 08 78 09 0A")
-    row("labels of two arrays side by side", [rows("a", Label("p"), byte()), rows("b", Label("q"), byte()),
-        byte(at_row("p", 2)), byte(at_row("q", 1))], [[[1], [2]], [[3]]], "0102 03 08 10")
-    row("labels of arrays in two cases of a switch", [Switch([("A", [key("byte", 1), rows("a", Label("p"), byte()),
-        byte(at_row("p", 1))]), ("B", [key("byte", 2), rows("b", Label("q"), byte()), byte(at_row("q", 2))])]), byte()],
+    row("labels of two arrays side by side", "array a { p: byte; }; array b { q: byte; }; byte = p[2]; byte = q[1];",
+        [[[1], [2]], [[3]]], "0102 03 08 10")
+    row("labels of arrays in two cases of a switch",
+        "switch { case A: key byte = 1; array a { p: byte; }; byte = p[1]; case B: key byte = 2; array b { q: byte; }; byte = q[2]; }; byte;",
         [("B", [[[7], [8]]]), 9], "02 0708 10 09")
-    row("an array in a case in rows, and its label in the case", [rows("o", Switch([("A", [key("byte", 1), ONE_ROW,
-        byte(at_row("p", 1))]), ("B", [key("byte", 2)])]))], [[[("A", [[[7]]])], [("B", [])], [("A", [[[8]]])]]],
-        "01 07 08 02 01 08 28")
-    row("labels of a case in a row", [rows("o", Switch([("A", [key("byte", 1), Label("l"), byte(), byte(at("l"))]),
-        ("B", [Label("m"), key("byte", 2), byte(at("m"))])]))], [[[("A", [7])], [("B", [])], [("A", [8])]]],
-        "01 07 08 02 18 01 08 30")
+    row("an array in a case in rows, and its label in the case",
+        "array o { switch { case A: key byte = 1; array[1] { p: byte; }; byte = p[1]; case B: key byte = 2; }; };",
+        [[[("A", [[[7]]])], [("B", [])], [("A", [[[8]]])]]], "01 07 08 02 01 08 28")
+    row("labels of a case in a row",
+        "array o { switch { case A: key byte = 1; l: byte; byte = l; case B: m: key byte = 2; byte = m; }; };",
+        [[[("A", [7])], [("B", [])], [("A", [8])]]], "01 07 08 02 18 01 08 30")
     row("labels before a key in rows", [rows("o", Switch([("A", [byte(), Label("k"), key("byte", 1), byte(byte_at("k"))]),
         ("B", [byte(), key("byte", 2), byte(at("z")), Label("z")])]))], [[[("A", [7])], [("B", [8])]]], "07 01 01 08 02 30")
-    row("a label of the row in a case of it", [rows("o", Label("r"), Switch([("A", [key("byte", 1), byte(at("r")), byte()])]))],
+    row("a label of the row in a case of it", "array o { r: switch { case A: key byte = 1; byte = r; byte; }; };",
         [[[("A", [7])], [("A", [8])]]], "01 00 07 01 18 08")
     row("labels of rows in rows of a stated number", [stated(2, Label("v"), stated(2, Label("w"), byte()), byte(at_row("w", 2))),
         byte(at_row("v", 2))], [[[[[1], [2]]], [[[3], [4]]]]], "0102 08 0304 20 18")
-    row("no rows, and no index asked", [rows("a", Label("p"), byte()), byte()], [[], 7], "07")
-    row("a label of rows without a name", [Array(None, None, [Label("p"), byte()]), byte(at_row("p", 2))], [[[7], [8]]], "0708 08")
+    row("no rows, and no index asked", "array a { p: byte; }; byte;", [[], 7], "07")
+    row("a label of rows without a name", "array { p: byte; }; byte = p[2];", [[[7], [8]]], "0708 08")
     row("several labels of one place in a row", [rows("a", Label("p"), Label("q"), byte(), Label("r"), Label("s")),
         byte(at_row("p", 2)), byte(at_row("q", 2)), byte(at_row("r", 1)), byte(at_row("s", 1))], [[[7], [8]]], "0708 08080808")
     for count in (1, 2, 7, 8, 9, 100):
-        row("places of bits, %d rows" % count, [rows("a", Label("p"), field_bits(3)), longint(at_row("p", number(count)))],
+        row("places of bits, %d rows" % count, "array a { p: bitstring[3]; }; longint = p[%d];" % count,
             [[[k % 8] for k in range(count)]])
     for depth in range(1, 9):
         inner, values = [Label("w0"), byte()], [9]
@@ -340,7 +326,7 @@ def bodies():
         row("the label %s of rows by the name %s" % (written, asked), [rows("a", Label(written), byte(), byte(at(asked))),
             byte(at_row(asked, 2))], [[[7], [8]]], "0700 0810 10")
     ROWS.say("A label and an array of one name, and arrays of one name in two types.")
-    row("a label in rows of its own name", [rows("a", Label("a"), byte(row_of("a")), byte(at("a")), byte()), byte(at_row("a", 2))],
+    row("a label in rows of its own name", "array a { a: byte = $$ArrayIndex(a); byte = a; byte; }; byte = a[2];",
         [[[7], [8]]], "010007 021808 18")
     ROWS.told("arrays of one name in two types", "type 'Last' { array a { w: byte; }; byte = w[1]; };\n"
         "type 'Test' { byte; array A { W: byte; byte = $$ArrayIndex(a); }; byte = w[1]; };\n"
@@ -355,13 +341,3 @@ def bodies():
         "type 'Test' as 'Last';\nresource 'Test' (1) { { 7, 8 } };\n", "0701 0802 10")
     ROWS.told("a type with an index for an id", "type 'Test' { byte; };\ntype 'Test' (2) { array { w: byte; }; byte = w[1]; };\n"
         "resource 'Test' (1) { 3 };\nresource 'Test' (2) { { 7 } };\n", "03", "07 00")
-
-
-def main():
-    for section in (worked, positions, indexes, late, numbers_of_rows, bodies):
-        section()
-    sys.exit(0 if ROWS.finish() and not WRONG else 1)
-
-
-if __name__ == "__main__":
-    main()

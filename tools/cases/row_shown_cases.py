@@ -1,21 +1,12 @@
-#!/usr/bin/env python3
 """Writes row_shown.cases: what `derez` shows of types with labels in rows, indexes and the numbers of rows.
 
-    python3 tools/cases/row_shown_cases.py [--check]
-
-Each type stands here as a list of fields, and each resource as its bytes or as the values of a row. Behind the name
-stands by hand which of them `derez` shows by a `resource` statement, `r`, and which as bytes, `d`; label_reading.py and
-shown.py have to say the same. Beside right bytes stand those of compilers that are wrong, of label_wrong.py. With
---check nothing is written, and the status is 1 where a file would change.
+Beside right bytes stand those of compilers that are wrong, of label_wrong.py.
 """
-import sys
-
-import top  # noqa: F401
-from label_book import KINDS, Shown, WRONG, rows, stated
+from label_book import KINDS, Shown, fields_of, rows, stated
 from model import label_wrong
 from model.faults import Refused
-from model.label_types import (Align, Array, Fill, Format, Label, Switch, at, at_row, bits_at, byte, byte_at,
-                               field_bits, integer, key, longint, num, number, points, row_of, rows_of, text)
+from model.label_types import (Align, Array, Format, Label, Switch, at, at_row, bits_at, byte, byte_at, field_bits,
+                               integer, key, longint, num, number, points, row_of, rows_of, text)
 from model.labels import FACTS, bytes_of, width_of
 
 SHOWN = Shown("row_shown.cases", "row_shown_cases.py",
@@ -31,23 +22,24 @@ def string(*fields):
     return [Label("s"), text("string", says="hex "), Label("e")] + list(fields)
 
 
+@SHOWN.part("By hand.")
 def worked():
-    SHOWN.say("By hand.")
-    case = SHOWN.case
-    case("a length in each row, with its own byte in it", [integer(rows_of("recs")), rows("recs", Label("b"),
-        byte((at("e") - at("b")) / 8), text("string", says="hex "), Label("e"))], "rrrdddd", "0002 02AA 03BBCC", "0000",
-        "0001 01", "0002 02AA 04BBCC", "0002 02AA 02BBCC", "0001 00", "0002 02AA 03BB", kind="Recs", first=128,
-        out="resource 'Recs' (128) {\n    {\n        $\"AA\",\n        $\"BBCC\"\n    }\n};\n\n"
+    case = SHOWN.shows
+    case("a length in each row, with its own byte in it",
+        "integer = $$CountOf(recs); array recs { b: byte = (e - b) / 8; hex string; e: };", "rrrdddd",
+        "0002 02AA 03BBCC", "0000", "0001 01", "0002 02AA 04BBCC", "0002 02AA 02BBCC", "0001 00", "0002 02AA 03BB",
+        kind="Recs", first=128, out="resource 'Recs' (128) {\n    {\n        $\"AA\",\n        $\"BBCC\"\n    }\n};\n\n"
         "resource 'Recs' (129) {\n    {\n    }\n};\n\nresource 'Recs' (130) {\n    {\n        $\"\"\n    }\n};\n\n"
         "data 'Recs' (131) {\n    $\"0002 02AA 04BB CC\"\n};\n\ndata 'Recs' (132) {\n    $\"0002 02AA 02BB CC\"\n};\n\n"
         "data 'Recs' (133) {\n    $\"0001 00\"\n};\n\ndata 'Recs' (134) {\n    $\"0002 02AA 03BB\"\n};\n\n")
-    case("the number of each row, and behind them the place of the second", [integer(rows_of("rows")), rows("rows", Label("p"),
-        integer(row_of("rows")), text("pstring")), integer(at_row("p", 2) / 8)], "rdddd", "0002 00010141 0002024243 0006",
-        "0002 00010141 0002024243 0002", "0001 00010141 0002", "0002 00000141 0001024243 0006", "0002 00010141 0001024243 0006",
-        kind="Tail", first=128, out="resource 'Tail' (128) {\n    {\n        \"A\",\n        \"BC\"\n    }\n};\n\n"
-        "data 'Tail' (129) {\n    $\"0002 0001 0141 0002 0242 4300 02\"\n};\n\ndata 'Tail' (130) {\n    $\"0001 0001 0141 0002\"\n};\n\n"
-        "data 'Tail' (131) {\n    $\"0002 0000 0141 0001 0242 4300 06\"\n};\n\n"
-        "data 'Tail' (132) {\n    $\"0002 0001 0141 0001 0242 4300 06\"\n};\n\n")
+    case("the number of each row, and behind them the place of the second",
+         "integer = $$CountOf(rows); array rows { p: integer = $$ArrayIndex(rows); pstring; }; integer = p[2] / 8;",
+         "rdddd", "0002 00010141 0002024243 0006", "0002 00010141 0002024243 0002", "0001 00010141 0002",
+         "0002 00000141 0001024243 0006", "0002 00010141 0001024243 0006", kind="Tail", first=128,
+         out="resource 'Tail' (128) {\n    {\n        \"A\",\n        \"BC\"\n    }\n};\n\n"
+         "data 'Tail' (129) {\n    $\"0002 0001 0141 0002 0242 4300 02\"\n};\n\ndata 'Tail' (130) {\n    $\"0001 0001 0141 0002\"\n};\n\n"
+         "data 'Tail' (131) {\n    $\"0002 0000 0141 0001 0242 4300 06\"\n};\n\n"
+         "data 'Tail' (132) {\n    $\"0002 0001 0141 0001 0242 4300 06\"\n};\n\n")
     case("the place of the first row in front of the rows can't be read", [integer(at_row("p", 1) / 8), integer(rows_of("rows")),
         rows("rows", Label("p"), text("pstring"))], "dd", "0004 0001 0141", "0000 0000", kind="Head", first=128,
         out="data 'Head' (128) {\n    $\"0004 0001 0141\"\n};\n\ndata 'Head' (129) {\n    $\"0000 0000\"\n};\n\n")
@@ -57,7 +49,7 @@ def worked():
 
 def compiled(name, body, *values):
     """The bytes of rows are shown by their fields, and what wrong compilers make of them as bytes."""
-    contents, marks = [], ""
+    body, contents, marks = fields_of(body), [], ""
     for row in values:
         try:
             contents.append(bytes_of(body, row).hex())
@@ -72,11 +64,11 @@ def compiled(name, body, *values):
             if content not in contents:
                 contents.append(content)
                 marks += "d"
-    SHOWN.case(name, body, marks, *contents)
+    SHOWN.shows(name, body, marks, *contents)
 
 
+@SHOWN.part("The bytes of rows, and then those of compilers that are wrong: of indexes that are taken for others.")
 def compilers():
-    SHOWN.say("The bytes of rows, and then those of compilers that are wrong: of indexes that are taken for others.")
     strings = counted("a", Label("p"), text("pstring"), Label("q"))
     lines = [[[b"x"], [b"yz"], [b""]], [[b""], [b"yz"], [b"uvw"], [b"t"]], [[b"x"], [b"yz"]], [[b""], [b""]], [[b"a"]], []]
     for name, index in [("1", number(1)), ("2", number(2)), ("3", number(3)), ("0", number(0)), ("-1", number(-1)),
@@ -113,10 +105,10 @@ def compilers():
             rows_of("a") * 16 + row_of("a")), ("shifted", number(1) << row_of("a")), ("in an equality",
             row_of("a") > 1), ("with a sign", -row_of("a"))]:
         compiled("the number of the row %s" % name, counted("a", byte(expr), byte()), *[[each] for each in some])
-    compiled("the number of the row in a size", counted("a", byte(), text("string", row_of("a"))), [[[7, b"x"], [8, b"xy"]]],
-        [[[7, b"x"]]])
-    compiled("the number of the row in a format", counted("a", byte(), text("pstring", None, [Format(b"%d", [row_of("a")])])),
-        [[[7], [8]]], [[[7]]])
+    compiled("the number of the row in a size", "byte = $$CountOf(a); array a { byte; string[$$ArrayIndex(a)]; };",
+             [[[7, b"x"], [8, b"xy"]]], [[[7, b"x"]]])
+    compiled("the number of the row in a format",
+        'byte = $$CountOf(a); array a { byte; pstring = $$Format("%d", $$ArrayIndex(a)); };', [[[7], [8]]], [[[7]]])
     compiled("the number of the row in a point", counted("a", byte(), points(row_of("a"), 0)), [[[7], [8]]], [[[7]]])
     compiled("the number of the row in a case", counted("a", Switch([("A", [key("byte", 1), byte(row_of("a"))]), ("B",
         [key("byte", 2)])])), [[[("A", [])], [("B", [])], [("A", [])]]])
@@ -128,8 +120,8 @@ def compilers():
         [[[[[[[1], [2]]], [[[3]]]]], [[[[[1], [0], [1]]]]]]])
     compiled("the number of the middle row of three", counted("o", *counted("m", *counted("i", byte(row_of("m")), byte()))),
         [[[[[[[1], [2]]], [[[3]]]]], [[[[[1], [0], [1]]]]]]])
-    compiled("the number of the row around a row without a name", counted("o", stated(2, byte(row_of("o")), byte())),
-        [[[[[7], [8]]], [[[9], [1]]]]])
+    compiled("the number of the row around a row without a name",
+        "byte = $$CountOf(o); array o { array[2] { byte = $$ArrayIndex(o); byte; }; };", [[[[[7], [8]]], [[[9], [1]]]]])
     SHOWN.say("Labels of rows of rows.")
     inner = counted("i", Label("w"), text("pstring"))
     compiled("a label of the inner rows in each outer one", counted("o", *inner, byte(at_row("w", rows_of("i")) / 8)),
@@ -145,13 +137,14 @@ def compilers():
 def lengths(name, expr, marks, form="byte"):
     """Rows of one string each with a number by an expression in front, with no rows, a row of no byte, and so on."""
     body = counted("a", num(form, expr), *string(byte()))
-    SHOWN.case(name, body, "r" + marks, [[]], *[[[[b"abcdefghi"[:k], 7]]] for k in range(len(marks))])
+    SHOWN.shows(name, body, "r" + marks, [[]], *[[[[b"abcdefghi"[:k], 7]]] for k in range(len(marks))])
     two = [[[[b"abcdefghi"[:k], 7], [b"", 8], [b"xyz"[:k], 9]]] for k in range(len(marks))]
-    SHOWN.case(name + ", in three rows", body, "".join("r" if mark == "r" and marks[0] == "r" else "d" for mark in marks), *two)
+    SHOWN.shows(name + ", in three rows", body, "".join("r" if mark == "r" and marks[0] == "r" else "d" for mark in marks), *two)
 
 
+@SHOWN.part("The length of a string in its row, which has 0 bytes, 1 byte and so on; and three rows, the second "
+            "without bytes.")
 def solving():
-    SHOWN.say("The length of a string in its row, which has 0 bytes, 1 byte and so on; and three rows, the second without bytes.")
     for name, expr, marks in [
             ("alone", LENGTH, "rrrr"), ("and 3", LENGTH + 3, "rrrr"), ("3 and", 3 + LENGTH, "rrrr"), ("less -2", LENGTH - number(-2), "rrrr"),
             ("3 less", 3 - LENGTH, "rrrr"), ("times 3", LENGTH * 3, "rrrr"), ("3 times", 3 * LENGTH, "rrrr"), ("by 1", LENGTH / 1, "rrrr"),
@@ -167,54 +160,54 @@ def solving():
             ("the label twice", at("e") / 8 + at("e") / 8 - at("s") / 4), ("a comparison", LENGTH < 9),
             ("the label in an index", at_row("w", LENGTH + 1)), ("the label in an index and outside", LENGTH + at_row("w", at("e")) * 0)]:
         body = [stated(2, Label("w"), byte())] + counted("a", byte(expr), *string(byte()))
-        SHOWN.case("a length of each row in %s can't be solved" % name, body, "dd", [[[1], [2]], []], [[[1], [2]], [[b"", 7]]])
-    case = SHOWN.case
+        SHOWN.shows("a length of each row in %s can't be solved" % name, body, "dd", [[[1], [2]], []], [[[1], [2]], [[b"", 7]]])
+    case = SHOWN.shows
     SHOWN.say("Places in rows: of the row's own labels, near and far, before and behind.")
-    case("a near place in each row", counted("a", byte(at("e") / 16 + at("e") % 16), byte(), Label("e"), byte()), "rrrd", [[]], [[[1, 2]]],
-        [[[1, 2], [3, 4], [5, 6]]], "01 02 01 02")
+    case("a near place in each row", "byte = $$CountOf(a); array a { byte = e / 16 + e % 16; byte; e: byte; };", "rrrd",
+         [[]], [[[1, 2]]], [[[1, 2], [3, 4], [5, 6]]], "01 02 01 02")
     case("a near place of the row behind isn't near", counted("a", byte(at_row("e", 1)), Label("e"), byte()), "dd", [[]], [[[1]]])
     case("the same label solved in each row", counted("a", byte(at("e") / 8), text("cstring"), Label("e"), byte()), "rrrdr", [[]],
         [[[b"x", 1]]], [[[b"x", 1], [b"", 2], [b"yz", 3]]], '02 04 "x" 00 01 06 00 02', '02 04 "x" 00 01 07 00 02')
     case("a label solved twice in a row", counted("a", byte(at("e") / 8), byte(LENGTH), *string(byte())), "rrdr", [[]],
         [[[b"x", 1], [b"", 2], [b"yz", 3]]], "01 05 01 05", '01 04 01 "x" 05')
-    case("a label solved in front of its row isn't solved", [byte(at_row("e", 1) / 8)] + counted("a", *string(byte())), "dd",
-        "03 01 61 07", "00 00")
-    case("a label that a row solved isn't solved in the next", counted("a", Switch([("A", [key("byte", 1), byte(LENGTH)] + string()),
-        ("B", [key("byte", 2)])])), "rrdd", [[[("A", [b"xy"])], [("B", [])], [("A", [b""])]]], "02 01 00 02", "01 01 02 61",
-        "02 01 01 61 01")
-    case("a row's label isn't known in the next row", counted("a", Label("p"), byte(), byte(at_row("p", row_of("a")))), "dd", [[]],
-        "01 05 08")
+    case("a label solved in front of its row isn't solved",
+         "byte = e[1] / 8; byte = $$CountOf(a); array a { s: hex string; e: byte; };", "dd", "03 01 61 07", "00 00")
+    case("a label that a row solved isn't solved in the next",
+         "byte = $$CountOf(a); array a { switch { case A: key byte = 1; byte = (e - s) / 8; s: hex string; e: case B: key byte = 2; }; };",
+         "rrdd", [[[("A", [b"xy"])], [("B", [])], [("A", [b""])]]], "02 01 00 02", "01 01 02 61", "02 01 01 61 01")
+    case("a row's label isn't known in the next row",
+         "byte = $$CountOf(a); array a { p: byte; byte = p[$$ArrayIndex(a)]; };", "dd", [[]], "01 05 08")
     case("a solved place around, in rows and behind them", [byte(at("e") / 8)] + counted("a", byte(at("e") / 8), text("pstring"))
         + [Label("e"), byte()], "rrdd", "02 00 07", "05 01 05 01 61 07", "05 01 04 01 61 07", "04 01 04 01 61 07")
     case("a label of a row by a solved place around", [byte(at("e") / 8)] + counted("a", byte((at("e") - at("b")) / 8),
         text("pstring"), Label("b"), byte()) + [Label("e"), byte()], "rrd", "02 00 07", "06 01 01 01 61 05 07", "06 01 02 01 61 05 07")
     SHOWN.say("What ends an open array with labels in its rows, and an open array in a row.")
-    case("rows up to the end of the resource", [rows("a", Label("b"), byte((at("e") - at("b")) / 8), text("string"), Label("e"))], "rrrdd",
-        "", "01", '02 "x" 01 03 "yz"', "02", "00")
+    case("rows up to the end of the resource", "array a { b: byte = (e - b) / 8; string; e: };", "rrrdd", "", "01",
+         '02 "x" 01 03 "yz"', "02", "00")
     case("rows up to the end, with fields behind", [rows("a", Label("b"), integer((at("e") - at("b")) / 8), text("string"), Label("e"),
         byte()), byte(), byte(9)], "rrdd", "07 09", '0003 "x" 05 0002 06 07 09', '0003 "x" 05 07 08', '0003 "x" 05 0002 06 07')
-    case("rows up to a solved label", [byte((at("z") - at("y")) / 8), Label("y"), rows("a", Label("b"), byte((at("e") - at("b")) / 8),
-        text("string"), Label("e")), Label("z"), byte(at_row("b", 2) / 8)], "rrddd", '03 01 02 "x" 02', '05 02 "x" 03 "yz" 03',
-        "01 01 02", '03 02 "x" 02 02', "00 00")
+    case("rows up to a solved label",
+         "byte = (z - y) / 8; y: array a { b: byte = (e - b) / 8; string; e: }; z: byte = b[2] / 8;", "rrddd",
+         '03 01 02 "x" 02', '05 02 "x" 03 "yz" 03', "01 01 02", '03 02 "x" 02 02', "00 00")
     case("rows in each row up to a label that it solves", counted("o", byte(LENGTH), Label("s"), rows("i", Label("w"), byte()), Label("e"),
         byte((at_row("w", 1) - at("s")) & 1)), "rrddd", [[[[[5]]]]], [[[[[5], [6]]], [[[7]]]]], "01 00 00", "01 01 05 01", "00 00")
     case("rows in each row by a number of the row", counted("o", *counted("i", Label("w"), byte()), byte(at_row("w", 1) / 8)), "rrdd",
         [[]], [[[[[5], [6]]], [[[7]]]]], "01 00 00", "01 01 05 03")
     case("rows in each row by a number with the number of the row", counted("o", Label("v"), byte(rows_of("i") + row_of("o")),
         rows("i", byte(), byte(at("v") / 8))), "rrdd", [[]], [[[[[5], [6]]], [[]]]], "01 02 05 02", "01 00")
-    case("rows of no bits by a number", counted("a", Label("p"), num("byte"), Fill("bit", 0)), "rr", [[]], [[[1]]])
+    case("rows of no bits by a number", "byte = $$CountOf(a); array a { p: byte; fill bit[0]; };", "rr", [[]], [[[1]]])
 
 
+@SHOWN.part("When an index is known: when its array has ended.")
 def readable():
-    SHOWN.say("When an index is known: when its array has ended.")
-    case = SHOWN.case
+    case = SHOWN.shows
     array = stated(2, Label("w"), byte())
     case("an index behind its array", [array, byte(at_row("w", 2))], "rd", "0506 08", "0506 00")
     case("an index in front of its array", [byte(at_row("w", 2) / 8), array], "d", "02 0506")
-    case("an index in its array", [stated(2, Label("w"), byte(at_row("w", 1)), byte())], "d", "0005 0006")
-    case("an index in an array of its array", [stated(1, Label("w"), stated(1, byte(at_row("w", 1)), byte()))], "d", "0005")
-    case("an index in a case of its array", [stated(1, Label("w"), Switch([("A", [key("byte", 1), byte(at_row("w", 1)), byte()])]))],
-        "d", "010005")
+    case("an index in its array", "array[2] { w: byte = w[1]; byte; };", "d", "0005 0006")
+    case("an index in an array of its array", "array[1] { w: array[1] { byte = w[1]; byte; }; };", "d", "0005")
+    case("an index in a case of its array", "array[1] { w: switch { case A: key byte = 1; byte = w[1]; byte; }; };",
+         "d", "010005")
     case("an index in a case behind its array", [array, Switch([("A", [key("byte", 1), byte(at_row("w", 2))])])], "rd", "0506 01 08",
         "0506 01 00")
     case("an index in a row behind its array", [array, rows("a", byte(at_row("w", 2)), byte())], "rrd", "0506", "0506 0807",
@@ -225,11 +218,11 @@ def readable():
         '01 "0" 0506')
     case("an index in a format behind its array", [array, text("pstring", None, [Format(b"%d", [at_row("w", 2)])])], "rd",
         '0506 01 "8"', '0506 01 "9"')
-    case("an index of an array without rows", [stated(0, Label("w"), byte()), byte(at_row("w", 1))], "dd", "00", "08")
-    case("an index of rows that the end of the resource ends", [rows("a", Label("w"), byte()), byte(), byte(at_row("w", 2))], "rrdd",
-        "0506 07 08", "050607 07 08", "05 07 00", "0506 07 00")
-    case("an index of rows in rows from the row around", [stated(2, stated(2, Label("w"), byte()), byte(at_row("w", 2)))], "rd",
-        "0506 08 0708 20", "0506 08 0708 08")
+    case("an index of an array without rows", "array[0] { w: byte; }; byte = w[1];", "dd", "00", "08")
+    case("an index of rows that the end of the resource ends", "array a { w: byte; }; byte; byte = w[2];", "rrdd",
+         "0506 07 08", "050607 07 08", "05 07 00", "0506 07 00")
+    case("an index of rows in rows from the row around", "array[2] { array[2] { w: byte; }; byte = w[2]; };", "rd",
+         "0506 08 0708 20", "0506 08 0708 08")
     case("an index of rows in rows in other rows of them", [stated(2, stated(2, Label("w"), byte()), stated(1, byte(at_row("w", 1)),
         byte()))], "rd", "0506 0001 0708 2002", "0506 0001 0708 0002")
     SHOWN.say("What stands in an index.")
@@ -277,8 +270,9 @@ def readable():
         "0506 0A 0102 07", "0506 08 07", "0506 07 07", "0506 0B 0102 07")
 
 
+@SHOWN.part("Each kind of field between labels of a row: its width by an index from behind, and a place that isn't "
+            "right.")
 def kinds():
-    SHOWN.say("Each kind of field between labels of a row: its width by an index from behind, and a place that isn't right.")
     for name, field, values in KINDS:
         if isinstance(field, Array) and field.count is None and not field.name:
             continue
@@ -289,7 +283,7 @@ def kinds():
         lines = [[values + [5], values + [6]]]
         right = bytes_of(body, lines)
         wrong = right[:-1] + bytes([right[-1] ^ 1])
-        SHOWN.case("the width of %s in the second row" % name, body, "dd" if is_open else "rd", right.hex(), wrong.hex())
+        SHOWN.shows("the width of %s in the second row" % name, body, "dd" if is_open else "rd", right.hex(), wrong.hex())
     SHOWN.say("Rows of fixed width and free ones, in front of a label that ends an open string.")
     for name, field, marks in [("fixed rows", stated(2, Label("w"), byte()), "rrd"), ("fixed rows of rows", stated(1, Label("w"),
             stated(2, Label("v"), byte())), "rrd"), ("rows with a pstring", stated(2, Label("w"), text("pstring")), "ddd"),
@@ -297,52 +291,41 @@ def kinds():
             "ddd")]:
         inside = {"fixed rows": "0506", "fixed rows of rows": "0506", "rows with a pstring": "0000", "rows with an align": "0506",
             "no rows": ""}[name]
-        SHOWN.case("a string in front of %s and its end" % name, [byte(LENGTH), Label("s"), text("string"), field, Label("e")], marks,
+        SHOWN.shows("a string in front of %s and its end" % name, [byte(LENGTH), Label("s"), text("string"), field, Label("e")], marks,
             "%02X 61 %s" % (1 + len(inside) // 2, inside), "%02X %s" % (len(inside) // 2, inside), "%02X 61 %s" % (len(inside) // 2, inside))
     for name, field in [("fixed rows", stated(2, Label("w"), byte())), ("rows of rows", stated(2, stated(1, Label("w"), byte())))]:
-        SHOWN.case("a place over %s is near" % name, [byte(at("e") & 255), field, Label("e"), byte()], "rd", "18 0506 07", "10 0506 07")
+        SHOWN.shows("a place over %s is near" % name, [byte(at("e") & 255), field, Label("e"), byte()], "rd", "18 0506 07", "10 0506 07")
         assert width_of(field) == 16
 
 
+@SHOWN.part("Types as they might be used: a directory of records, a table of lines, and chunks in chunks.")
 def again():
-    SHOWN.say("Types as they might be used: a directory of records, a table of lines, and chunks in chunks.")
-    case = SHOWN.case
+    case = SHOWN.shows
     records = [integer(rows_of("recs")), rows("dir", longint(at_row("body", row_of("dir")) / 8), integer()),
         rows("recs", Label("body"), text("pstring"))]
     case("a directory in front of records can't be read", records, "d", [[[1], [2]], [[b"a"], [b"bc"]]])
-    case("a directory behind records", [integer(rows_of("recs")), rows("recs", Label("body"), text("pstring"), Align("word")),
-        integer(rows_of("dir")), rows("dir", longint(at_row("body", row_of("dir")) / 8), byte())], "rrddd", [[[b"a"], [b"bc"]], [[1], [2]]],
-        [[], []], "0001 01 61 0001 00000001 07", "0001 01 61 0002 00000002 07 00000002 08", "0001 01 61 0001 00000002",
-        out=None)
-    case("chunks in chunks", [rows("outer", Label("o"), integer((at("p") - at("o")) / 8), rows("inner", Label("i"),
-        integer((at("j") - at("i")) / 8), text("string"), Label("j")), Label("p"))], "rrrddd", "", "0002", '0005 0003 "x"',
-        '0005 0004 "x"', '0006 0003 "x"', '0005 0003 "x" 00')
-    case("a sum over the rows before", [byte(rows_of("a")), rows("a", Label("p"), text("pstring")), rows("b", byte((at_row("p", 2)
-        - at_row("p", 1)) / 8 * row_of("b")), byte())], "rrdd", '02 01 "x" 00', '02 01 "x" 00 02 07 04 08', '02 01 "x" 00 02 07 02 08',
-        '01 01 "x" 00 07')
-    case("a padding byte in each row", counted("a", Label("s"), text("pstring"), Label("e"), text("string", (at("e") - at("s")) / 8 % 2)),
-        "rrrd", [[]], "03 00 00 01 61 02 6263 00", "01 00 01", "02 00 00 02 6263")
-    case("filler by the place in a row", counted("a", byte(), Label("e"), text("string", (at("e") / 8) % 2), integer()), "rrd",
-        [[[1, b"", 2], [3, b"", 4]]], "01 05 0007", "01 05 00 0007")
-    case("numbers with symbols and digits in rows", [byte(rows_of("a")), rows("a", Label("p"), num("integer", says="hex "), points(count=2),
-        num("boolean"), num("char"), Align("byte")), integer(at_row("p", 1))], "rd", [[[258, (1, -1), 1, 65], [0, (0, 0), 0, 0]]],
-        "00 0000")
-    case("a string's last zero in rows", counted("a", Label("n"), byte(), text("string", byte_at("n"))), "rrd", "02 02 6100 01 62",
-        "02 00 01 00", "01 02 61")
-    case("a cstring with a zero in rows", counted("a", Label("n"), byte(), text("cstring", byte_at("n"))), "rdd", "01 02 61 00",
-        "01 03 61 00 62", "01 00")
+    case("a directory behind records",
+         "integer = $$CountOf(recs); array recs { body: pstring; align word; }; integer = $$CountOf(dir); array dir { longint = body[$$ArrayIndex(dir)] / 8; byte; };",
+         "rrddd", [[[b"a"], [b"bc"]], [[1], [2]]], [[], []], "0001 01 61 0001 00000001 07",
+         "0001 01 61 0002 00000002 07 00000002 08", "0001 01 61 0001 00000002", out=None)
+    case("chunks in chunks",
+         "array outer { o: integer = (p - o) / 8; array inner { i: integer = (j - i) / 8; string; j: }; p: };",
+         "rrrddd", "", "0002", '0005 0003 "x"', '0005 0004 "x"', '0006 0003 "x"', '0005 0003 "x" 00')
+    case("a sum over the rows before",
+         "byte = $$CountOf(a); array a { p: pstring; }; array b { byte = (p[2] - p[1]) / 8 * $$ArrayIndex(b); byte; };",
+         "rrdd", '02 01 "x" 00', '02 01 "x" 00 02 07 04 08', '02 01 "x" 00 02 07 02 08', '01 01 "x" 00 07')
+    case("a padding byte in each row", "byte = $$CountOf(a); array a { s: pstring; e: string[(e - s) / 8 % 2]; };",
+         "rrrd", [[]], "03 00 00 01 61 02 6263 00", "01 00 01", "02 00 00 02 6263")
+    case("filler by the place in a row", "byte = $$CountOf(a); array a { byte; e: string[e / 8 % 2]; integer; };",
+         "rrd", [[[1, b"", 2], [3, b"", 4]]], "01 05 0007", "01 05 00 0007")
+    case("numbers with symbols and digits in rows",
+         "byte = $$CountOf(a); array a { p: hex integer; point; boolean; char; align byte; }; integer = p[1];", "rd",
+         [[[258, (1, -1), 1, 65], [0, (0, 0), 0, 0]]], "00 0000")
+    case("a string's last zero in rows", "byte = $$CountOf(a); array a { n: byte; string[$$Byte(n)]; };", "rrd",
+         "02 02 6100 01 62", "02 00 01 00", "01 02 61")
+    case("a cstring with a zero in rows", "byte = $$CountOf(a); array a { n: byte; cstring[$$Byte(n)]; };", "rdd",
+         "01 02 61 00", "01 03 61 00 62", "01 00")
     case("late numbers in rows, of which bits are read", counted("a", Label("n"), byte(at("e") / 8), text("cstring"), Label("e"),
         byte(byte_at("n") - 1)), "rrd", [[]], [[[b"x"], [b""]]], '01 04 "x" 00 04')
     case("two types with arrays of one name", [rows("a", Label("w"), byte(row_of("a")), byte()), byte(), byte(at_row("W", 1))], "rd",
         "0105 0206 07 00", "0105 0206 07 08", also="type 'Last' { array A { W: byte = $$ArrayIndex(a); byte; }; };\n")
-
-
-def main():
-    for section in (worked, compilers, solving, readable, kinds, again):
-        section()
-    done = SHOWN.book.finish()
-    sys.exit(0 if done and not WRONG else 1)
-
-
-if __name__ == "__main__":
-    main()

@@ -1,14 +1,8 @@
-#!/usr/bin/env python3
 """Writes sample.cases: what `sample` tells, by a source, a fork and a text that are put together here.
 
-    python3 tools/cases/sample_cases.py [--check]
-
 It knows nothing of the code: the fork has the layout of tools/model/fork.py, and the text is what docs/LANGUAGE.md
-says of rows. With --check nothing is written, and the status is 1 where the file would change.
+says of rows.
 """
-import sys
-
-import top  # noqa: F401
 from casefile import Book
 from model.fork import image
 
@@ -46,6 +40,7 @@ def text(count):
     return shown
 
 
+@BOOK.part()
 def samples():
     for count in (1, 2, 3, 8, 40, 500, 5000):
         length = len(fork(count))
@@ -53,26 +48,19 @@ def samples():
         BOOK.case("a sample of %d" % count, "sample %d" % count, out=out)
 
 
+@BOOK.part("What a sample does, with files.")
 def steps():
-    BOOK.say("What a sample does, with files.")
     BOOK.case("the source of a sample is compiled", "rez source -o fork", [("source", source(8))], leaves=[("fork", fork(8))])
     BOOK.case("the fork of a sample is shown", "derez fork types", [("fork", fork(8)), ("types", TYPES)], out=text(8))
     BOOK.case("the text of a sample is compiled", "rez types text -o again", [("types", TYPES), ("text", text(8))],
               leaves=[("again", fork(8))])
 
 
+@BOOK.part("Words that are no sample.")
 def wrong():
-    BOOK.say("Words that are no sample.")
     for says, words, position in (("of none", "sample 0", 2), ("with a leading zero", "sample 01", 2), ("of too many", "sample 5001", 2),
                                   ("of fewer than none", "sample -5", 2), ("with a sign", "sample +5", 2),
                                   ("of a number past all bounds", "sample 99999999999999999999", 2), ("of no number", "sample two", 2),
                                   ("with an option", "sample -o", 2), ("of two numbers", "sample 2 3", 3),
                                   ("with an option behind the number", "sample 2 -rd", 3), ("without a number", "sample", 2)):
         BOOK.case("a sample " + says, words, status=1, err="rezkit: usage: word %d\n" % position)
-
-
-if __name__ == "__main__":
-    samples()
-    steps()
-    wrong()
-    sys.exit(0 if BOOK.finish() else 1)

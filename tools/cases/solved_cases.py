@@ -1,18 +1,7 @@
-#!/usr/bin/env python3
-"""Writes solved.cases: what `derez` shows of types in which a number tells the place of a label behind it.
-
-    python3 tools/cases/solved_cases.py [--check]
-
-Each type stands here as a list of fields, and each resource as its bytes or as the values of a row. Behind the name
-stands by hand which of them `derez` shows by a `resource` statement, `r`, and which as bytes, `d`; label_reading.py and
-shown.py have to say the same. With --check nothing is written, and the status is 1 where a file would change.
-"""
-import sys
-
-import top  # noqa: F401
-from label_book import Shown, WRONG
-from model.label_types import (Align, Array, Expr, Fill, Label, Switch, at, bits_at, byte, byte_at, fact, field_bits,
-                               integer, key, longint, num, number, points, rows_of, text, word_at)
+"""Writes solved.cases: what `derez` shows of types in which a number tells the place of a label behind it."""
+from label_book import Shown
+from model.label_types import (Align, Array, Expr, Label, Switch, at, bits_at, byte, byte_at, fact, field_bits, integer,
+                               key, longint, num, number, points, rows_of, text)
 
 SOLVED = Shown("solved.cases", "solved_cases.py", "What derez shows where a number tells the place of a label behind it.")
 FAR, FROM = at("e"), at("s")
@@ -24,45 +13,44 @@ def string(*fields, form="hex "):
     return [Label("s"), text("string", says=form), Label("e")] + list(fields)
 
 
+@SOLVED.part("By hand.")
 def worked():
-    SOLVED.say("By hand.")
-    case = SOLVED.case
-    case("a number behind a string that is its own place", [text("cstring"), Label("e"), integer(FAR)], "rddd", '"gorf" 00 0028',
+    case = SOLVED.shows
+    case("a number behind a string that is its own place", "cstring; e: integer = e;", "rddd", '"gorf" 00 0028',
         '"gorf" 00 0030', '"gorf" 0028', '"gorf" 00 0028 00', kind="gorf", first=128,
         out='resource \'gorf\' (128) {\n    "gorf"\n};\n\ndata \'gorf\' (129) {\n    $"676F 7266 0000 30"\n};\n\n'
         'data \'gorf\' (130) {\n    $"676F 7266 0028"\n};\n\ndata \'gorf\' (131) {\n    $"676F 7266 0000 2800"\n};\n\n')
-    case("the length of a string in front of it", [integer(LENGTH)] + string(integer()), "rdddr", "0002 0102 0005", "0003 0102 0005",
-        "0001 0102 0005", "0002 0102 00", "0000 0005", kind="Ends", first=128,
+    case("the length of a string in front of it", "integer = (e - s) / 8; s: hex string; e: integer;", "rdddr",
+        "0002 0102 0005", "0003 0102 0005", "0001 0102 0005", "0002 0102 00", "0000 0005", kind="Ends", first=128,
         out='resource \'Ends\' (128) {\n    $"0102",\n    5\n};\n\ndata \'Ends\' (129) {\n    $"0003 0102 0005"\n};\n\n'
         'data \'Ends\' (130) {\n    $"0001 0102 0005"\n};\n\ndata \'Ends\' (131) {\n    $"0002 0102 00"\n};\n\n'
         'resource \'Ends\' (132) {\n    $"",\n    5\n};\n\n')
-    case("the length of the second of two strings", [integer(LENGTH), text("pstring"), Label("s"), text("pstring"), Label("e")],
-        "d", '0003 01 "A" 02 "BC"', kind="two ", first=128,
-        out='data \'two \' (128) {\n    $"0003 0141 0242 43"\n};\n\n')
-    case("a size that is read from a number that an item gives", [Label("n"), integer(), Label("s"), text("string", word_at("n"))],
-        "rdr", '0003 "abc"', '0003 "ab"', '0003 "ab" 00', kind="Size", first=128,
-        out='resource \'Size\' (128) {\n    3,\n    "abc"\n};\n\ndata \'Size\' (129) {\n    $"0003 6162"\n};\n\n'
-        'resource \'Size\' (130) {\n    3,\n    "ab"\n};\n\n')
-    case("a size that is read from a late number", [Label("n"), integer(LENGTH), Label("s"), text("string", word_at("n")), Label("e")],
-        "dd", '0002 "ab"', "0000", kind="Loop", first=128,
-        out='data \'Loop\' (128) {\n    $"0002 6162"\n};\n\ndata \'Loop\' (129) {\n    $"0000"\n};\n\n')
-    case("a number that reads bits behind itself", [Label("a"), integer(word_at("b")), Label("b"), integer()], "dd", "0005 0005",
-        "0000 0000", kind="Late", first=128)
-    case("the length of an array in front of it", [integer(LENGTH), Label("s"), Array(None, None, [byte()]), Label("e"), byte(7)],
-        "rddr", "0003 010002 07", "0003 010002 08", "0002 010002 07", "0000 07", kind="Kids", first=128,
-        out="resource 'Kids' (128) {\n    {\n        1,\n        0,\n        2\n    }\n};\n\ndata 'Kids' (129) {\n    "
-        "$\"0003 0100 0208\"\n};\n\ndata 'Kids' (130) {\n    $\"0002 0100 0207\"\n};\n\nresource 'Kids' (131) {\n    {\n    }\n};\n\n")
+    case("the length of the second of two strings", "integer = (e - s) / 8; pstring; s: pstring; e:", "d",
+         '0003 01 "A" 02 "BC"', kind="two ", first=128, out='data \'two \' (128) {\n    $"0003 0141 0242 43"\n};\n\n')
+    case("a size that is read from a number that an item gives", "n: integer; s: string[$$Word(n)];", "rdr",
+         '0003 "abc"', '0003 "ab"', '0003 "ab" 00', kind="Size", first=128,
+         out='resource \'Size\' (128) {\n    3,\n    "abc"\n};\n\ndata \'Size\' (129) {\n    $"0003 6162"\n};\n\n'
+         'resource \'Size\' (130) {\n    3,\n    "ab"\n};\n\n')
+    case("a size that is read from a late number", "n: integer = (e - s) / 8; s: string[$$Word(n)]; e:", "dd",
+         '0002 "ab"', "0000", kind="Loop", first=128,
+         out='data \'Loop\' (128) {\n    $"0002 6162"\n};\n\ndata \'Loop\' (129) {\n    $"0000"\n};\n\n')
+    case("a number that reads bits behind itself", "a: integer = $$Word(b); b: integer;", "dd", "0005 0005",
+         "0000 0000", kind="Late", first=128)
+    case("the length of an array in front of it", "integer = (e - s) / 8; s: array { byte; }; e: byte = 7;", "rddr",
+         "0003 010002 07", "0003 010002 08", "0002 010002 07", "0000 07", kind="Kids", first=128,
+         out="resource 'Kids' (128) {\n    {\n        1,\n        0,\n        2\n    }\n};\n\ndata 'Kids' (129) {\n    "
+         "$\"0003 0100 0208\"\n};\n\ndata 'Kids' (130) {\n    $\"0002 0100 0207\"\n};\n\nresource 'Kids' (131) {\n    {\n    }\n};\n\n")
 
 
 def lengths(name, expr, marks, before=(), items=(), form="integer", more=(), **also):
     """A number by an expression in front of a string, with the string of 0 bytes, of 1 byte and so on, and other contents."""
     body = list(before) + [num(form, expr)] + string(byte())
     rows = [list(items) + [b"abcdefghi"[:k], 7] for k in range(len(marks) - len(more))]
-    SOLVED.case(name, body, marks, *(rows + list(more)), **also)
+    SOLVED.shows(name, body, marks, *(rows + list(more)), **also)
 
 
+@SOLVED.part("The operators over the length of a string, which has 0 bytes, 1 byte and so on, and numbers beside them.")
 def operators():
-    SOLVED.say("The operators over the length of a string, which has 0 bytes, 1 byte and so on, and numbers beside them.")
     for name, expr, marks in [
             ("alone", LENGTH, "rrrrr"),
             ("and 3", LENGTH + 3, "rrrrr"),
@@ -133,8 +121,8 @@ def operators():
         lengths("the length %s" % name, expr, marks)
 
 
+@SOLVED.part("What can't be undone, so that the type can't be read.")
 def unsolvable():
-    SOLVED.say("What can't be undone, so that the type can't be read.")
     for name, expr in [
             ("a remainder", LENGTH % 100),
             ("a remainder of it", 100 % LENGTH),
@@ -185,11 +173,11 @@ def unsolvable():
             ("a label solved only behind the string",
              [text("cstring"), Switch([("A", [key("byte", 1)] + string() + [byte(LENGTH)])])], '00 01 "ab" 02'),
     ]:
-        SOLVED.case("can't be read: " + name, body, "d" * len(contents), *contents)
+        SOLVED.shows("can't be read: " + name, body, "d" * len(contents), *contents)
 
 
+@SOLVED.part("What stands beside a length: all that is known, with the value 2.")
 def sides():
-    SOLVED.say("What stands beside a length: all that is known, with the value 2.")
     two = [("a number", number(2), [], []), ("a place before", at("p") / 8, [byte(), integer()], [1, 2]),
         ("a place right before", at("p"), [field_bits(2), Label("p"), field_bits(6)], [1, 2]),
         ("a near place behind", at("f") - at("s") + 2, [], []),
@@ -215,7 +203,7 @@ def sides():
         ]:
             body = list(before) + [integer(expr), Label("s"), Label("f"), text("string"), Label("e"), byte()]
             rows = [list(items) + [b"abcdefghi"[:k], 7] for k in range(4)]
-            SOLVED.case("a length %s %s" % (name, said), body, marks, *rows, first=2) if said != "the id" else SOLVED.case(
+            SOLVED.shows("a length %s %s" % (name, said), body, marks, *rows, first=2) if said != "the id" else SOLVED.shows(
                 "a length %s %s" % (name, said), body, marks[2], rows[2], first=2)
     SOLVED.say("What stands beside a length and has no value.")
     for name, side in [
@@ -231,21 +219,21 @@ def sides():
         lengths("a length times 0 and %s" % name, (LENGTH + 0 * side) * 1, "ddd", [Label("n"), byte()], [0], "byte")
 
 
+@SOLVED.part("Numbers of each type, and lengths at the ends of what they hold.")
 def widths():
-    SOLVED.say("Numbers of each type, and lengths at the ends of what they hold.")
     for form, most in [("boolean", 1), ("bitstring[1]", 1), ("bitstring[2]", 3), ("bitstring[3]", 7), ("bitstring[6]", 63),
                        ("byte", 255)]:
         body = [num(form, LENGTH), Align("byte")] + string(byte())
-        SOLVED.case("lengths in a %s" % form, body, "rrrd",
+        SOLVED.shows("lengths in a %s" % form, body, "rrrd",
             *[[b"\xEE" * value, 1] for value in [0, most // 2 + 1, most, most + 1]])
         body = [num(form, LENGTH - 1), Align("byte")] + string(byte())
-        SOLVED.case("lengths less 1 in a %s" % form, body, "drrd",
+        SOLVED.shows("lengths less 1 in a %s" % form, body, "drrd",
             *[[b"\xEE" * value, 1] for value in [0, 1, most + 1, most + 2]])
     for form in ["char", "integer", "longint"] + ["bitstring[%d]" % width for width in (7, 8, 9, 15, 16, 17, 31, 32)]:
         body = [num(form, LENGTH), Align("byte")] + string(byte())
-        SOLVED.case("lengths in a %s" % form, body, "rrr", *[[b"\xEE" * value, 1] for value in (0, 1, 34)])
+        SOLVED.shows("lengths in a %s" % form, body, "rrr", *[[b"\xEE" * value, 1] for value in (0, 1, 34)])
         body = [num(form, LENGTH - 1), Align("byte")] + string(byte())
-        SOLVED.case("lengths less 1 in a %s" % form, body, "drr", *[[b"\xEE" * value, 1] for value in (0, 1, 34)])
+        SOLVED.shows("lengths less 1 in a %s" % form, body, "drr", *[[b"\xEE" * value, 1] for value in (0, 1, 34)])
     lengths("a number with a sign over half of its range", LENGTH + 126, "rrrr", form="byte")
     lengths("a number without a sign in a char", LENGTH + 253, "rrrd", form="char")
     lengths("a number in hexadecimal", LENGTH, "rrr", form="integer")
@@ -275,17 +263,17 @@ def widths():
             ("a difference beyond 2^63 on the way", ((FAR >> 31) - 2147483647) >> 31, "FFFFFFFF 01", "00000001 01",
              "80000001 01"),
     ]:
-        SOLVED.case(name, [longint(expr)] + string(byte()), "d" * len(contents), *contents)
+        SOLVED.shows(name, [longint(expr)] + string(byte()), "d" * len(contents), *contents)
 
 
+@SOLVED.part("A solved place is where the label stands, between its number and the end of the resource.")
 def places():
-    SOLVED.say("A solved place is where the label stands, between its number and the end of the resource.")
-    case = SOLVED.case
+    case = SOLVED.shows
     body = [byte(FAR / 8), text("pstring"), Label("e"), byte()]
     case("a place that nothing ends at", body, "rddddd", '05 03 "abc" 07', '04 03 "abc" 07', '06 03 "abc" 07', '05 03 "abc"',
         '00 03 "abc" 07', 'FF 03 "abc" 07')
-    case("a place of which nothing is read", [byte(FAR / 8), text("cstring"), Label("e")], "rdd", '05 "abc" 00', '04 "abc" 00',
-        '01 "abc" 00')
+    case("a place of which nothing is read", "byte = e / 8; cstring; e:", "rdd", '05 "abc" 00', '04 "abc" 00',
+         '01 "abc" 00')
     body = [byte(FAR)] + string(byte())
     case("a place in bits", body, "rrddddddd", "08 07", "10 01 07", "09 01 07", "0F 01 07", "11 01 07", "07 01 07", "00 01 07",
         "18 01 07", "20 01 07")
@@ -294,27 +282,24 @@ def places():
     body = [byte(FAR / 8), text("pstring")] + string(byte())
     case("a place inside of what stands between", body, "rdddd", '04 01 "a" "b" 07', '03 02 "a" "b" 07', '01 01 "a" "b" 07',
         '00 01 "a" "b" 07', '05 01 "a" "b" 07')
-    case("a place behind an align", [byte(FAR / 8), text("pstring"), Align("long"), Label("e"), byte()], "rrddd",
-        '04 01 "a" 00 07', '08 04 "abcd" 0000 07', '03 01 "a" 00 07', '04 01 "a" 01 07', '04 02 "ab" 07 07')
-    case("a place behind a fill", [byte(FAR / 8), text("pstring"), Fill("byte", 2), Label("e"), byte()], "rdd",
-        '05 01 "a" 0000 07', '03 01 "a" 0000 07', '05 01 "a" 0001 07')
-    case("a place within the last byte", [field_bits(5, FAR - 8), text("pstring", 1),
-            Array("a", 1, [field_bits(3)])._replace(name=None), text("pstring"), field_bits(2), Label("e")], None,
-        [b"x", [[5]], b"y", 2])
-    case("a place at the end of the resource", [byte(FAR / 8), text("cstring"), Label("e")], "rdd", "02 00", "03 00",
-        "02 00 00")
-    case("two labels at one place of which one is solved",
-        [byte(FAR / 8), text("cstring"), Label("e"), Label("f"), byte(at("f"))], "rd", "02 00 10", "02 00 18")
+    case("a place behind an align", "byte = e / 8; pstring; align long; e: byte;", "rrddd", '04 01 "a" 00 07',
+         '08 04 "abcd" 0000 07', '03 01 "a" 00 07', '04 01 "a" 01 07', '04 02 "ab" 07 07')
+    case("a place behind a fill", "byte = e / 8; pstring; fill byte[2]; e: byte;", "rdd", '05 01 "a" 0000 07',
+         '03 01 "a" 0000 07', '05 01 "a" 0001 07')
+    case("a place within the last byte",
+         "bitstring[5] = e - 8; pstring[1]; array[1] { bitstring[3]; }; pstring; bitstring[2]; e:", None,
+         [b"x", [[5]], b"y", 2])
+    case("a place at the end of the resource", "byte = e / 8; cstring; e:", "rdd", "02 00", "03 00", "02 00 00")
+    case("two labels at one place of which one is solved", "byte = e / 8; cstring; e: f: byte = f;", "rd", "02 00 10",
+         "02 00 18")
     case("a label and its solution in other letters", [byte(at("END") / 8), text("cstring"), Label("end"), byte(at("End"))],
         "rd", "02 00 10", "02 00 18")
-    case("the first of several lengths is of the next string", [byte((at("b") - at("a")) / 8), byte((at("c") - at("b")) / 8),
-            Label("a"), text("string"), Label("b"), text("string"), Label("c"), byte()], None, "01 02 61 6263 07")
-    case("lengths one after the other", [byte((at("b") - at("a")) / 8), Label("a"), text("string"), Label("b"),
-            byte((at("d") - at("c")) / 8), Label("c"), text("string"), Label("d"), byte()], "rrddd", "01 61 02 6263 07",
-        "00 00 07", "01 61 01 6263 07", "02 61 02 6263 07", "01 61 02 6263")
-    case("a length behind a solved place",
-        [byte((at("b") - at("a")) / 8), Label("a"), text("string"), Label("b"), byte((at("b") - at("a")) / 8), byte()], "rd",
-        "01 61 01 07", "01 61 02 07")
+    case("the first of several lengths is of the next string",
+         "byte = (b - a) / 8; byte = (c - b) / 8; a: string; b: string; c: byte;", None, "01 02 61 6263 07")
+    case("lengths one after the other", "byte = (b - a) / 8; a: string; b: byte = (d - c) / 8; c: string; d: byte;",
+         "rrddd", "01 61 02 6263 07", "00 00 07", "01 61 01 6263 07", "02 61 02 6263 07", "01 61 02 6263")
+    case("a length behind a solved place", "byte = (b - a) / 8; a: string; b: byte = (b - a) / 8; byte;", "rd",
+         "01 61 01 07", "01 61 02 07")
     for between, field in [
             ("a string", text("pstring")),
             ("a fixed string", text("pstring", None, b"xy")),
@@ -326,66 +311,63 @@ def places():
             byte()]
         items = {"a string": [b"ab"], "an array": [[[3], [4]]], "a switch": [("B", [9])],
             "a string with a size": [b"ab"]}.get(between, [])
-        SOLVED.case("a place behind %s" % between, body, "r", items + [7])
+        SOLVED.shows("a place behind %s" % between, body, "r", items + [7])
 
 
+@SOLVED.part("Several numbers that name one label: the first one solves it, and the others have to be right.")
 def together():
-    SOLVED.say("Several numbers that name one label: the first one solves it, and the others have to be right.")
-    case = SOLVED.case
+    case = SOLVED.shows
     both = [byte(LENGTH), byte(LENGTH)]
     case("two equal lengths", both + string(byte()), "rdddr", '02 02 "ab" 07', '02 01 "ab" 07', '01 02 "ab" 07',
         '03 03 "ab" 07', "00 00 07")
-    case("a length and a place", [byte(LENGTH), byte(FAR)] + string(byte()), "rddd", '02 20 "ab" 07', '02 1F "ab" 07',
-        '01 20 "ab" 07', '02 10 "ab" 07')
-    case("a place in words, and then a length", [byte(FAR / 16), byte(LENGTH)] + string(byte()), "rdrd", '02 02 "ab" 07',
-        '01 01 "a" 07', "01 00 07", '02 03 "abc" 07')
-    case("a length, and then a place in words", [byte(LENGTH), byte(FAR / 16)] + string(byte()), "rrrrd", '02 02 "ab" 07',
-        '01 01 "a" 07', "00 01 07", '03 02 "abc" 07', '03 03 "abc" 07')
+    case("a length and a place", "byte = (e - s) / 8; byte = e; s: hex string; e: byte;", "rddd", '02 20 "ab" 07',
+         '02 1F "ab" 07', '01 20 "ab" 07', '02 10 "ab" 07')
+    case("a place in words, and then a length", "byte = e / 16; byte = (e - s) / 8; s: hex string; e: byte;", "rdrd",
+         '02 02 "ab" 07', '01 01 "a" 07', "01 00 07", '02 03 "abc" 07')
+    case("a length, and then a place in words", "byte = (e - s) / 8; byte = e / 16; s: hex string; e: byte;", "rrrrd",
+         '02 02 "ab" 07', '01 01 "a" 07', "00 01 07", '03 02 "abc" 07', '03 03 "abc" 07')
     case("a length, and then what can't be undone", [byte(LENGTH), byte(FAR & 15), byte(FAR % 10)] + string(byte()), "rrdd",
         "00 08 04 07", '01 00 02 "a" 07', '01 00 03 "a" 07', '01 01 02 "a" 07')
     case("what can't be undone, and then a length", [byte(FAR & 15), byte(LENGTH)] + string(byte()), "d", '00 02 "ab" 07')
-    case("a length, and then one that wraps", [byte(LENGTH), longint(FAR << 28)] + string(byte()), "rd", '02 80000000 "ab" 07',
-        '02 00000000 "ab" 07')
+    case("a length, and then one that wraps", "byte = (e - s) / 8; longint = e << 28; s: hex string; e: byte;", "rd",
+         '02 80000000 "ab" 07', '02 00000000 "ab" 07')
     case("a length, and then one out of range", [byte(LENGTH), field_bits(8, FAR * 16)] + string(byte()), "d", '02 00 "ab" 07')
-    case("a length, and then one times 0", [byte(LENGTH), byte(FAR * 0)] + string(byte()), "rd", '02 00 "ab" 07',
-        '02 01 "ab" 07')
-    case("a length, and then with the label twice", [byte(LENGTH), byte((FAR + FAR) / 16)] + string(byte()), "rd",
-        '02 04 "ab" 07', '02 05 "ab" 07')
-    case("a length in front and one behind", [byte(LENGTH)] + string(byte(LENGTH)), "rdd", '02 "ab" 02', '02 "ab" 01',
-        '02 "ab" 00')
-    case("a place and half of it for the next label",
-        [byte(at("b") / 8), byte(at("c") - at("b")), text("string"), Label("b"), text("string"), Label("c"), byte()], "rdd",
-        '04 10 "ab" "cd" 07', '04 0F "ab" "cd" 07', '03 10 "ab" "cd" 07')
-    case("a length of the whole by the length of a part",
-        [byte(at("c") / 8 - at("b") / 8), byte(at("b") / 8), text("string"), Label("b"), text("string"), Label("c")], "d",
-        '02 04 "ab" "cd"')
-    case("three lengths of which each rests on the last", [byte(at("a")), byte(at("b") - at("a")), byte(at("c") - at("b")),
-            text("string"), Label("a"), text("string"), Label("b"), text("string"), Label("c")], "rdd", '20 10 00 "a" "bc"',
-        '20 10 00 "a" "b"', '20 0F 01 "a" "bc"')
+    case("a length, and then one times 0", "byte = (e - s) / 8; byte = e * 0; s: hex string; e: byte;", "rd",
+         '02 00 "ab" 07', '02 01 "ab" 07')
+    case("a length, and then with the label twice", "byte = (e - s) / 8; byte = (e + e) / 16; s: hex string; e: byte;",
+         "rd", '02 04 "ab" 07', '02 05 "ab" 07')
+    case("a length in front and one behind", "byte = (e - s) / 8; s: hex string; e: byte = (e - s) / 8;", "rdd",
+         '02 "ab" 02', '02 "ab" 01', '02 "ab" 00')
+    case("a place and half of it for the next label", "byte = b / 8; byte = c - b; string; b: string; c: byte;", "rdd",
+         '04 10 "ab" "cd" 07', '04 0F "ab" "cd" 07', '03 10 "ab" "cd" 07')
+    case("a length of the whole by the length of a part", "byte = c / 8 - b / 8; byte = b / 8; string; b: string; c:",
+         "d", '02 04 "ab" "cd"')
+    case("three lengths of which each rests on the last",
+         "byte = a; byte = b - a; byte = c - b; string; a: string; b: string; c:", "rdd", '20 10 00 "a" "bc"',
+         '20 10 00 "a" "b"', '20 0F 01 "a" "bc"')
     SOLVED.say("Points and rectangles: two or four numbers, one after the other.")
-    case("a point that solves and names", [points(FAR - FROM, FAR)] + string(byte()), "rdd", '0010 0030 "ab" 07',
-        '0010 0031 "ab" 07', '0011 0030 "ab" 07')
-    case("a point that names and solves", [points(7, FAR - FROM)] + string(byte()), "rd", '0007 0010 "ab" 07',
-        '0008 0010 "ab" 07')
-    case("a point that solves two labels",
-        [points(at("b"), at("d")), text("string"), Label("b"), byte(1), text("string"), Label("d")], "rd",
-        '0028 0038 "a" 01 "b"', '0028 0030 "a" 01 "b"')
-    case("a point whose second number can't be undone before the first one", [points(FAR & 255, FAR)] + string(byte()), "d",
-        '0030 0030 "ab" 07')
-    case("a point whose second number can't be undone", [points(FAR, FAR & 255)] + string(byte()), "rd", '0030 0030 "ab" 07',
-        '0030 0031 "ab" 07')
-    case("a rectangle that solves, and names three times", [points(LENGTH, FAR, FAR / 8, FROM)] + string(byte()), "rdd",
-        '0002 0050 000A 0040 "ab" 07', '0002 0050 000A 0041 "ab" 07', '0001 0050 000A 0040 "ab" 07')
-    case("a rectangle that solves four labels", [points(at("a"), at("b") - at("a"), at("c") - at("b"), at("d") - at("c")),
-            text("string"), Label("a"), text("string"), Label("b"), text("string"), Label("c"), text("string"), Label("d")],
-        "rrd", '0048 0000 0010 0000 "a" "bc"', '0040 0000 0000 0000', '0041 0000 0000 0000')
-    case("a point that reads its first number", [Label("p"), points(LENGTH, word_at("p") + FAR)] + string(byte()), "rd",
-        '0002 0032 "ab" 07', '0002 0033 "ab" 07')
+    case("a point that solves and names", "point = {e - s, e}; s: hex string; e: byte;", "rdd", '0010 0030 "ab" 07',
+         '0010 0031 "ab" 07', '0011 0030 "ab" 07')
+    case("a point that names and solves", "point = {7, e - s}; s: hex string; e: byte;", "rd", '0007 0010 "ab" 07',
+         '0008 0010 "ab" 07')
+    case("a point that solves two labels", "point = {b, d}; string; b: byte = 1; string; d:", "rd",
+         '0028 0038 "a" 01 "b"', '0028 0030 "a" 01 "b"')
+    case("a point whose second number can't be undone before the first one",
+         "point = {e & 255, e}; s: hex string; e: byte;", "d", '0030 0030 "ab" 07')
+    case("a point whose second number can't be undone", "point = {e, e & 255}; s: hex string; e: byte;", "rd",
+         '0030 0030 "ab" 07', '0030 0031 "ab" 07')
+    case("a rectangle that solves, and names three times", "rect = {(e - s) / 8, e, e / 8, s}; s: hex string; e: byte;",
+         "rdd", '0002 0050 000A 0040 "ab" 07', '0002 0050 000A 0041 "ab" 07', '0001 0050 000A 0040 "ab" 07')
+    case("a rectangle that solves four labels",
+         "rect = {a, b - a, c - b, d - c}; string; a: string; b: string; c: string; d:", "rrd",
+         '0048 0000 0010 0000 "a" "bc"', '0040 0000 0000 0000', '0041 0000 0000 0000')
+    case("a point that reads its first number", "p: point = {(e - s) / 8, $$Word(p) + e}; s: hex string; e: byte;",
+         "rd", '0002 0032 "ab" 07', '0002 0033 "ab" 07')
 
 
+@SOLVED.part("Numbers of rows and places.")
 def counts():
-    SOLVED.say("Numbers of rows and places.")
-    case = SOLVED.case
+    case = SOLVED.shows
     rows = Array("a", None, [byte()])
     case("a number of rows over a near place", [byte(rows_of("a") + at("s")), Label("s"), rows, byte()], "rrdd", "08 07",
         "0A 01 02 07", "07 07", "0A 01 07")
@@ -398,27 +380,25 @@ def counts():
         [byte(rows_of("a")), rows, byte(LENGTH - rows_of("a"))] + string(byte()), "rdrd", '02 05 06 01 "abc" 07',
         '02 05 06 02 "abc" 07', '01 05 00 "a" 07', '01 05 FF 07')
     case("a place by a number of rows that was solved",
-        [byte(rows_of("a")), byte(FAR / 8 - rows_of("a") * 2), Array("a", None, [byte()]), Label("e"), text("string")], "rrd",
-        "02 00 05 06 07", "00 02 07", "02 01 05 06 07")
+         "byte = $$CountOf(a); byte = e / 8 - $$CountOf(a) * 2; array a { byte; }; e: string;", "rrd", "02 00 05 06 07",
+         "00 02 07", "02 01 05 06 07")
     case("a number of rows and a place, each of its own",
-        [byte(rows_of("a")), byte((FAR - FROM) / 16), Label("s"), Array("a", None, [integer()]), Label("e"), byte()], "rrddd",
-        "02 02 0001 0002 07", "00 00 07", "02 01 0001 0002 07", "01 02 0001 0002 07", "01 02 0001 07")
-    case("a number of rows by the place of their end",
-        [byte(FAR / 8), Array("a", None, [byte()]), Label("e"), byte(rows_of("a"))], "rdd", "03 05 06 02", "03 05 06 03",
-        "02 05 06 02")
-    case("a number of rows that the place gives and the rows don't", [byte(rows_of("a")), byte(FAR - FROM), Label("s"),
-            Array("a", None, [field_bits(4)]), Label("e"), Align("byte"), byte()], "rrddr", "02 08 12 07", "01 04 10 07",
-        "02 04 12 07", "01 08 10 07", "03 0C 1230 07")
+         "byte = $$CountOf(a); byte = (e - s) / 16; s: array a { integer; }; e: byte;", "rrddd", "02 02 0001 0002 07",
+         "00 00 07", "02 01 0001 0002 07", "01 02 0001 0002 07", "01 02 0001 07")
+    case("a number of rows by the place of their end", "byte = e / 8; array a { byte; }; e: byte = $$CountOf(a);",
+         "rdd", "03 05 06 02", "03 05 06 03", "02 05 06 02")
+    case("a number of rows that the place gives and the rows don't",
+         "byte = $$CountOf(a); byte = e - s; s: array a { bitstring[4]; }; e: align byte; byte;", "rrddr",
+         "02 08 12 07", "01 04 10 07", "02 04 12 07", "01 08 10 07", "03 0C 1230 07")
     case("a number of rows less than none over a place", [byte(rows_of("a") + at("s") + 1), Label("s"), rows], "drr", "08",
         "09", "0A 05")
-    case("rows by a place in a bitstring",
-        [field_bits(4, rows_of("a") + at("s")), Label("s"), Array("a", None, [field_bits(4)])], "rrrd", "40", "51", "61 00",
-        "51 00")
+    case("rows by a place in a bitstring", "bitstring[4] = $$CountOf(a) + s; s: array a { bitstring[4]; };", "rrrd",
+         "40", "51", "61 00", "51 00")
 
 
+@SOLVED.part("Solved labels of the fields around, in rows and in cases.")
 def bodies():
-    SOLVED.say("Solved labels of the fields around, in rows and in cases.")
-    case = SOLVED.case
+    case = SOLVED.shows
     names = [byte(), byte(FAR)]
     case("a solved place in rows before it", [byte(FAR / 8), Array("a", None, names), Label("e"), byte()], "rrdd", "01 07",
         "03 05 18 07", "03 05 19 07", "05 05 28 06 29 07")
@@ -429,26 +409,25 @@ def bodies():
     case("a solved place in rows of rows",
         [byte(FAR / 8), text("cstring"), Array(None, 2, [Array(None, 1, names)]), Label("e"), byte()], "rdd",
         "06 00 05 30 06 30 07", "06 00 05 30 06 31 07", "05 00 05 28 06 28 07")
-    case("a solved place that can't be undone in rows",
-        [byte(FAR / 8), Array("a", None, [byte(FAR % 16), byte()]), Label("e"), byte()], "rd", "03 08 05 07", "03 09 05 07")
+    case("a solved place that can't be undone in rows", "byte = e / 8; array a { byte = e % 16; byte; }; e: byte;",
+         "rd", "03 08 05 07", "03 09 05 07")
     case("a near place isn't known in rows", [byte(FAR), Array(None, 1, names), Label("e")], "d", "18 05 18")
     case("a place over a switch is solved, and known in its case",
-        [byte(FAR), Switch([("A", [key("byte", 1), byte(FAR)])]), Label("e")], "rdd", "18 01 18", "18 01 10", "10 01 18")
+         "byte = e; switch { case A: key byte = 1; byte = e; }; e:", "rdd", "18 01 18", "18 01 10", "10 01 18")
     case("a place behind the rows isn't known in them", [Array(None, 1, names), Label("e")], "d", "05 10")
     case("a place before the rows is known in them", [Label("e"), Array(None, None, names)], "rrd", "", "05 00 06 00",
         "05 00 06 08")
     case("a solved place in a case",
-        [byte(FAR / 8), Switch([("A", [key("byte", 1), byte(FAR)]), ("B", [key("byte", 2)])]), Label("e"), byte()], "rrdd",
-        "03 01 18 07", "02 02 07", "03 01 10 07", "03 02 07")
+         "byte = e / 8; switch { case A: key byte = 1; byte = e; case B: key byte = 2; }; e: byte;", "rrdd",
+         "03 01 18 07", "02 02 07", "03 01 10 07", "03 02 07")
     case("a solved place in a case of a case",
-        [byte(FAR / 8), Switch([("A", [key("byte", 1), Switch([("B", [key("byte", 2), byte(FAR)])])])]), Label("e")], "rd",
-        "04 01 02 20", "04 01 02 21")
-    case("a solved place doesn't end a string of a case",
-        [byte(FAR / 8), Switch([("A", [key("byte", 1), text("string")])]), Label("e")], "d", '03 01 "a"')
+         "byte = e / 8; switch { case A: key byte = 1; switch { case B: key byte = 2; byte = e; }; }; e:", "rd",
+         "04 01 02 20", "04 01 02 21")
+    case("a solved place doesn't end a string of a case", "byte = e / 8; switch { case A: key byte = 1; string; }; e:",
+         "d", '03 01 "a"')
     case("a solved place of the fields around doesn't end rows of a case",
-        [byte(FAR / 8), Switch([("A", [key("byte", 1), Array(None, None, [byte()])])]), Label("e")], "d", '03 01 "a"')
-    case("a solved place doesn't end a string of a row", [byte(FAR / 8), Array(None, 1, [text("string")]), Label("e")], "d",
-        '02 "a"')
+         "byte = e / 8; switch { case A: key byte = 1; array { byte; }; }; e:", "d", '03 01 "a"')
+    case("a solved place doesn't end a string of a row", "byte = e / 8; array[1] { string; }; e:", "d", '02 "a"')
     SOLVED.say("Labels of a case.")
     length = (at("y") - at("x")) / 8
     inner = [Label("x"), text("string"), Label("y")]
@@ -458,10 +437,8 @@ def bodies():
         [Switch([("A", [byte(length), key("byte", 1)] + inner), ("B", [byte(5), key("byte", 2)])]), byte()], "rrdd",
         '02 01 "ab" 07', "05 02 07", "06 02 07", '03 01 "ab" 07')
     case("a length in each of two cases",
-        [
-            Switch([("A", [key("byte", 1), byte((at("b") - at("a")) / 8), Label("a"), text("string"), Label("b")]),
-                    ("B", [key("byte", 2), byte((at("d") - at("c"))), Label("c"), text("string"), Label("d")])]), byte()],
-        "rrdd", '01 02 "ab" 07', '02 10 "ab" 07', '01 10 "ab" 07', '02 02 "ab" 07')
+         "switch { case A: key byte = 1; byte = (b - a) / 8; a: string; b: case B: key byte = 2; byte = d - c; c: string; d: }; byte;",
+         "rrdd", '01 02 "ab" 07', '02 10 "ab" 07', '01 10 "ab" 07', '02 02 "ab" 07')
     case("a length in a case and one around it",
         [byte(FAR / 8), Switch([("A", [key("byte", 1), byte(length)] + inner)]), Label("e"), byte()], "rddd",
         '05 01 02 "ab" 07', '04 01 02 "ab" 07', '05 01 01 "ab" 07', '06 01 03 "ab" 07')
@@ -478,16 +455,5 @@ def bodies():
         [Switch([("A", [key("byte", 1), byte(length), Label("x"), Array(None, None, [byte(), byte(at("y"))]), Label("y")])]),
             byte()], "rrdd", "01 02 05 20 07", "01 00 07", "01 02 05 21 07", "01 01 05 07")
     case("a number of rows in rows, by places around them",
-        [Label("p"), byte(), Label("q"), Array(None, 2, [byte(rows_of("a") + at("q") - at("p")), Array("a", None, [byte()])])],
-        "rrdd", "07 09 05 08", "07 08 0A 05 06", "07 07 08", "07 08 09")
-
-
-def main():
-    for section in (worked, operators, unsolvable, sides, widths, places, together, counts, bodies):
-        section()
-    done = SOLVED.book.finish()
-    sys.exit(0 if done and not WRONG else 1)
-
-
-if __name__ == "__main__":
-    main()
+         "p: byte; q: array[2] { byte = $$CountOf(a) + q - p; array a { byte; }; };", "rrdd", "07 09 05 08",
+         "07 08 0A 05 06", "07 07 08", "07 08 09")

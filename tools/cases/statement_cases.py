@@ -1,23 +1,19 @@
-#!/usr/bin/env python3
 """Writes statements.cases: the form of each statement, what it means, what is no statement, and the rules of fields.
-
-    python3 tools/cases/statement_cases.py [--check]
 
 The tables below have a source on each line, in which `|` is a line end and `«TEXT×N»` is TEXT N times, and after
 ` => ` by hand what comes: the resources of the fork, as comments of tools/model/fork.py name them, with ` & ` between
 them, `nothing`, or a fault with what it keeps, after its line and a colon where that isn't the first. After ` SHOWS `
-stand the items that `derez` shows of the first resource, with `¶` between their lines. A line that begins with `//`
-says what is tried. With --check nothing is written, and the status is 1 where the file would change.
+stand the items that `derez` shows of the first resource, with `¶` between their lines.
 """
 import re
-import sys
 
-import top  # noqa: F401
-from casefile import Book
+from casefile import Book, expanded, resources_of
 from model import shown
 from statement_texts import DATA, RESOURCES, TYPES
-from model.fork import image, resource_of
+from model.fork import image
 
+BOOK = Book("statements.cases", "The form of each statement, what it means, and what is no statement.",
+            "Written by tools/cases/statement_cases.py, where all that comes stands by hand.")
 
 INCLUDES = r"""
 // of a file all resources, all but those of a type, or those of a type
@@ -278,74 +274,43 @@ rezkit: t.r:6: warning 240 Redeclared: 'ICON' 4
 """
 
 
-def expanded(text):
-    """The text of a row, with its runs and line ends."""
-    return re.sub("«(.*?)×([0-9]+)»", lambda run: run[1] * int(run[2]), text).replace("|", "\n")
-
-
-def resources_of(wanted):
-    """The resources that a row names."""
-    if wanted == "nothing":
-        return []
-    return [resource_of("# fork " + each) for each in wanted.replace("\\0x01", "\1").split(" & ")]
-
-
 def shown_text(resource, items):
     """The text of a resource of which these items are shown."""
     lines = [shown.head_text("resource", resource)] + ["    " + line for line in items.split("¶")] + ["};", "", ""]
     return "\n".join(lines)
 
 
-class Statements:
-    """The book of the cases, whose names are the texts of the rows."""
-
-    def __init__(self):
-        self.book = Book("statements.cases", "The form of each statement, what it means, and what is no statement.",
-                         "Written by tools/cases/statement_cases.py, where all that comes stands by hand.")
-
-    def row(self, text, wanted, words, files):
-        """The case of a row, and one of what is shown."""
-        source, (wanted, _, items) = expanded(text), wanted.partition(" SHOWS ")
-        fault = re.fullmatch("(?:([0-9]+): )?([0-9]{3} .*)", wanted)
-        if fault:
-            files = [] if fault[2] == "201 Syntax" else files
-            self.book.case(text, words, [("s.r", source)] + files, (), 2, (), (), "",
-                           "rezkit: s.r:%s: error %s\n" % (fault[1] or 1, fault[2]))
-            return
-        resources = resources_of(wanted)
-        fork = image(resources)
-        room = ["room folder 1 10000000"] if len(fork) > 900000 else []
-        self.book.case(text, words, [("s.r", source)] + files, room, 0, [("x", fork)])
-        if items:
-            self.book.case("shown: " + text, "derez f s.r", [("f", fork), ("s.r", source)], (), 0, (), (),
-                           shown_text(resources[0], items))
-
-    def table(self, says, rows, words="rez s.r -o x", files=()):
-        """The cases of a table, whose runs have these words, and these files beside the source."""
-        self.book.say(says)
-        for line in rows.strip().split("\n"):
-            if line.startswith("//"):
-                self.book.say(line[2:].strip())
-            else:
-                text, wanted = line.split(" => ")
-                self.row(text, wanted, words, list(files))
+def row(line, words="rez s.r -o x", files=()):
+    """The case of a row, whose name is its text, and one of what is shown. Its run has these files beside the source."""
+    text, wanted = line.split(" => ")
+    source, (wanted, _, items) = expanded(text).replace("|", "\n"), wanted.partition(" SHOWS ")
+    fault = re.fullmatch("(?:([0-9]+): )?([0-9]{3} .*)", wanted)
+    if fault:
+        files = () if fault[2] == "201 Syntax" else files
+        return BOOK.refused(text, words, "s.r:%s: error %s" % (fault[1] or 1, fault[2]), [("s.r", source), *files])
+    resources = resources_of(wanted)
+    fork = image(resources)
+    room = ["room folder 1 10000000"] * (len(fork) > 900000)
+    BOOK.case(text, words, [("s.r", source), *files], room, leaves=[("x", fork)])
+    if items:
+        BOOK.case("shown: " + text, "derez f s.r", [("f", fork), ("s.r", source)], out=shown_text(resources[0], items))
+    return None
 
 
-def main():
+@BOOK.part()
+def tables():
     fork = image(resources_of(FILE))
-    cases = Statements()
-    cases.table("`data` statements.", DATA)
-    cases.table("`type` statements, and resources of what they declare.", TYPES)
-    cases.table("`resource` statements.", RESOURCES)
-    cases.table("`include` statements.", INCLUDES, files=[("File", fork)])
-    cases.table("`read` statements.", READS, files=[("File", "AB")])
-    cases.table("`change` and `delete` statements.", CHANGES, "rez s.r -a -o x", [("x", fork)])
-    cases.table("Rules of fields.", RULES)
-    cases.table("Which declaration counts.", SCOPES, "rez -rd t.r s.r -o x", [("t.r", DECLARED)])
-    cases.book.case("declarations of the same ids", "rez t.r -o x", [("t.r", DECLARED)], (), 0, [("x", image([]))], (), "", AGAIN)
-    cases.table("The limits of depth and of length.", LIMITS)
-    sys.exit(0 if cases.book.finish() else 1)
+    for says, rows, *given in [
+            ("`data` statements.", DATA), ("`type` statements, and resources of what they declare.", TYPES),
+            ("`resource` statements.", RESOURCES), ("`include` statements.", INCLUDES, "rez s.r -o x", [("File", fork)]),
+            ("`read` statements.", READS, "rez s.r -o x", [("File", "AB")]),
+            ("`change` and `delete` statements.", CHANGES, "rez s.r -a -o x", [("x", fork)]), ("Rules of fields.", RULES),
+            ("Which declaration counts.", SCOPES, "rez -rd t.r s.r -o x", [("t.r", DECLARED)])]:
+        BOOK.say(says)
+        BOOK.table(rows, lambda line, given=given: row(line, *given))
+    BOOK.case("declarations of the same ids", "rez t.r -o x", [("t.r", DECLARED)], leaves=[("x", image([]))], err=AGAIN)
 
 
-if __name__ == "__main__":
-    main()
+@BOOK.part("The limits of depth and of length.")
+def limits():
+    BOOK.table(LIMITS, row)

@@ -1,5 +1,4 @@
 """The cases of `data`, `type` and `resource` statements, as text. statement_cases.py writes them."""
-import top  # noqa: F401
 
 
 DATA = r"""

@@ -1,20 +1,19 @@
-#!/usr/bin/env python3
 """Writes sweeps.cases: cases of other files, each run once for each read, write, piece or flush that fails in turn.
-
-    python3 tools/cases/sweep_cases.py [--check]
 
 What a run must leave of which a call failed is no part of a case: crates/rezkit_cases/README.md has the rules. Here
 stand the calls of each command, by hand: its reads and then its writes, or those of its output or of what it says,
 which put its pieces and then flush it. `derez` puts each line by itself, so the pieces of its output are the lines
 that the case wants. The cases are read as lines, and not by tools/model/case_reader.py, for they are written again as
-they stand, with their comments. With --check nothing is written, and the status is 1 where the file would change.
+they stand, with their comments.
 """
 import functools
 import os
-import sys
 
-from casefile import DATA
+from casefile import DATA, Book
 
+BOOK = Book("sweeps.cases",
+            "Cases of other files, each run once for each read, write, piece or flush that fails in turn, and",
+            "once more, where none does. Written by tools/cases/sweep_cases.py.")
 LINES = None  # as many pieces as the case wants lines, and a flush
 
 # The file and the name of a case, and its sweep.
@@ -166,39 +165,12 @@ def without_comments_after(lines):
     return lines
 
 
-def made():
-    """The lines of the file, and how many runs its sweeps are."""
-    out = ["# Cases of other files, each run once for each read, write, piece or flush that fails in turn, and",
-           "# once more, where none does. Written by tools/cases/sweep_cases.py.", ""]
-    runs = 0
-    for says, sweeps in SWEEPS:
-        out += ["# %s." % (says[:1].upper() + says[1:]), ""]
-        for file, name, target, first, second in sweeps:
-            if name not in cases_of(file):
-                sys.exit("%s.cases has no case %r" % (file, name))
+@BOOK.part()
+def sweeps():
+    for says, group in SWEEPS:
+        BOOK.say(says[:1].upper() + says[1:] + ".")
+        for file, name, target, first, second in group:
             lines = without_comments_after(cases_of(file)[name])
             first = pieces_of(lines) + 1 if first is LINES else first
-            runs += first + 1 + (second if target == "folder" else 0)
-            out += ["case %s.cases: %s" % (file, name), "sweep %s %d %d" % (target, first, second)] + lines + [""]
-    return out[:-1], runs
-
-
-def main():
-    path = os.path.join(DATA, "sweeps.cases")
-    lines, runs = made()
-    text = "".join(line + "\n" for line in lines)
-    before = None
-    if os.path.exists(path):
-        with open(path, encoding="utf-8") as file:
-            before = file.read()
-    says = "sweeps.cases: %d cases of %d runs" % (text.count("\nsweep "), runs)
-    if "--check" in sys.argv[1:]:
-        print(says + ("" if before == text else ", and the file has others"))
-        sys.exit(0 if before == text else 1)
-    with open(path, "w", encoding="utf-8") as file:
-        file.write(text)
-    print(says)
-
-
-if __name__ == "__main__":
-    main()
+            BOOK.lines += ["case %s.cases: %s" % (file, name),
+                           "sweep %s %d %d" % (target, first, second)] + lines + [""]

@@ -1,7 +1,6 @@
 """The cases of 'TMPL' resources, and templates that many of them have. tmpl_cases.py writes them."""
 import re
 
-import top  # noqa: F401
 from casefile import Book
 from model import shown
 from model.faults import Refused
@@ -11,6 +10,7 @@ from model.templates import types_of
 
 BOOK = Book("tmpl.cases", "Types from 'TMPL' resources: `rez` and `derez` with -tmpl.",
             "Written by tools/cases/tmpl_cases.py, each message and what is shown by hand, the texts by tools/model/shown.py and tools/model/templates.py.")
+case = BOOK.case
 STRINGS = bytes.fromhex("05436F756E74 4F434E54 012A 4C535443 0454657874 50535452 012A 4C535445")
 TWO_STRINGS = bytes.fromhex("0002 0141 024243")
 LIST = "OCNT LSTC DBYT LSTE"
@@ -40,10 +40,6 @@ def fork_of(kind, contents):
 
 def message(number, ident, place):
     return "rezkit: error %s\n" % Refused(number, ident, place)
-
-
-def case(name, words, files, *rest, **more):
-    BOOK.case(name, words, files, *rest, **more)
 
 
 def told_by_model(file):
@@ -91,7 +87,7 @@ def faulty(name, codes, number, place):
     """A case of a template that is refused with the place of an entry: in turn by `derez` and by `rez`."""
     templates, says = file_of(("Test", codes)), message(number, 128, place)
     assert told_by_model(templates) == says, (name, told_by_model(templates))
-    if BOOK.count % 2:
+    if len(BOOK.names) % 2:
         refuse(name, templates, says)
     else:
         refuse(name, templates, says, "rez s.r -tmpl t -o o", [("s.r", ";\n")])

@@ -1,22 +1,16 @@
-#!/usr/bin/env python3
 """Writes tmpl.cases: `rez` and `derez` under the templates of a file, `-tmpl`.
-
-    python3 tools/cases/tmpl_cases.py [--check]
 
 Templates stand here as lists of codes. Of each fork stands by hand which of its resources are shown by their fields,
 and the texts are those of tools/model/shown.py, which has the declarations from tools/model/templates.py, a second
 reading of what a template is. Each such text is compiled again under the same templates. What `rez` makes of items
-stands by hand too, and so does each message; tools/model/templates.py has to come to the same refusals. With --check
-nothing is written, and the status is 1 where the file would change.
+stands by hand too, and so does each message; tools/model/templates.py has to come to the same refusals.
 """
 import itertools
-import sys
 
-import top  # noqa: F401
 from model import shown
 from tmpl_book import (BOOK, BROKEN, LIST, STRINGS, TWO_STRINGS, case, compiles, entries, faulty, fields, file_of, fork_of, message, passed_over,
                        refuse, refuse_source, show, told_by_model)
-from tmpl_fields import aligns, deep, each_alone, examples, lists, to_the_end, unknown
+import tmpl_fields  # noqa: F401
 from model.faults import Refused
 from model.fork import image
 from model.forms import File, double, hqx, macbin, single, written
@@ -64,8 +58,8 @@ TOGETHER = [
 ]
 
 
+@BOOK.part("What is refused, each alone.")
 def refusals():
-    BOOK.say("What is refused, each alone.")
     for name, (codes, number, place) in FAULTS.items():
         faulty(name, codes, number, place)
     BOOK.say("Several at one entry: the least number counts. And some that look like others.")
@@ -85,8 +79,8 @@ SHORT = {451: b"\xFF", 452: entries("BOOL"), 453: entries("LSTE"), 454: entries(
 PLACE = {451: 0, 452: 0, 453: 0, 454: 0, 455: 5, 456: 300}
 
 
+@BOOK.part("Each behind each other, in one template, and in two: the first that is refused is told.")
 def one_behind_another():
-    BOOK.say("Each behind each other, in one template, and in two: the first that is refused is told.")
     for (one, first), (other, second) in itertools.product(SHORT.items(), SHORT.items()):
         if one == 451:
             continue
@@ -108,8 +102,8 @@ def one_behind_another():
     refuse("a negative id", image([(b"TMPL", -5, b"STR#", 0, STRINGS[:25])]), "rezkit: error 453 ListUnbalanced: -5 25\n")
 
 
+@BOOK.part("Names of four bytes alone are those of types. Other templates are passed over, also if they are broken.")
 def names():
-    BOOK.say("Names of four bytes alone are those of types. Other templates are passed over, also if they are broken.")
     for name in ["", "T", "Tes", "Tests", "Test ", " Test", "T" * 255]:
         blank = " and begins with a blank" * (name[:1] == " ") + " and ends with one" * (name[-1:] == " ")
         for what, codes in [("a template", "HBYT"), ("a broken template", BROKEN)]:
@@ -147,8 +141,8 @@ def names():
     case("the templates of the file itself", "derez f -tmpl f", [("f", templates)], out=shown.derez(["f", "-tmpl", "f"], {"f": templates}))
 
 
+@BOOK.part("The file of templates in each form, which its first bytes tell; -from speaks of the fork alone.")
 def files():
-    BOOK.say("The file of templates in each form, which its first bytes tell; -from speaks of the fork alone.")
     templates, fork = image([(b"TMPL", 128, b"STR#", 0, STRINGS)]), fork_of("STR#", [TWO_STRINGS])
     file = File(name=b"Templates", kind=b"rsrc", creator=b"RSED", data=b"its data fork", res=templates)
     for form in ("double", "single", "macbin", "hqx"):
@@ -191,6 +185,7 @@ def run(name, words, files, says, status=2, **more):
     case(name, words, [(file, data) for file, data in files.items()], gone=gone, status=status, err=says, **more)
 
 
+@BOOK.part()
 def order():
     """What comes first in both commands."""
     bad, good, fork = file_of(("Test", BROKEN)), file_of(("Test", "HBYT")), fork_of("Test", ["01"])
@@ -216,6 +211,7 @@ def order():
         run("%s: a file of templates isn't looked for after paths" % what, command + " -i p", {file: ";\n", "f": fork, "p/t": good}, missing)
 
 
+@BOOK.part()
 def order_of_one():
     """What comes first in one of the commands."""
     bad, good, fork = file_of(("Test", BROKEN)), file_of(("Test", "HBYT")), fork_of("Test", ["01"])
@@ -239,6 +235,7 @@ def order_of_one():
     run("rez: a broken template, and a name that MacBinary can't have", "rez s.r -form macbin -tmpl t -o " + "n" * 64, {"s.r": ";\n", "t": bad}, told)
 
 
+@BOOK.part()
 def written_and_words():
     """Files that are templates and something else, and where the option stands."""
     good, fork = file_of(("Test", "HBYT")), fork_of("Test", ["01"])
@@ -266,6 +263,7 @@ def written_and_words():
          out=shown.derez(["f", "-tmpl", "-t"], {"f": fork, "-t": good}))
 
 
+@BOOK.part()
 def types():
     """`type` statements beside templates."""
     templates, fork = file_of(("Test", "HBYT"), ("More", LIST)), fork_of("Test", ["01", "0002"])
@@ -314,9 +312,9 @@ def types():
          "derez f -only More -only None -skip None -tmpl t", again=False)
 
 
+@BOOK.part("Templates like those that come with ResEdit and with applications.")
 def of_resedit():
     """Templates as they come with applications, and resources of each."""
-    BOOK.say("Templates like those that come with ResEdit and with applications.")
     for kind, codes, contents, fields in [
             ("STR ", "The_String:PSTR Data:HEXD", ["0548656C6C6F", "0141 00FF"], [128, 129]),
             ("MBAR", "#_of_menus:OCNT *****:LSTC Menu_res_ID:DWRD *****:LSTE", ["0003 0080 0081 0082", "0000"], [128, 129]),
@@ -333,23 +331,3 @@ def of_resedit():
              ["00000000 0000 0000 0000 FFFF FFFF FFFF"], [128]),
         ]:
         show("'%s' of labels" % kind, file_of((kind, codes)), fork_of(kind, contents), fields)
-
-
-if __name__ == "__main__":
-    examples()
-    each_alone()
-    aligns()
-    lists()
-    deep()
-    to_the_end()
-    unknown()
-    refusals()
-    one_behind_another()
-    names()
-    files()
-    order()
-    order_of_one()
-    written_and_words()
-    types()
-    of_resedit()
-    sys.exit(0 if BOOK.finish() else 1)

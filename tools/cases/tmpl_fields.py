@@ -1,15 +1,14 @@
 """The cases of 'TMPL' resources that are about single codes and lists. tmpl_cases.py writes them."""
 import re
 
-import top  # noqa: F401
 from tmpl_book import BOOK, LIST, STRINGS, TWO_STRINGS, case, compiles, entries, faulty, fields, file_of, fork_of, passed_over, refuse_source, show
 from model.case_lines import spelled
 from model.fork import image
 from model.templates import FIELDS
 
 
+@BOOK.part("Strings behind their number.")
 def examples():
-    BOOK.say("Strings behind their number.")
     templates, fork = image([(b"TMPL", 128, b"STR#", 0, STRINGS)]), fork_of("STR#", [TWO_STRINGS])
     assert entries("Count:OCNT *:LSTC Text:PSTR *:LSTE") == STRINGS
     show("strings behind their number", templates, fork, [128])
@@ -52,6 +51,7 @@ ONES = {
 }
 
 
+@BOOK.part()
 def each_alone():
     assert list(ONES) != [] and set(ONES) == set(FIELDS)
     for code, (fields, others, items, outside) in ONES.items():
@@ -88,8 +88,8 @@ def behind(code, fields):
     return [b"\1" + fill + (bytes.fromhex(each) if isinstance(each, str) else each) for each in fields]
 
 
+@BOOK.part("Aligns go to the next multiple of 2 or 4 bytes from the start of the resource, by zeros.")
 def aligns():
-    BOOK.say("Aligns go to the next multiple of 2 or 4 bytes from the start of the resource, by zeros.")
     fields("an align of words behind strings", "PSTR AWRD HBYT", ["0141 AA", "00 00 AA", "024142 00 AA", "00AA", "0001AA"], [128, 129, 130])
     fields("an align of longs behind strings", "PSTR ALNG HBYT", ["03414243 AA", "024142 00 AA", "0141 0000 AA", "00 000000 AA",
                                                                   "0441424344 000000 AA", "00 000001 AA"], [128, 129, 130, 131, 132])
@@ -98,8 +98,8 @@ def aligns():
     fields("a fill of each size", "FBYT HBYT FWRD HBYT FLNG", ["00 01 0000 02 00000000", "00 01 0000 02 00000001"], [128])
 
 
+@BOOK.part("Lists with a number of rows, and that number less one.")
 def lists():
-    BOOK.say("Lists with a number of rows, and that number less one.")
     for code, none, one, two in [("OCNT", "0000", "0001", "0002"), ("ZCNT", "FFFF", "0000", "0001")]:
         templates = file_of(("Test", code + " LSTC DBYT LSTE"))
         show("%s and rows of a byte" % code, templates, fork_of("Test", [none, one + "05", two + "0506", two + "05", one + "0506", "7F"]),
@@ -150,8 +150,8 @@ def large(name, code, rows, stored):
     case(name, "derez f -tmpl t", [("f", stated), ("t", templates)], out=text)
 
 
+@BOOK.part("Lists in lists. A count is that of the next counted list of the same list, whatever stands between.")
 def deep():
-    BOOK.say("Lists in lists. A count is that of the next counted list of the same list, whatever stands between.")
     fields("a list in each row", "OCNT LSTC HBYT OCNT LSTC HBYT LSTE LSTE", ["0000", "0001 05 0000", "0002 05 0001 06 07 0002 08 09", "0001 05 0001"],
            [128, 129, 130])
     fields("two lists behind two numbers", "OCNT LSTC HBYT LSTE ZCNT LSTC HWRD LSTE HBYT",
@@ -200,8 +200,8 @@ ENDS = [
 ]
 
 
+@BOOK.part("What may stand behind a string to the end, and behind a list without a number.")
 def to_the_end():
-    BOOK.say("What may stand behind a string to the end, and behind a list without a number.")
     for name, codes, content, can in ENDS:
         for what, first in [("HEXD", "HEXD"), ("LSTB", "LSTB CHAR LSTE")]:
             fields("%s before %s" % (what, name), "%s %s" % (first, codes), ["4142" + content, content], [128, 129] if can else [])
@@ -219,8 +219,8 @@ def to_the_end():
            ["0141 0000 0001 4142 00 00 AABB 05", "03414243 0000 05", "03414243 0001 4100 AA"], [128, 129, 130])
 
 
+@BOOK.part("A template with another code is passed over, also if it is broken behind that.")
 def unknown():
-    BOOK.say("A template with another code is passed over, also if it is broken behind that.")
     for code in ["BOOL", "BBIT", "LSTZ", "LSTR", "WSTR", "ESTR", "OSTR", "ECST", "OCST", "H008", "C010", "P020", "DATE", "dbyt", "DByt", "DBY_",
                  "_DBY", "____", "LSTD", "OCN1"]:
         passed_over("the code %s" % code, "HBYT " + code)

@@ -2,7 +2,6 @@
 import os
 import re
 
-import top  # noqa: F401
 from casefile import Book
 from top import TOP
 from model.fork import image, spelled

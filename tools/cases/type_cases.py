@@ -1,7 +1,4 @@
-#!/usr/bin/env python3
 """Writes standard_types.cases: resources of each type of types/Types.r and of types/Texts.r, by hand.
-
-    python3 tools/cases/type_cases.py [--check]
 
 For each resource below stand its items and its bytes, both written by hand: the bytes by the layouts in Inside
 Macintosh, never by the program. Of each two cases are made: `derez` shows the items, and `rez` makes the bytes of
@@ -13,16 +10,13 @@ the status is 1 where the file would change, or if a type of the two files has n
 Items stand as derez shows them, but for the layout: several on a line with `; ` between them, no commas and no blanks
 in front, and a string of hexadecimal digits as `$` and pieces, as fork.py spells bytes.
 """
-import sys
-
-import top  # noqa: F401
 from type_book import BEFORE, BOOK, EITHER, STANDARD, TEXTS, one
 from type_texts import padded, translated
 from model.fork import image, spelled
 
 
+@BOOK.part("Texts.")
 def texts():
-    BOOK.say("Texts.")
     one("STR ", '"A text."', '07 "A text."')
     one("STR#", '{\n"one"; ""; "three"\n}', '0003 03 "one" 00 05 "three"')
     one("TEXT", '"No length."', '"No length."')
@@ -30,8 +24,8 @@ def texts():
         "0002 00000000 0010 000C 0003 01 00 000C FFFF 0000 0000 00000005 0010 000C 0003 03 00 000C 0000 0000 0001")
 
 
+@BOOK.part("Menus.")
 def menus():
-    BOOK.say("Menus.")
     one("MENU", """
         129; textMenuProc; 0x7FFFFFFD; enabled; "File"
         {
@@ -51,8 +45,8 @@ def menus():
         "0000 0002 0001 00000010 02 00 00000000 FFFFFFFE 00000007 00000000 0000 0000 0000 0000")
 
 
+@BOOK.part("Windows.")
 def windows():
-    BOOK.say("Windows.")
     page = '{50, 40, 250, 400}; zoomDocProc; visible; goAway; 0x00000005; "Page"'
     bytes_ = '0032 0028 00FA 0190 0008 0100 0100 00000005 04 "Page"'
     one("WIND", page + "; staggerMainScreen", bytes_ + " 00 380A")
@@ -64,8 +58,8 @@ def windows():
         "00000000 0000 0001 0000 FFFF FFFF FFFF 0004 0000 0000 8000")
 
 
+@BOOK.part("Dialogs and alerts.")
 def dialogs():
-    BOOK.say("Dialogs and alerts.")
     ask = '{50, 40, 250, 400}; dBoxProc; invisible; noGoAway; 0x00000000; 128; "Ask"'
     bytes_ = '0032 0028 00FA 0190 0001 0000 0000 00000000 0080 03 "Ask"'
     one("DLOG", ask + "; centerMainScreen", bytes_ + " 280A")
@@ -108,8 +102,8 @@ def items():
         128, "with padding that isn't zero", EITHER)
 
 
+@BOOK.part("Controls.")
 def controls():
-    BOOK.say("Controls.")
     one("CNTL", '{0, 0, 20, 100}; 1; visible; 1; 0; checkBoxProc; 0; "Save"',
         '0000 0000 0014 0064 0001 0100 0001 0000 0001 00000000 04 "Save"')
     one("CNTL", '{90, 18, 109, 198}; 255; invisible; 50; 140; 1009; -1; "Speed:"',
@@ -120,8 +114,8 @@ def controls():
         "0000 0000 0001 0010 0000 0100 0000 0000 0100")
 
 
+@BOOK.part("Icons.")
 def icons():
-    BOOK.say("Icons.")
     box, mask = "FFFFFFFF 80000001*30 FFFFFFFF", "FFFFFFFF*32"
     one("ICON", "$" + box, box)
     one("ICN#", "{\n$%s\n$%s\n}" % (box, mask), box + " " + mask)
@@ -143,8 +137,8 @@ def icons():
         FF00 FF00 AA00 5500 00000000 0000 0001 0000 FFFF*3 0001 0000*3 AA00 5500""")
 
 
+@BOOK.part("Cursors, patterns and pictures.")
 def pictures():
-    BOOK.say("Cursors, patterns and pictures.")
     arrow, mask = "8000 C000 E000 F0", "C000 E000 F000 F8"  # zeros at the end of a string with a size aren't shown
     zeros = " 00*25 "
     one("CURS", "$%s\n$%s\n{1, 1}" % (arrow, mask), arrow + zeros + mask + zeros + "0001 0001")
@@ -172,8 +166,8 @@ def pictures():
         "0002 0000*7 FFFF*3 0002 0000 0000*3 0000*3 000A 1388 0000*3")
 
 
+@BOOK.part("Fonts and sounds.")
 def fonts():
-    BOOK.say("Fonts and sounds.")
     letter = "9000 0041 0041 0004 0000 FFFF 0004 0002 000A 0001 0001 0000 0001 E000 A000 0000 0003 0006 0004 FFFF FFFF"
     text = """propFont; 65; 65; 4; 0; -1; 4; 2; 1; 1; 0; 1\n$E000 A0\n{\n0; 3; 6\n}\n{\n0; 4; -1; -1; -1; -1\n}"""
     one("NFNT", text, letter)
@@ -188,8 +182,8 @@ def fonts():
         "0002 0000 0002 8050 0000 00000016 0028 01F4 FFFFFFFF " + wave, 129, "the second form")
 
 
+@BOOK.part("What the Finder reads.")
 def finder():
-    BOOK.say("What the Finder reads.")
     one("BNDL", "'Samp'; 0\n{\n'ICN#'\n{\n0; 128; 1; 129\n}\n'FREF'\n{\n0; 128\n}\n}",
         '"Samp" 0000 0001 "ICN#" 0001 0000 0080 0001 0081 "FREF" 0000 0000 0080')
     one("FREF", "'APPL'; 0; \"\"", '"APPL" 0000 00')
@@ -199,8 +193,8 @@ def finder():
     one("mst#", '{\n"Load"; "Get"\n}', '0002 04 "Load" 03 "Get"', 103)
 
 
+@BOOK.part("What the system does for a file.")
 def system():
-    BOOK.say("What the system does for a file.")
     one("SIZE", """reserved; acceptSuspendResumeEvents; reserved; canBackground; doesActivateOnFGSwitch
         backgroundAndForeground; dontGetFrontClicks; ignoreAppDiedEvents; is32BitCompatible; isHighLevelEventAware
         localAndRemoteHLEvents; notStationeryAware; dontUseTextEditServices; reserved; reserved; reserved
@@ -233,8 +227,8 @@ def system():
             '00000000*2 00000001 00000000*4 00000001 "pwpc" 00000000*4 0000 01 01 00000000*4 0030 03 "App" 0000'))]))])
 
 
+@BOOK.part("Words of scripts.")
 def words():
-    BOOK.say("Words of scripts.")
     reserved = "reserved; " * 8
     one("aete", """0x01; 0x00; english; roman\n{\n"Test"; "Some"; 'tsui'; 1; 1
         {\n"open"; "Open"; 'aevt'; 'odoc'; noReply; ""; replyOptional; singleItem; notEnumerated; notTightBindingFunction
@@ -259,8 +253,8 @@ def words():
     one("aeut", "0x01; 0x00; japanese; japanese\n{\n}", "01 00 000B 0001 0000", 0)
 
 
+@BOOK.part("Balloon help.")
 def helps():
-    BOOK.say("Balloon help.")
     one("hwin", "HelpMgrVersion; hmDefaultOptions\n{\n128; 'hdlg'; 8; \"Untitled\"\n129; 'hrct'; -8; \"\"\n}",
         '0002 00000000 0002 0080 "hdlg" 0008 08 "Untitled" 00 0081 "hrct" FFF8 00 00')
     one("hrct", """HelpMgrVersion; hmMatchInTitle; 0; 1\n{
@@ -282,8 +276,8 @@ def helps():
         0006 0002 0080 0008 0003 0081 0002 0006 0006 0082 0004 0100""", -5696, "of each part")
 
 
+@BOOK.part("What tools keep.")
 def tools():
-    BOOK.say("What tools keep.")
     one("DRVW", """dontNeedLock; needTime; dontNeedGoodbye; noStatusEnable; ctlEnable; noWriteEnable; noReadEnable
         300; updateMask; 0; "Memory"\n$4E75""",
         '2400 012C 0040 0000 0032 0036 003A 003E 0042 06 "Memory" 00*25 4E75', 12)
@@ -302,8 +296,8 @@ def compiled(name, heads, source, resource):
     BOOK.case("compiled: " + name, "rez t.r s.r -o x", [("t.r", types), ("s.r", source)], leaves=[("x", fork)])
 
 
+@BOOK.part("As sources write them.")
 def as_sources_write():
-    BOOK.say("As sources write them.")
     compiled("xmnu, as a source writes it", ["'xmnu'"], """resource 'xmnu' (128, "File", purgeable) {
     versionZero {
         {   /* array ItemExtensions: 3 elements */
@@ -336,11 +330,9 @@ def as_sources_write():
 """, ("hfdr", -5696, b"icon help", 0x20, "0002 00000000 0000 0000 0001 0008 0003 E9C0 0001"))
 
 
-if __name__ == "__main__":
-    for section in (texts, menus, windows, dialogs, controls, icons, pictures, fonts, finder, system, words, helps, tools,
-                    as_sources_write, translated, padded):
-        section()
+@BOOK.part()
+def wholes():
+    translated()
+    padded()
     missing = ["%s of %s" % (head, of.name) for of in (STANDARD, TEXTS) for head in of.types if head not in of.used]
-    if missing:
-        print("no resource of " + ", ".join(missing))
-    sys.exit(0 if BOOK.finish() and not missing else 1)
+    assert not missing, "no resource of " + ", ".join(missing)

@@ -1,5 +1,4 @@
 """The cases of the texts of standard types. type_cases.py writes them."""
-import top  # noqa: F401
 from type_book import BOOK, EITHER, STANDARD, TEXTS, one, shown
 from model.fork import image, spelled
 

@@ -48,7 +48,8 @@ def checks(program):
     for name in ("tour", "epoch", "edge", "editors", "first_answer", "wrong_programs", "installed"):
         found.append(("tools/check/%s.py" % name, ["tools/check/%s.py" % name, program], program))
     scripts = sorted(glob.glob("tools/cases/*_cases.py"))
-    found += [(script, [script, "--check"], None) for script in scripts if "--check" in text_of(script)]
+    found += [(script, ["tools/cases/make.py", "--check", os.path.basename(script)[:-len("_cases.py")]], None)
+              for script in scripts]
     found.append(("tools/cases/fork_bytes.py", ["tools/cases/fork_bytes.py", "--check", *sorted(cases)], None))
     for script in ("tools/calls.py", "tools/laws.py", "tools/help.py", "tools/check/wrong_bodies.py"):
         found.append((script, [script, "--check"], None))
@@ -58,11 +59,6 @@ def checks(program):
     for file in sorted(glob.glob("workbench/tests/test_*.py")):
         found.append((file, [*PYTEST, file], program))
     return sorted(found, key=lambda check: check[0] not in LONGEST)
-
-
-def text_of(path):
-    with open(path, encoding="utf-8") as file:
-        return file.read()
 
 
 def outcome(check):

@@ -11,15 +11,16 @@ checks run it.
 """
 import os
 import resource
-import shutil
 import subprocess
 import sys
 import tempfile
 
 import top  # noqa: F401
+from files import found_in, write_all
+from looks import Looks
 from model.fork import image
 from model.forms import File, double, macbin
-from running import program_to_run
+from running import program_of
 
 ONE = image([(b"Test", 128, b"", 0, bytes.fromhex("0102"))])
 SOURCE = b"data 'Test' (128) { $\"0102\" };\n"
@@ -34,72 +35,38 @@ def missing(name, mark=""):
     return 'rezkit: %serror 101 MissingFile: "%s"\n' % (mark, name)
 
 
-class Edge:
+class Edge(Looks):
     """A program, and how many of its runs came out otherwise."""
 
     def __init__(self, program):
-        self.program, self.count, self.wrong = program, 0, 0
+        super().__init__()
+        self.program = program
 
     def run(self, says, words, files, status=0, err="", out=b"", leaves=(), gone=(), limit=None, ignored=False, links=()):
         """A run over these files (None: a folder), which may write files of `limit` bytes at most; `ignored`: the signal of
         a longer one is ignored. It has to leave these files, and no others but those that were there."""
-        folder = tempfile.mkdtemp(prefix="rezkit-edge-")
-        try:
-            before = dict(files)
-            for name, data in before.items():
-                path = os.path.join(folder, name)
-                if data is None:
-                    os.makedirs(path)
-                else:
-                    with open(path, "wb") as file:
-                        file.write(data)
+        with tempfile.TemporaryDirectory(prefix="rezkit-edge-") as folder, tempfile.TemporaryFile() as stream:
+            write_all(folder, files)
             for name, target in links:
                 os.symlink(target, os.path.join(folder, name))
 
             def limited():
                 if limit is not None:
                     resource.setrlimit(resource.RLIMIT_FSIZE, (limit, limit))
-            with open(os.path.join(folder, "..", os.path.basename(folder) + ".out"), "wb+") as stream:
-                os.unlink(stream.name)
-                ran = subprocess.run([self.program, *words], cwd=folder, stdin=subprocess.DEVNULL, stdout=stream,
-                                     stderr=subprocess.PIPE, preexec_fn=limited, restore_signals=not ignored)
-                stream.seek(0)
-                came_out = stream.read()
-            wanted = {name: data for name, data in before.items() if name not in gone}
-            wanted.update(leaves)
-            self.tell(says, (status, err, out, wanted),
-                      (ran.returncode, ran.stderr.decode("utf-8", "replace"), came_out, found(folder, [name for name, _ in links])))
-        finally:
-            shutil.rmtree(folder)
-
-    def tell(self, says, wanted, came):
-        self.count += 1
-        for what, one, other in zip(("the status", "err", "out"), wanted, came):
-            if one != other:
-                self.wrong += 1
-                print("%s: %s\n  wanted: %.400r\n  came:   %.400r" % (says, what, one, other))
-        for name in sorted({*wanted[3], *came[3]}):
-            one, other = (files[3].get(name, "no file") for files in (wanted, came))
-            if one != other:
-                self.wrong += 1
-                print("%s: the file %.80r\n  wanted: %.200r\n  came:   %.200r" % (says, name, one, other))
-
-
-def found(folder, links):
-    """What stands in a folder, but for links: the bytes of files, and None for folders."""
-    files = {}
-    for path, folders, names in os.walk(folder):
-        for name in folders + names:
-            one = os.path.join(path, name)
-            short = os.path.relpath(one, folder)
-            if short in links:
-                continue
-            if os.path.isdir(one):
-                files[short] = None
-            else:
-                with open(one, "rb") as file:
-                    files[short] = file.read()
-    return files
+            ran = subprocess.run([self.program, *words], cwd=folder, stdin=subprocess.DEVNULL, stdout=stream,
+                                 stderr=subprocess.PIPE, preexec_fn=limited, restore_signals=not ignored)
+            stream.seek(0)
+            self.count += 1
+            for what, wanted, came in (("the status", status, ran.returncode), ("out", out, stream.read()),
+                                       ("err", err, ran.stderr.decode("utf-8", "replace"))):
+                if wanted != came:
+                    self.differs("%s: %s" % (says, what), wanted, came)
+            wanted = {**{name: data for name, data in files.items() if name not in gone}, **dict(leaves)}
+            came = {name: data for name, data in found_in(folder).items() if name not in dict(links)}
+            for name in sorted({*wanted, *came}):
+                if wanted.get(name, "no file") != came.get(name, "no file"):
+                    self.differs("%s: the file %.80r" % (says, name), wanted.get(name, "no file"),
+                                 came.get(name, "no file"))
 
 
 def words(edge):
@@ -167,13 +134,12 @@ def limits(edge):
 
 
 def main():
-    edge = Edge(os.path.abspath(sys.argv[1] if len(sys.argv) > 1 else program_to_run()))
+    edge = Edge(program_of(sys.argv[1:]))
     words(edge)
     places(edge)
     leftovers(edge)
     limits(edge)
-    print("%d runs, %d differences" % (edge.count, edge.wrong))
-    sys.exit(1 if edge.wrong else 0)
+    edge.end("runs")
 
 
 if __name__ == "__main__":

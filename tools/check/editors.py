@@ -19,6 +19,7 @@ import sys
 import tempfile
 
 from top import TOP
+from files import text_of, write, write_all
 
 VIM = os.path.join(TOP, "editors", "vim")
 GRAMMAR = os.path.join(TOP, "editors", "vscode", "syntaxes", "rez.tmLanguage.json")
@@ -54,19 +55,16 @@ def table_words():
     words, functions = set(), set()
     folder = os.path.join(TOP, "crates", "rz_words", "src")
     for name in sorted(os.listdir(folder)):
-        with open(os.path.join(folder, name), encoding="utf-8") as file:
-            text = file.read()
+        text = text_of(folder, name)
         words |= set(re.findall(r'=> b"([a-z]+)"', text)) | set(re.findall(r'\bis\(b"([a-z]+)"', text))
         functions |= {word.lower() for word in re.findall(r'\bis\(b"([A-Z]\w+)"', text)}
-    with open(os.path.join(TOP, "crates", "rz_pre_source", "src", "directive.rt"), encoding="utf-8") as file:
-        directives = set(re.findall(r'eq_ignore_ascii_case\(b"(\w+)"\)', file.read()))
-    return words, functions, directives
+    directive = text_of(TOP, "crates", "rz_pre_source", "src", "directive.rt")
+    return words, functions, set(re.findall(r'eq_ignore_ascii_case\(b"(\w+)"\)', directive))
 
 
 def vim_words():
     """The same of the Vim syntax."""
-    with open(os.path.join(VIM, "syntax", "rez.vim"), encoding="utf-8") as file:
-        text = file.read()
+    text = text_of(VIM, "syntax", "rez.vim")
     words = {word for line in re.findall(r"(?m)^syn keyword rez(?!Todo)\w+ (.*)$", text) for word in line.split()}
     functions = {word.lower() for group in re.findall(r"rezFunction \"\\\$\\\$\\%\((.*?)\\\)", text) for word in group.split("\\|")}
     directives = {word for group in re.findall(r'"\^\\s\*#\\s\*(?:\\%\()?([a-z\\|]+?)(?:\\\))?\\>"', text) for word in group.split("\\|")}
@@ -136,8 +134,7 @@ def wrong_scopes(grammar):
     """Lines about places that the grammar names otherwise."""
     lines = []
     for name, line, text, _, wanted in PLACES:
-        with open(os.path.join(TOP, "examples", name), encoding="ascii") as file:
-            source = file.read()
+        source = text_of(TOP, "examples", name)
         column = source.split("\n")[line - 1].find(text)
         came = scopes(grammar, source)[line - 1][column]
         if column < 0 or came != wanted:
@@ -148,13 +145,11 @@ def wrong_scopes(grammar):
 def vim(commands, folder):
     """What Vim writes into the file `out` of a folder by these commands, without a window."""
     script = os.path.join(folder, "script.vim")
-    with open(script, "w", encoding="utf-8") as file:
-        file.write("\n".join(["set nocompatible nomore", "filetype plugin on", "syntax on", *commands, "qall!"]) + "\n")
+    write(script, "\n".join(["set nocompatible nomore", "filetype plugin on", "syntax on", *commands, "qall!"]) + "\n")
     words = ["vim", "-u", "NONE", "-i", "NONE", "-n", "-es", "--cmd", "set rtp^=%s" % VIM.replace(" ", "\\ "), "-S", script]
     subprocess.run(words, cwd=folder, stdin=subprocess.DEVNULL, stdout=subprocess.DEVNULL, stderr=subprocess.DEVNULL, timeout=60)
     try:
-        with open(os.path.join(folder, "out"), encoding="utf-8") as file:
-            return file.read().split("\n")[:-1]
+        return text_of(folder, "out").split("\n")[:-1]
     except FileNotFoundError:
         return []
 
@@ -168,8 +163,7 @@ def wrong_colours(folder):
         commands += ["edit examples/%s" % name, "call synID(%d, 1, 1)" % (2 if line == 1 else 1), "call cursor(%d, 1)" % line,
                      "let at = stridx(getline('.'), '%s')" % text.replace("'", "''"),
                      "call add(out, &filetype .. ' ' .. at .. ' ' .. synIDattr(synID(%d, at + 1, 1), 'name'))" % line]
-        with open(os.path.join(TOP, "examples", name), encoding="ascii") as file:
-            wanted.append("rez %d %s" % (file.read().split("\n")[line - 1].find(text), group))
+        wanted.append("rez %d %s" % (text_of(TOP, "examples", name).split("\n")[line - 1].find(text), group))
     found = vim(commands + ["call writefile(out, 'out')"], folder)
     if len(found) != len(wanted):
         return ["vim wrote %d lines, and not %d: %s" % (len(found), len(wanted), found[:3])]
@@ -181,8 +175,7 @@ def wrong_kinds(folder):
     lines = []
     for text, wanted in (("# R\ndata(cars)\ntype <- 'a'\nread.csv('b')\n", "r"), ("/* c */\n\n\tResource 'STR ' (1) {\n", "rez"),
                          ("#  include <Types.r>\n", "rez"), ("Include \"a.rsrc\";\n", "rez"), ("/* Rexx */\nsay 'data'\n", "rexx")):
-        with open(os.path.join(folder, "kind.r"), "w", encoding="ascii") as file:
-            file.write(text)
+        write(os.path.join(folder, "kind.r"), text)
         came = vim(["edit kind.r", "call writefile([&filetype], 'out')"], folder)
         if came != [wanted]:
             lines.append("vim takes %r for %s, and not for %s" % (text, came, wanted))
@@ -191,12 +184,9 @@ def wrong_kinds(folder):
 
 def wrong_jumps(folder, program):
     """Lines about `:make` in Vim, where it doesn't go to the line of the error."""
-    with open(os.path.join(folder, "a.r"), "w", encoding="ascii") as file:
-        file.write("#include \"b.r\"\ndata 'TEXT' (1) { \"x\" };\n")
-    with open(os.path.join(folder, "b.r"), "w", encoding="ascii") as file:
-        file.write("data 'TEXT' (2) { \"x\" };\n\ndata 'TEXT' (99999) { \"x\" };\n")
-    with open(os.path.join(folder, "Makefile"), "w", encoding="ascii") as file:
-        file.write("a.rsrc: a.r\n\t'%s' rez a.r -o a.rsrc\n" % program)
+    write_all(folder, {"a.r": "#include \"b.r\"\ndata 'TEXT' (1) { \"x\" };\n",
+                       "b.r": "data 'TEXT' (2) { \"x\" };\n\ndata 'TEXT' (99999) { \"x\" };\n",
+                       "Makefile": "a.rsrc: a.r\n\t'%s' rez a.r -o a.rsrc\n" % program})
     tell = "call writefile([expand('%:t') .. ' ' .. line('.') .. ' ' .. getqflist()[-1].nr .. ' ' .. getqflist()[-1].text], 'out')"
     lines = []
     quoted = program.replace("'", "'\\''")
@@ -213,11 +203,9 @@ def wrong_jumps(folder, program):
 
 def main():
     program = os.path.abspath(sys.argv[1] if len(sys.argv) > 1 else os.path.join(TOP, "crates", "rezkit", "out", "rezkit"))
-    with open(GRAMMAR, encoding="utf-8") as file:
-        grammar = json.load(file)
+    grammar = json.loads(text_of(GRAMMAR))
     for name in ("package.json", "language-configuration.json"):
-        with open(os.path.join(TOP, "editors", "vscode", name), encoding="utf-8") as file:
-            json.load(file)
+        json.loads(text_of(TOP, "editors", "vscode", name))
     lines, not_tried = missing_words(grammar) + wrong_scopes(grammar), []
     with tempfile.TemporaryDirectory(prefix="rezkit-editors-") as folder:
         if not shutil.which("vim"):

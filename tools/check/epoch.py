@@ -15,7 +15,9 @@ import sys
 import tempfile
 
 import top  # noqa: F401
-from running import program_to_run
+from files import bytes_of, write, write_all
+from looks import Looks
+from running import program_of
 
 NAME = "SOURCE_DATE_EPOCH"
 SOURCE = b"data 'Date' (128) { $$Date $$Time };\n"
@@ -34,60 +36,48 @@ REFUSED = [b"2208988800", b"4294967296", b"18446744073709551616", b"-1", b"+1", 
 
 def run(program, folder, value, *args):
     """Runs the program in the folder with this value, or without one. Gives its status, and what it wrote and said."""
-    environment = {name: told for name, told in os.environb.items() if name != NAME.encode()}
-    if value is not None:
-        environment[NAME.encode()] = value
+    environment = {**os.environb, NAME.encode(): value}
+    if value is None:
+        del environment[NAME.encode()]
     ran = subprocess.run([program, *args], cwd=folder, env=environment, capture_output=True)
     return ran.returncode, ran.stdout, ran.stderr
 
 
 def written(program, folder, value, *options):
-    """The bytes of the file that rez writes of SOURCE, or None, and its status, what it wrote and what it said."""
-    path = os.path.join(folder, "date.out")
-    if os.path.exists(path):
-        os.remove(path)
+    """The bytes of the file that rez writes of SOURCE, or none, and its status, what it wrote and what it said."""
     ended = run(program, folder, value, "rez", "date.r", "-o", "date.out", *options)
-    if not os.path.exists(path):
-        return None, ended
-    with open(path, "rb") as file:
-        return file.read(), ended
+    path = os.path.join(folder, "date.out")
+    data = bytes_of(path) if os.path.exists(path) else b""
+    write(path, b"")
+    return data, ended
 
 
-def differences(program, folder):
-    """What is not as it should be, a line for each."""
-    found = []
+def today():
+    return datetime.datetime.now(datetime.timezone.utc).strftime("%Y-%m-%d").encode()
+
+
+def look(looks, program, folder):
+    done, refused = (0, b"", b""), (5, b"", LINE)
     for value, date in TOLD.items():
         fork, ended = written(program, folder, value)
-        if ended != (0, b"", b"") or fork is None or fork[260:260 + len(date)] != date:
-            found.append("%r: %r %r" % (value, ended, fork))
+        looks.tell(value, (date, done), (fork[260:260 + len(date)], ended))
         file, _ = written(program, folder, value, "-form", "macbin")
         dates = 2 * (int(value) + 2082844800).to_bytes(4, "big")  # created and modified, from 1904
-        if file is None or file[91:99] != dates:
-            found.append("%r: the dates of the file of MacBinary are others" % value)
+        looks.tell("%r: the dates of the file of MacBinary" % value, dates, file[91:99])
     for value in REFUSED:
-        came = written(program, folder, value)
-        if came != (None, (5, b"", LINE)):
-            found.append("%r: %r" % (value, came))
-        if run(program, folder, value, "--version") != (5, b"", LINE):
-            found.append("%r: --version runs" % value)
-    days = [datetime.datetime.now(datetime.timezone.utc).strftime("%Y-%m-%d").encode()]
+        looks.tell(value, (b"", refused), written(program, folder, value))
+        looks.tell("%r: --version" % value, refused, run(program, folder, value, "--version"))
+    before = today()
     fork, ended = written(program, folder, None)
-    days.append(datetime.datetime.now(datetime.timezone.utc).strftime("%Y-%m-%d").encode())
-    if ended != (0, b"", b"") or fork is None or fork[260:270] not in days:
-        found.append("without the variable: %r %r" % (ended, fork))
-    return found
+    looks.tell("without the variable", (True, done), (fork[260:270] in (before, today()), ended))
 
 
 def main():
-    program = os.path.abspath(sys.argv[1] if len(sys.argv) > 1 else program_to_run())
+    looks = Looks()
     with tempfile.TemporaryDirectory(prefix="rezkit-epoch-") as folder:
-        with open(os.path.join(folder, "date.r"), "wb") as file:
-            file.write(SOURCE)
-        found = differences(program, folder)
-    for line in found:
-        print(line)
-    print("%d values of %s, %d differences" % (len(TOLD) + len(REFUSED), NAME, len(found)))
-    sys.exit(1 if found else 0)
+        write_all(folder, {"date.r": SOURCE, "date.out": b""})
+        look(looks, program_of(sys.argv[1:]), folder)
+    looks.end("looks at values of " + NAME)
 
 
 if __name__ == "__main__":

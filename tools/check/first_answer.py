@@ -20,8 +20,10 @@ import sys
 import tempfile
 
 from top import TOP
+from files import bytes_of, write
+from looks import Looks
 from model.fork import image
-from running import program_to_run
+from running import program_of
 
 SECONDS = 1
 KIT = "a kit of this test"
@@ -46,25 +48,12 @@ NOTHING = "rezkit: no program ships with these sources: there is no prebuilt/rez
 SHORT = "rezkit: prebuilt/rezkit.txt is damaged: it has no line that begins with 'sources: '\n" + NO_RT
 
 
-def write(path, data, mode=0o644):
-    """Puts a new file where another may be, which a link may share."""
-    if os.path.lexists(path):
-        os.remove(path)
-    with open(path, "wb") as file:
-        file.write(data.encode() if isinstance(data, str) else data)
-    os.chmod(path, mode)
-
-
-def read(path):
-    with open(path, "rb") as file:
-        return file.read()
-
-
-class Copy:
+class Copy(Looks):
     """A copy of what ./rezkit needs, and how many of its runs came out otherwise."""
 
     def __init__(self, room, program):
-        self.room, self.top, self.count, self.wrong = room, os.path.join(room, "a clone's copy"), 0, 0
+        super().__init__()
+        self.room, self.top = room, os.path.join(room, "a clone's copy")
         os.makedirs(os.path.join(self.top, "tools"))
         for name in ("rezkit", "crates.txt", "HANDLES", "tools/program", "tools/ship"):
             shutil.copy2(os.path.join(TOP, name), os.path.join(self.top, name))
@@ -72,8 +61,7 @@ class Copy:
             shutil.copytree(os.path.join(TOP, name), os.path.join(self.top, name))
         for crate in os.listdir(os.path.join(TOP, "crates")):
             shutil.copytree(os.path.join(TOP, "crates", crate, "src"), self.path("crates", crate, "src"))
-        os.mkdir(self.path("crates/rezkit/out"))
-        write(self.path("crates/rezkit/out/rezkit"), read(program), 0o755)
+        write(self.path("crates/rezkit/out/rezkit"), bytes_of(program), 0o755)
         self.tools("kit", rt="#!/bin/sh\necho '%s'\n" % KIT)
         self.path_words = self.tools("few")
 
@@ -114,19 +102,12 @@ class Copy:
             self.wrong += 1
             print("%s: took %.2f seconds of processor time" % (says, took))
 
-    def tell(self, says, wanted, came):
-        self.count += 1
-        if wanted != came:
-            self.wrong += 1
-            print("%s\n  wanted: %r\n  came:   %r" % (says, wanted, came))
-
     def answers(self, says, **how):
         """That ./rezkit compiles the example."""
         out = os.path.join(self.room, "ask.rsrc")
-        if os.path.exists(out):
-            os.remove(out)
+        write(out, "no file")
         self.run(says, ["rez", self.path("examples/ask.r"), "-i", self.path("types"), "-o", out], 0, "", "", **how)
-        self.tell(says + ": the fork", ASK, read(out) if os.path.exists(out) else "no file")
+        self.tell(says + ": the fork", ASK, bytes_of(out))
 
     def refuses(self, says, err, **how):
         self.run(says, ["--version"], 6, "", err, **how)
@@ -136,7 +117,7 @@ def kept(change):
     """A change of a copy that is undone afterwards: the function is given the copy, and gives the paths that it changes."""
     def whole(copy):
         paths = [copy.path(name) for name in ("prebuilt/rezkit", "prebuilt/rezkit.txt", "crates.txt", "crates/rz_lex/src/lexer.rt")]
-        before = [(path, read(path), os.stat(path).st_mode) for path in paths]
+        before = [(path, bytes_of(path), os.stat(path).st_mode) for path in paths]
         change(copy)
         for path, data, mode in before:
             write(path, data, mode)
@@ -146,7 +127,7 @@ def kept(change):
 @kept
 def changed_sources(copy):
     lexer, other = copy.path("crates/rz_lex/src/lexer.rt"), copy.path("crates/rz_lex/src/other.rt")
-    text = read(lexer)
+    text = bytes_of(lexer)
     write(lexer, text + b"\n")
     copy.refuses("a source that is longer", SOURCE)
     copy.tell("--check of a changed source", ("tools/ship: a source file has changed since prebuilt/rezkit was built\n"
@@ -168,7 +149,7 @@ def changed_sources(copy):
 @kept
 def changed_crates(copy):
     path = copy.path("crates.txt")
-    text = read(path)
+    text = bytes_of(path)
     write(path, text.replace(b"rz_set: rz_core indexmap", b"rz_set: rz_core"))
     copy.refuses("a line of crates.txt", CRATES)
     write(path, text + b"rz_new: rz_core\n")
@@ -180,7 +161,7 @@ def changed_crates(copy):
 @kept
 def changed_programs(copy):
     path, record = copy.path("prebuilt/rezkit"), copy.path("prebuilt/rezkit.txt")
-    data, text = read(path), read(record)
+    data, text = bytes_of(path), bytes_of(record)
     write(path, data[:100000] + bytes([data[100000] ^ 1]) + data[100001:], 0o755)
     copy.refuses("a damaged program", DAMAGED)
     mend = ("to mend this: take both files of prebuilt/ from git again (`git checkout HEAD prebuilt`), or run `rt ci`, then "
@@ -214,7 +195,7 @@ def unloadable_programs(copy):
         copy.tell("tools/ship", 0, copy.ship()[1])
         os.remove(copy.path("crates/rezkit/out/rezkit"))
         os.chmod(copy.path("prebuilt/rezkit"), mode)
-    data = read(copy.path("prebuilt/rezkit"))
+    data = bytes_of(copy.path("prebuilt/rezkit"))
     cant = "rezkit: this machine can't load the program TOP/prebuilt/rezkit; it is for %s\n" % MACHINE
     record(data.replace(b"/lib64/ld-linux-x86-64.so.2", b"/lib64/no-linux-x86-64.so.2"))
     copy.refuses("no loader", cant, front=True)
@@ -257,7 +238,7 @@ def two_at_once(copy):
     words = [copy.path("rezkit"), "rez", copy.path("examples/ask.r"), "-i", copy.path("types"), "-o"]
     runs = [subprocess.Popen([*words, out], env={"PATH": copy.path_words}, stdin=subprocess.DEVNULL) for out in outs]
     copy.tell("eight at once", [0] * 8, [run.wait() for run in runs])
-    copy.tell("eight at once: the forks", [ASK] * 8, [read(out) if os.path.exists(out) else b"" for out in outs])
+    copy.tell("eight at once: the forks", [ASK] * 8, [bytes_of(out) if os.path.exists(out) else b"" for out in outs])
 
 
 def read_only(copy):
@@ -292,7 +273,7 @@ def proving(copy):
     copy.refuses("proofs that fail", said, path=fails + others, front=True)
     copy.tell("proofs that fail: no program", False, os.path.exists(built))
     copy.tell("proofs that fail: what was said of them", b"rt: rz_core proved\nrt: rz_lex NOT PROVED\n",
-              read(copy.path("crates/rezkit/out/proving.txt")))
+              bytes_of(copy.path("crates/rezkit/out/proving.txt")))
     copy.run("proofs that end well", ["--version"], 0, "rezkit 0.1.0\n", said, path=proves + others, front=True)
     copy.run("the program that was proved", ["--version"], 0, "rezkit 0.1.0\n", "")
     os.remove(built)
@@ -314,7 +295,7 @@ def built_here(copy):
 
 
 def main():
-    program = os.path.abspath(sys.argv[1] if len(sys.argv) > 1 else program_to_run())
+    program = program_of(sys.argv[1:])
     with tempfile.TemporaryDirectory(prefix="rezkit-first-") as room:
         copy = Copy(room, program)
         copy.tell("tools/ship", ("prebuilt/rezkit: %d bytes, %s\n" % (os.path.getsize(program), KIT), 0), copy.ship())
@@ -324,8 +305,7 @@ def main():
         for tries in (places, two_at_once, read_only, changed_sources, changed_crates, changed_programs, proving,
                       built_here, other_machines, unloadable_programs):
             tries(copy)
-    print("%d looks, %d differences" % (copy.count, copy.wrong))
-    sys.exit(1 if copy.wrong else 0)
+    copy.end()
 
 
 if __name__ == "__main__":

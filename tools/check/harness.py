@@ -14,6 +14,8 @@ import sys
 import tempfile
 
 from top import TOP
+from files import write
+from looks import Looks
 
 RUN = ["case a case", "words rez no.r -o x", "status 2", "err text", '| rezkit: error 101 MissingFile: "no.r"']
 TWICE = "the case states this twice"
@@ -177,19 +179,14 @@ def files():
 
 def main():
     program = os.path.abspath(sys.argv[1] if len(sys.argv) > 1 else os.path.join(TOP, "crates", "rezkit_cases", "out", "rezkit_cases"))
-    count = wrong = 0
+    looks = Looks()
     with tempfile.TemporaryDirectory(prefix="rezkit-harness-") as folder:
         for lines, wanted, status in files():
-            with open(os.path.join(folder, "one.cases"), "w", encoding="utf-8", errors="surrogateescape") as file:
-                file.write("".join(line + "\n" for line in lines))
+            write(os.path.join(folder, "one.cases"), "".join(line + "\n" for line in lines))
             ran = subprocess.run([program], cwd=folder, stdout=subprocess.PIPE, stderr=subprocess.STDOUT)
-            came = ran.stdout.decode("utf-8", "replace"), ran.returncode
-            count += 1
-            if came != (wanted + "\n", status):
-                wrong += 1
-                print("%s\n--- wanted, and the status %d\n%s\n--- came, and the status %d\n%s" % ("\n".join(map(ascii, lines)), status, wanted, came[1], came[0]))
-    print("%d case files, %d give something else" % (count, wrong))
-    sys.exit(1 if wrong else 0)
+            looks.tell("\n".join(map(ascii, lines)), (wanted + "\n", status),
+                       (ran.stdout.decode("utf-8", "replace"), ran.returncode))
+    looks.end("case files")
 
 
 if __name__ == "__main__":

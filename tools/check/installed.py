@@ -15,7 +15,9 @@ import sys
 import tempfile
 
 from top import TOP
-from running import program_to_run
+from files import bytes_of, write
+from looks import Looks
+from running import program_of
 
 CATALOGUE = b"'MENU' 128 1 \"Qu\\0x8Ebec\";\n"
 LEGIBLE = "\ufeff'MENU' 128 1\n    \"Qu\u00e9bec\";\n".encode()
@@ -51,11 +53,6 @@ def found_files(prefix):
     return sorted(path for path in paths if not path.startswith("share/rezkit/tools/"))
 
 
-def read(*parts):
-    with open(os.path.join(*parts), "rb") as file:
-        return file.read()
-
-
 def looks(room, prefix, program):
     """Each look: what it is of, what is wanted, and what came."""
     install, share = os.path.join(TOP, "tools", "install"), os.path.join(prefix, "share", "rezkit")
@@ -64,14 +61,13 @@ def looks(room, prefix, program):
     yield "installed", (0, b""), run([install, "a prefix"], room)
     yield "installed once more", (0, b""), run([install, prefix], "/")
     yield "the files", wanted_files(), found_files(prefix)
-    yield "the program", read(program), read(prefix, "bin/rezkit")
-    yield "the man page", b".TH REZKIT 1", read(prefix, "share/man/man1/rezkit.1")[:12]
+    yield "the program", bytes_of(program), bytes_of(prefix, "bin/rezkit")
+    yield "the man page", b".TH REZKIT 1", bytes_of(prefix, "share/man/man1/rezkit.1")[:12]
     here = [os.path.join(prefix, "bin", "rezkit"), "rez", os.path.join(share, "examples", "App.r"), "-i", os.path.join(share, "types")]
     yield "an example", (0, b""), run([*here, "-o", "App.rsrc"], room)
     ls = os.path.join(prefix, "bin", "rezkit-ls")
     yield "rezkit-ls", (0, b"App.rsrc: resource fork, fork 779, resources 6\n"), run([ls, "App.rsrc"], room)
-    with open(os.path.join(room, "a.texts"), "wb") as file:
-        file.write(CATALOGUE)
+    write(os.path.join(room, "a.texts"), CATALOGUE)
     script = os.path.join(share, "tools", "catalog.py")
     yield "catalog.py", (0, LEGIBLE), run([sys.executable, script, "legible", "a.texts"], room)
     status, said = run([sys.executable, os.path.join(share, "tools", "share.py"), "App.rsrc"], room, os.path.join(prefix, "bin"))
@@ -79,16 +75,11 @@ def looks(room, prefix, program):
 
 
 def main():
-    program = os.path.abspath(sys.argv[1] if len(sys.argv) > 1 else program_to_run())
-    count = wrong = 0
+    taken = Looks()
     with tempfile.TemporaryDirectory(prefix="rezkit-installed-") as room:
-        for says, wanted, came in looks(room, os.path.join(room, "a prefix"), program):
-            count += 1
-            if wanted != came:
-                wrong += 1
-                print("%s\n  wanted: %.600r\n  came:   %.600r" % (says, wanted, came))
-    print("%d looks, %d differences" % (count, wrong))
-    sys.exit(1 if wrong else 0)
+        for look in looks(room, os.path.join(room, "a prefix"), program_of(sys.argv[1:])):
+            taken.tell(*look)
+    taken.end()
 
 
 if __name__ == "__main__":

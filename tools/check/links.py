@@ -17,6 +17,7 @@ import re
 import sys
 
 from top import TOP
+from files import text_of
 
 LINK = re.compile(r"\[([^\]]*)\]\(([^)\s]+)\)")
 CRATE = re.compile(r"(?<![\w/.])(rz_[a-z_]+|rezkit_[a-z_]+)(?![\w(])")
@@ -32,11 +33,6 @@ DEFINITIONS = {
 }
 # The types, traits and blocks of a source in which a call `Type::call` stands.
 OWNER = r"(?m)^(?:(?:pub +)?(?:struct|enum|trait|type) +|impl\b.*\b)%s\b"
-
-
-def text_of(path):
-    with open(path, encoding="utf-8") as file:
-        return file.read()
 
 
 def anchors_of(text):

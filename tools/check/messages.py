@@ -14,14 +14,10 @@ import re
 import sys
 
 from top import TOP
+from files import text_of
 from model.case_reader import read_cases
 
 UNSAID = {("452", "UnknownCode")}
-
-
-def text_of(path):
-    with open(os.path.join(TOP, path), encoding="utf-8") as file:
-        return file.read()
 
 
 def refusals():
@@ -33,8 +29,8 @@ def refusals():
 
 
 def main():
-    named = set(re.findall(r'(\d{3}) => Some\("(\w+)"\)', text_of("crates/rz_core/src/message.rt")))
-    text = text_of("docs/MESSAGES.md")
+    named = set(re.findall(r'(\d{3}) => Some\("(\w+)"\)', text_of(TOP, "crates/rz_core/src/message.rt")))
+    text = text_of(TOP, "docs/MESSAGES.md")
     rows = re.findall(r"^\| (\d{3}) (\w+)", text, re.M)
     lines = set(re.findall(r"^rezkit: .*?(?:error|warning) (\d{3}) (\w+)", text, re.M))
     wrong = ["%s %s: no row" % fault for fault in sorted(named - set(rows))]

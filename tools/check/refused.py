@@ -22,8 +22,9 @@ import tempfile
 import time
 
 from top import TOP
+from files import found_in, text_of, write, write_all
 from model.case_reader import read_cases
-from running import program_to_run
+from running import program_of
 
 DATA = os.path.join(TOP, "crates", "rezkit_cases", "data")
 NO_MEMORY = b"rezkit: no memory\n"
@@ -105,23 +106,8 @@ void *realloc(void *block, size_t size)
 """
 
 
-def found_in(folder):
-    """The files of a folder and of those within it."""
-    files = {}
-    for path, _, names in os.walk(folder):
-        for name in names:
-            one = os.path.join(path, name)
-            with open(one, "rb") as file:
-                files[os.path.relpath(one, folder)] = file.read()
-    return files
-
-
-def write_files(folder, files):
-    for name, data in files.items():
-        path = os.path.join(folder, name)
-        os.makedirs(os.path.dirname(path), exist_ok=True)
-        with open(path, "wb") as file:
-            file.write(data)
+def files_in(folder):
+    return {name: data for name, data in found_in(folder).items() if data is not None}
 
 
 class Refuser:
@@ -162,9 +148,9 @@ class Refuser:
         while came:
             call += 1
             with tempfile.TemporaryDirectory(prefix="rezkit-refused-") as folder:
-                write_files(folder, before)
+                write_all(folder, before)
                 came, ended, put, said, took = self.run(case.words, folder, call, case.moment or 0)
-                left = found_in(folder)
+                left = files_in(folder)
             longest = max(longest, took)
             if came and ended == 4:
                 short += 1
@@ -182,23 +168,21 @@ class Refuser:
         """A run of `sample` that makes at least so many allocations."""
         with tempfile.TemporaryDirectory(prefix="rezkit-refused-") as folder:
             came, ended, put, said, took = self.run(["sample", str(count)], folder, call, 0)
-            left = found_in(folder)
+            left = files_in(folder)
         if (came, ended, put, said, left) != (True, 4, b"", NO_MEMORY, {}):
             self.differs("sample %d" % count, call, "status", ended, "out", put, "err", said, "files", sorted(left))
         print("%-70s %6d refused %6d status 4 %7.3f s" % ("sample %d, call %d alone" % (count, call), 1, ended == 4, took), flush=True)
 
 
 def main():
-    program = os.path.abspath(sys.argv[1] if len(sys.argv) > 1 else program_to_run())
+    program = program_of(sys.argv[1:])
     with tempfile.TemporaryDirectory(prefix="rezkit-refuser-") as folder:
         source, library = os.path.join(folder, "refuser.c"), os.path.join(folder, "refuser.so")
-        with open(source, "w") as file:
-            file.write(LIBRARY)
+        write(source, LIBRARY)
         subprocess.run(["cc", "-O1", "-shared", "-fPIC", "-o", library, source, "-ldl"], check=True)
         refuser, begin = Refuser(program, library), time.monotonic()
         for file, name in COMMANDS:
-            with open(os.path.join(DATA, file + ".cases"), encoding="utf-8") as lines:
-                found = [case for case in read_cases(lines.read()) if case.name == name]
+            found = [case for case in read_cases(text_of(DATA, file + ".cases")) if case.name == name]
             if not found:
                 sys.exit("%s.cases has no case %r" % (file, name))
             refuser.sweep("%s: %s" % (" ".join(found[0].words)[:30], name), found[0])

@@ -25,12 +25,12 @@ import glob
 import os
 import re
 import shutil
-import stat
 import subprocess
 import sys
 import tempfile
 
 from top import TOP
+from files import found_in, text_of, write_all
 from model.case_reader import Malformed, read_cases
 from running import program_to_run
 
@@ -77,27 +77,8 @@ def write_files(folder, case):
         if at and can_be_a_file(name):
             os.makedirs(os.path.join(folder, at), exist_ok=True)
             folders.update(at[:end] for end, byte in enumerate(at + "/") if byte == "/")
-    for name, data in case.files.items():
-        with open(os.path.join(folder, name), "wb") as file:
-            file.write(data)
+    write_all(folder, case.files)
     return folders
-
-
-def found_in(folder, inside=""):
-    """What stands in a folder: the bytes of each file, None for a folder, and a word for anything else."""
-    found = {}
-    with os.scandir(os.path.join(folder, inside)) as entries:
-        for entry in entries:
-            name = inside + entry.name
-            if entry.is_dir(follow_symlinks=False):
-                found[name] = None
-                found.update(found_in(folder, name + "/"))
-            elif entry.is_file(follow_symlinks=False):
-                with open(entry.path, "rb") as file:
-                    found[name] = file.read()
-            else:
-                found[name] = "something that is no file (%o)" % stat.S_IFMT(entry.stat(follow_symlinks=False).st_mode)
-    return found
 
 
 def differences(program, case, folder):
@@ -178,8 +159,7 @@ def parts_of(path):
 
 def stated_count():
     """How many cases there have to be."""
-    with open(os.path.join(CASES, "stdout"), encoding="utf-8") as file:
-        return int(re.search(r"^(\d+) cases, 0 differ$", file.read(), re.M)[1])
+    return int(re.search(r"^(\d+) cases, 0 differ$", text_of(CASES, "stdout"), re.M)[1])
 
 
 def all_results(program, files):

@@ -2,29 +2,22 @@
 """Compares what the cases of `derez` have on `out` with what tools/model/shown.py works out.
 
     python3 tools/check/shown_texts.py crates/rezkit_cases/data/shown.cases
-    python3 tools/check/shown_texts.py --print WORDS crates/rezkit_cases/data/shown.cases
 
-With --print the text of the cases whose names hold the words is printed. Cases of other commands, cases with another
-status than 0, and those that shown.py doesn't read are passed over, and counted. What differs is printed, and the
-status is 1 then.
+Cases of other commands, cases with another status than 0, and those that shown.py doesn't read are passed over, and
+counted. What differs is printed, and the status is 1 then.
 """
 import sys
 
 import top  # noqa: F401
+from files import text_of
 from model.case_reader import read_cases
 from model.shown import derez
 
 
 def main():
-    words = sys.argv[1:]
-    wanted = None
-    if words[:1] == ["--print"]:
-        wanted, words = words[1], words[2:]
     tried, passed, wrong = 0, 0, 0
-    for name in words:
-        with open(name, encoding="utf-8") as file:
-            cases = read_cases(file.read())
-        for case in cases:
+    for name in sys.argv[1:]:
+        for case in read_cases(text_of(name)):
             if case.words[:1] != ["derez"] or case.status != 0:
                 passed += 1
                 continue
@@ -36,8 +29,6 @@ def main():
             except Exception as fault:
                 came = "? %r\n" % fault
             tried += 1
-            if wanted is not None and wanted in case.name:
-                print("".join("| %s\n" % line for line in came.split("\n")[:-1]).replace("| \n", "|\n"))
             stated = case.out or b""
             if came.encode() != stated:
                 wrong += 1

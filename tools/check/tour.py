@@ -23,7 +23,7 @@ import tempfile
 
 from top import TOP
 from help import EXAMPLES
-from running import program_to_run
+from running import program_of
 
 WALKS = (
     ("README.md", "docs/TOUR.md"),
@@ -170,7 +170,7 @@ def walk_examples(program):
 
 def main():
     arguments = [argument for argument in sys.argv[1:] if argument != "--write"]
-    program = os.path.abspath(arguments[0] if arguments else program_to_run())
+    program = program_of(arguments)
     with tempfile.TemporaryDirectory(prefix="rezkit-home-") as home:
         os.environ["HOME"] = home  # some tools keep files there
         sums = [walk(documents, program, "--write" in sys.argv[1:]) for documents in WALKS] + [walk_examples(program)]

@@ -14,6 +14,10 @@ import subprocess
 import sys
 import tempfile
 
+import top  # noqa: F401
+from files import write, write_all
+from looks import Looks
+
 SCRIPT = os.path.join(os.path.dirname(os.path.abspath(__file__)), "wrong_bodies.py")
 RT = """#!/bin/sh
 for path in crates/one/must-fail/*.edit; do
@@ -51,24 +55,20 @@ WRONG = [
 ]
 
 
-class Repository:
+class Repository(Looks):
     """The small repository, and how many looks came out otherwise."""
 
     def __init__(self, room):
-        self.room, self.count, self.wrong = room, 0, 0
-        self.write("bin/rt", RT)
-        os.chmod(os.path.join(room, "bin/rt"), 0o755)
-        for name, text in FILES.items():
-            self.write(name, text)
+        super().__init__()
+        self.room = room
+        write(os.path.join(room, "bin/rt"), RT, 0o755)
+        write_all(room, FILES)
         os.makedirs(os.path.join(room, "tools", "check"))
         for script in (SCRIPT, os.path.join(os.path.dirname(SCRIPT), "top.py")):
             shutil.copy2(script, os.path.join(room, "tools", "check"))
 
     def write(self, name, text):
-        path = os.path.join(self.room, name)
-        os.makedirs(os.path.dirname(path), exist_ok=True)
-        with open(path, "w", encoding="utf-8") as file:
-            file.write(text)
+        write(os.path.join(self.room, name), text)
 
     def look(self, says, words, out, status):
         """Runs the script with these words: what it has to print, and the status."""
@@ -76,11 +76,7 @@ class Repository:
         ran = subprocess.run([sys.executable, "tools/check/wrong_bodies.py", *words], cwd=self.room,
                              env=dict(os.environ, PATH=path), stdin=subprocess.DEVNULL, stdout=subprocess.PIPE,
                              stderr=subprocess.STDOUT)
-        came = ran.stdout.decode("utf-8", "replace"), ran.returncode
-        self.count += 1
-        if came != (out, status):
-            self.wrong += 1
-            print("%s\n  wanted: %r\n  came:   %r" % (says, (out, status), came))
+        self.tell(says, (out, status), (ran.stdout.decode("utf-8", "replace"), ran.returncode))
 
 
 def looks(it):
@@ -115,8 +111,7 @@ def main():
     with tempfile.TemporaryDirectory(prefix="rezkit-edits-") as room:
         repository = Repository(room)
         looks(repository)
-    print("%d looks, %d differences" % (repository.count, repository.wrong))
-    sys.exit(1 if repository.wrong else 0)
+    repository.end()
 
 
 if __name__ == "__main__":

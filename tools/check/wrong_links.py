@@ -11,6 +11,10 @@ import subprocess
 import sys
 import tempfile
 
+import top  # noqa: F401
+from files import write_all
+from looks import Looks
+
 SCRIPT = os.path.join(os.path.dirname(os.path.abspath(__file__)), "links.py")
 RIGHT = """# One page
 
@@ -57,13 +61,6 @@ WRONG = [
 OTHERS = ["docs/ARCHITECTURE.md", "bench/README.md", "tools/README.md", "crates/rz_one/README.md"]
 
 
-def write(folder, name, text):
-    path = os.path.join(folder, name)
-    os.makedirs(os.path.dirname(path), exist_ok=True)
-    with open(path, "w", encoding="utf-8") as file:
-        file.write(text)
-
-
 def told(folder):
     """What links.py prints of a repository, and its status."""
     ran = subprocess.run([sys.executable, SCRIPT, folder], stdin=subprocess.DEVNULL, stdout=subprocess.PIPE, stderr=subprocess.STDOUT)
@@ -71,25 +68,18 @@ def told(folder):
 
 
 def main():
-    count, differ = 0, 0
+    looks = Looks()
     with tempfile.TemporaryDirectory(prefix="rezkit-links-") as folder:
-        for name, text in FILES.items():
-            write(folder, name, text)
-        looks = [("README.md", RIGHT, "", 0)] + [
+        write_all(folder, FILES)
+        tries = [("README.md", RIGHT, "", 0)] + [
             ("README.md", "%s\n%s\n" % (RIGHT, line), "README.md: %s\n" % fault, 1) for line, fault in WRONG] + [
             (name, FILES[name] + "[none](none.md)\n", "%s: no none.md\n" % name, 1) for name in OTHERS] + [
             ("crates.txt", "rz_one:\nrz_two: rz_one\n", "docs/ARCHITECTURE.md: no row of rz_two\n", 1)]
-        for name, text, says, status in looks:
-            write(folder, name, text)
-            wanted, came = ("%s5 documents, %d faults\n" % (says, status), status), told(folder)
-            write(folder, name, FILES[name])
-            count += 1
-            if came != wanted:
-                differ += 1
-                print("%s\n  wanted %r\n  came %r" % (text.splitlines()[-1], wanted, came))
-    print("%d looks, %d differences" % (count, differ))
-    return 1 if differ else 0
+        for name, text, says, status in tries:
+            write_all(folder, {**FILES, name: text})
+            looks.tell(text.splitlines()[-1], ("%s5 documents, %d faults\n" % (says, status), status), told(folder))
+    looks.end()
 
 
 if __name__ == "__main__":
-    sys.exit(main())
+    main()

@@ -15,7 +15,8 @@ import sys
 import tempfile
 
 import top  # noqa: F401
-from running import program_to_run
+from files import write
+from running import program_of
 
 RUNNER = os.path.join(os.path.dirname(os.path.abspath(__file__)), "run_cases.py")
 
@@ -113,8 +114,7 @@ BROKEN = [
 def told(room, program, text):
     """What the runner prints of a case file, with FILE for its path, and its status."""
     path = os.path.join(room, "one.cases")
-    with open(path, "w", encoding="utf-8") as file:
-        file.write(text)
+    write(path, text)
     ran = subprocess.run([sys.executable, RUNNER, "--program", program, path], stdin=subprocess.DEVNULL,
                          stdout=subprocess.PIPE, stderr=subprocess.STDOUT)
     return ran.stdout.decode("utf-8", "replace").replace(path, "FILE").rstrip("\n").split("\n"), ran.returncode
@@ -123,9 +123,8 @@ def told(room, program, text):
 def wrapped(room, program, script):
     """A program that runs the script around the program."""
     path = os.path.join(room, "wrapper")
-    with open(path, "w", encoding="utf-8") as file:
-        file.write("#!/bin/sh\nexec /bin/sh -c '%s' '%s' \"$@\"\n" % (script.replace("'", "'\\''"), program.replace("'", "'\\''")))
-    os.chmod(path, 0o755)
+    script, program = (text.replace("'", "'\\''") for text in (script, program))
+    write(path, "#!/bin/sh\nexec /bin/sh -c '%s' '%s' \"$@\"\n" % (script, program), 0o755)
     return path
 
 
@@ -140,7 +139,7 @@ def differs(says, lines, came):
 
 
 def main():
-    program = os.path.abspath(sys.argv[1] if len(sys.argv) > 1 else program_to_run())
+    program = program_of(sys.argv[1:])
     wrong = 0
     with tempfile.TemporaryDirectory(prefix="rezkit-wrong-") as room:
         for says, script, lines in WRAPPERS:

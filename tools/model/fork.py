@@ -9,6 +9,7 @@ line of the scripts that write cases:
 import re
 import sys
 
+from model.breaks import NO_NAME, breaks
 from model.faults import Refused
 
 RESOURCE = re.compile(
@@ -62,68 +63,37 @@ def fork_of(resources):
     return header + bytes(240) + area + header + bytes(8) + offsets + type_list + names
 
 
+def number_at(data, place, size):
+    return int.from_bytes(data[place:place + size], "big")
+
+
+def type_places(data, most=65536):
+    """Of each type of a fork its place, and those of its references; of so many at most."""
+    types = number_at(data, 4, 4)
+    types += number_at(data, types + 24, 2)
+    for k in range(min((number_at(data, types, 2) + 1) % 65536, most)):
+        entry = types + 2 + 8 * k
+        first, count = types + number_at(data, entry + 6, 2), min((number_at(data, entry + 4, 2) + 1) % 65536, most)
+        yield entry, range(first, first + 12 * count, 12)
+
+
 def admitted(data):
     """The resources of a fork, the attributes of its map and its reserved bytes, or the first broken rule."""
+    for fault in breaks(data)[:1]:
+        raise Refused(*fault)
     if not data:
         return [], 0, b""
-
-    def at(place, size):
-        return int.from_bytes(data[place:place + size], "big")
-
-    length = len(data)
-    if length < 16:
-        raise Refused(401, 0, length)
-    area, place, area_length, map_length = at(0, 4), at(4, 4), at(8, 4), at(12, 4)
-    if area >= 16777216 or area + area_length > length:
-        raise Refused(402, 0, area_length)
-    if place + map_length > length:
-        raise Refused(403, 4, map_length)
-    if map_length < 28:
-        raise Refused(404, 12, map_length)
-    types, names = at(place + 24, 2), at(place + 26, 2)
-    if types + 2 > map_length:
-        raise Refused(405, place + 24, types)
-    count = (at(place + types, 2) + 1) % 65536
-    if types + 2 + 8 * count > map_length or count > 8192:
-        raise Refused(406, place + types, count)
-    entries, lists, total = [place + types + 2 + 8 * k for k in range(count)], [], 0
-    for entry in entries:
-        references, begins = (at(entry + 4, 2) + 1) % 65536, types + at(entry + 6, 2)
-        total += references
-        if begins + 12 * references > map_length or total > 16384:
-            raise Refused(407, place + begins, references)
-        lists.append([place + begins + 12 * k for k in range(references)])
-    for group in lists:
-        for one in group:
-            begins = at(one + 5, 3)
-            if begins + 4 > area_length:
-                raise Refused(408, area + begins, 0)
-            if begins + 4 + at(area + begins, 4) > area_length:
-                raise Refused(408, area + begins, at(area + begins, 4))
-    for group in lists:
-        for one in group:
-            name = at(one + 2, 2)
-            begins = names + name
-            if name != 0xFFFF and (begins + 1 > map_length or begins + 1 + at(place + begins, 1) > map_length):
-                raise Refused(409, place + begins, name)
-    kinds = [data[entry:entry + 4] for entry in entries]
-    for k, kind in enumerate(kinds):
-        if kind in kinds[:k]:
-            raise Refused(410, entries[k], int.from_bytes(kind, "big"))
-    for group in lists:
-        idents = [at(one, 2) for one in group]
-        for k, ident in enumerate(idents):
-            if ident in idents[:k]:
-                raise Refused(410, group[k], ident)
-    resources = []
-    for kind, group in zip(kinds, lists):
-        for one in group:
-            name, begins = place + names + at(one + 2, 2), area + at(one + 5, 3)
-            resources.append((kind, (at(one, 2) + 32768) % 65536 - 32768,
-                              b"" if at(one + 2, 2) == 0xFFFF else data[name + 1:name + 1 + at(name, 1)],
-                              at(one + 4, 1), data[begins + 4:begins + 4 + at(begins, 4)]))
-    ends = min(max(min(area, place), 16), 256, length)
-    return resources, at(place + 22, 2), data[16:ends]
+    area, the_map, resources = number_at(data, 0, 4), number_at(data, 4, 4), []
+    names = the_map + number_at(data, the_map + 26, 2)
+    for entry, references in type_places(data):
+        for one in references:
+            name, begins = number_at(data, one + 2, 2), area + number_at(data, one + 5, 3)
+            at = names + name
+            resources.append((data[entry:entry + 4], (number_at(data, one, 2) + 32768) % 65536 - 32768,
+                              b"" if name == NO_NAME else data[at + 1:at + 1 + data[at]], data[one + 4],
+                              data[begins + 4:begins + 4 + number_at(data, begins, 4)]))
+    ends = min(max(min(area, the_map), 16), 256, len(data))
+    return resources, number_at(data, the_map + 22, 2), data[16:ends]
 
 
 def image(resources, attributes=0, reserved=b""):

@@ -58,6 +58,7 @@ def macbin(f):
 NO_DATE = 1 << 31
 FIRST_DATE = 882045953
 FIRST_OF_2000 = 3029529600
+FORMS = ("raw", "double", "single", "macbin", "hqx")
 MAGICS = {"double": 0x00051607, "single": 0x00051600}
 
 

@@ -7,14 +7,12 @@ import datetime
 
 from model.fork import admitted
 from model.forms import form_of, read_form
-from model.quoting import quoted
+from model.quoting import quoted, words_of
 
 FIRST, FIRST_OF_2040 = datetime.datetime(1904, 1, 1), 4291833600
 
 # Which facts stand beside the name, the type, the creator and the flags. Of a raw file none does.
 CARRIED = {"raw": (), "double": ("dates",), "single": ("dates", "data"), "macbin": ("lock", "dates", "data"), "hqx": ("data",)}
-WORDS = ("sysheap", 64), ("purgeable", 32), ("locked", 16), ("protected", 8), ("preload", 4), ("changed", 2)
-WITHOUT_WORD = 128 | 1
 
 
 def text_of(data, form=None):
@@ -45,13 +43,6 @@ def resource_text(resource):
     kind, ident, name, attributes, content = resource
     parts = [str(ident)] + [quoted(name, '"')] * bool(name) + words_of(attributes)
     return "%s (%s) %d" % (quoted(kind, "'"), ", ".join(parts), len(content))
-
-
-def words_of(attributes):
-    """The attributes as `derez` writes them: words, or a number where a bit has no word."""
-    if attributes & WITHOUT_WORD:
-        return ["$%02X" % attributes]
-    return [word for word, bit in WORDS if attributes & bit]
 
 
 def date_text(seconds):

@@ -1,15 +1,16 @@
 """A second, plain reading of the statements on lists of resources, and of -a, -ov, -ro, -s and -form of `rez`.
 
-It knows nothing of the code and reads no source: whoever writes a case says each statement twice, as text and as a call
-(`data`, `include`, `read`, `change`, `delete`, `wrong`), and the run applies the calls. list_cases.py writes the cases.
+It knows nothing of the code and reads no source. A statement is what a call (`data`, `include`, `read`, `change`,
+`delete`) gives: the run applies it, and its text is spelled from what it is called with. Where a source spells it
+otherwise, it stands in a pair behind its text. list_cases.py and fork_cases.py write the cases.
 """
 from model import forms
 from model.faults import Refused
 from model.fork import admitted, image
-from model.quoting import quoted
+from model.quoting import WORDS, quoted
+from model.shown import resource_text
 
 MOMENT = 2082844800  # the first second of 1970, counted from 1904
-SETS = {"sysheap": 0x40, "purgeable": 0x20, "locked": 0x10, "protected": 0x08, "preload": 0x04, "changed": 0x02}
 CLEARS = {"appheap": 0x40, "nonpurgeable": 0x20, "unlocked": 0x10, "unprotected": 0x08, "nonpreload": 0x04, "unchanged": 0x02}
 
 
@@ -82,8 +83,8 @@ def attributes_of(said, one=None):
     """Attributes begin from 0; a word sets or clears its bit, and a number sets all eight."""
     attr = 0
     for part in said:
-        if part in SETS:
-            attr |= SETS[part]
+        if part in WORDS:
+            attr |= WORDS[part]
         elif part in CLEARS:
             attr &= ~CLEARS[part]
         else:
@@ -93,11 +94,21 @@ def attributes_of(said, one=None):
     return attr
 
 
+def spelled(said):
+    """The text of what is said, unless it is computed."""
+    assert isinstance(said, (int, str)), said
+    return str(said)
+
+
 class Head:
     """A head: an id, and a name and attributes where they are given."""
 
     def __init__(self, ident, name=None, *attributes):
         self.ident, self.name, self.attributes = ident, name, attributes
+
+    def __str__(self):
+        names = [] if self.name is None else ['"%s"' % spelled(self.name)]
+        return "(%s)" % ", ".join([spelled(self.ident), *names, *map(spelled, self.attributes)])
 
     def fields(self, one=None):
         """What it says, of a chosen resource where there is one: id, then name, then attributes."""
@@ -112,6 +123,9 @@ class Head:
 class All:
     """A pick of all resources of a type."""
 
+    def __str__(self):
+        return ""
+
     def test(self):
         pass
 
@@ -124,6 +138,9 @@ class Id(All):
 
     def __init__(self, ident):
         self.said = ident
+
+    def __str__(self):
+        return "(%s)" % spelled(self.said)
 
     def test(self):
         self.ident = id_of(self.said)
@@ -141,6 +158,9 @@ class Range(All):
     def __init__(self, first, last):
         self.said = first, last
 
+    def __str__(self):
+        return "(%s)" % ":".join(map(spelled, self.said))
+
     def test(self):
         self.first, self.last = [id_of(said) for said in self.said]
 
@@ -152,7 +172,10 @@ class Name(All):
     """A pick by name: the first of the type with it."""
 
     def __init__(self, name):
-        self.name = roman(name)
+        self.said, self.name = name, roman(name)
+
+    def __str__(self):
+        return '("%s")' % spelled(self.said)
 
     def choose(self, kind, found):
         chosen = [one for one in found if one.kind == kind and one.name == self.name]
@@ -163,12 +186,31 @@ class Name(All):
 
 # The statements.
 
+class Statement:
+    """What a statement does to a run, and the parts of its text, of which some may be empty."""
+
+    def __init__(self, step, *parts):
+        self.step, self.parts = step, parts
+
+    def __call__(self, run):
+        self.step(run)
+
+    def text(self):
+        return " ".join(filter(None, map(str, self.parts))) + ";"
+
+
+def typed(kind, word=""):
+    """The text of a type after a word, or nothing without a type."""
+    return "" if kind is None else "%s'%s'" % (word, kind)
+
+
 def data(kind, ident, content, name="", *attributes):
     """A `data` or a `resource` statement, by the bytes that it gives."""
+    head = Head(ident, name or None, *attributes)
+
     def step(run):
-        one = Resource(roman(kind), 0, content=content).but(**Head(ident, name, *attributes).fields())
-        run.put([one])
-    return step
+        run.put([Resource(roman(kind), 0, content=content).but(**head.fields())])
+    return Statement(step, "data", typed(kind), head, '{ $"%s" }' % content.hex().upper() if content else "{ }")
 
 
 def include(file, kind=None, pick=All(), to=None, head=None, but=None):
@@ -181,7 +223,8 @@ def include(file, kind=None, pick=All(), to=None, head=None, but=None):
             pick.test()
             chosen = pick.choose(roman(kind), found)
         run.put([one.but(**changes(one, to, head)) for one in chosen])
-    return step
+    return Statement(step, "include", '"%s"' % file, typed(but, "not "), typed(kind), pick, typed(to, "as "),
+                     head or "")
 
 
 def changes(one, to, head):
@@ -193,13 +236,15 @@ def changes(one, to, head):
 
 def read(kind, file, ident, name="", *attributes):
     """A `read` statement."""
+    head = Head(ident, name or None, *attributes)
+
     def step(run):
-        fields = Head(ident, name, *attributes).fields()
+        fields = head.fields()
         content = run.find(roman(file))
         if len(content) > 16777212:
             raise Refused(301, len(content))
         run.put([Resource(roman(kind), 0, content=content).but(**fields)])
-    return step
+    return Statement(step, "read", typed(kind), head, '"%s"' % file)
 
 
 def change(kind, pick, to, head=None):
@@ -217,7 +262,7 @@ def change(kind, pick, to, head=None):
         for one, new, gone in zip(chosen, news, victims):
             one.__dict__.update(new)
             run.list = [other for other in run.list if other not in gone]
-    return step
+    return Statement(step, "change", typed(kind), pick, typed(to, "to "), head or "")
 
 
 def delete(kind, pick=All()):
@@ -228,7 +273,7 @@ def delete(kind, pick=All()):
         chosen = pick.choose(roman(kind), run.list)
         run.touch(chosen)
         run.list = [one for one in run.list if one not in chosen]
-    return step
+    return Statement(step, "delete", typed(kind), pick)
 
 
 def wrong(number, *kept):
@@ -252,9 +297,14 @@ class Source:
         self.name, self.items = name, items
 
 
+def paired(items):
+    """The items of a source as pairs of a text, of one line or more, and what it does."""
+    return [item if isinstance(item, tuple) else (item.text(), item) for item in items]
+
+
 def text_of(items):
-    """The text of a source: pairs of a text, of one line or more, and what it does."""
-    return "".join(text + "\n" for text, _ in items)
+    """The text of a source."""
+    return "".join(text + "\n" for text, _ in paired(items))
 
 
 # A run.
@@ -335,7 +385,7 @@ class Rez:
         if self.folder.read(name) is None:
             raise Refused(101, quoted(name.encode()))
         line = 1
-        for text, what in items:
+        for text, what in paired(items):
             if isinstance(what, Source):
                 self.open(what.name, what.items, statements)
             elif isinstance(what, Stray):
@@ -431,7 +481,7 @@ class DeRez:
         for name in self.files[1:]:
             self.folder.read(name)
             line = 1
-            for text, what in self.sources[name]:
+            for text, what in paired(self.sources[name]):
                 if isinstance(what, Stray):
                     what.fault.place = "%s:%d" % (name, line)
                     raise what.fault
@@ -448,11 +498,7 @@ class DeRez:
 
 def shown(one):
     """A resource as a `data` statement."""
-    assert not one.attr & 0x81 and len(one.name) <= 64
-    words = "".join(", " + word for word, bit in SETS.items() if one.attr & bit)
-    head = "data %s (%d%s%s) {\n" % (quoted(one.kind, "'"), one.ident, ", " + quoted(one.name) if one.name else "", words)
-    rows = [one.content[k:k + 16].hex().upper() for k in range(0, len(one.content), 16)] or [""]
-    return head + "".join('    $"%s"\n' % " ".join(row[k:k + 4] for k in range(0, len(row), 4)) for row in rows) + "};\n\n"
+    return resource_text(one.plain(), [], (), 0)
 
 
 def ends(run):

@@ -9,7 +9,7 @@ from model.forms import form_of, read_form
 from model.label_reading import read
 from model.label_types import Array, Number, Points, Switch, Text
 from model.labels import takes
-from model.quoting import quoted
+from model.quoting import quoted, words_of
 from model.type_files import declarations_of, found, program_of, templates_of, tokens_of
 
 
@@ -109,12 +109,7 @@ def head_text(word, resource):
         text += ",\n" + "\n".join("    " + quoted(each, '"') for each in pieces(name, 64))
     elif name:
         text += ", " + quoted(name, '"')
-    if attr & 0x81:
-        text += ", $%02X" % attr
-    else:
-        bits = ((0x40, "sysheap"), (0x20, "purgeable"), (0x10, "locked"), (8, "protected"), (4, "preload"), (2, "changed"))
-        text += "".join(", " + word for bit, word in bits if attr & bit)
-    return text + ") {"
+    return text + "".join(", " + word for word in words_of(attr)) + ") {"
 
 
 def resource_text(resource, table, hidden, moment):

@@ -308,11 +308,16 @@ def declarations_of(tokens, first=()):
     return table
 
 
+def fields_of(text):
+    """The fields that a text declares."""
+    return Reader(tokens_of(text + "}")).fields()
+
+
 def templates_of(file):
     """The declarations of a file with templates, in their order."""
     table = []
     for kind, fields in types_of(file):
-        table = [each for each in table if each[0] != kind] + [(kind, None, None, Reader(tokens_of(fields + "}")).fields())]
+        table = [each for each in table if each[0] != kind] + [(kind, None, None, fields_of(fields))]
     return table
 
 

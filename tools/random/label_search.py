@@ -10,10 +10,10 @@ number of rows. One is its row if labels.py lays it to the same bytes, label_spe
 solving number solves to what the row has. There may be one such row at most, and label_reading.py has to find it.
 What differs is printed, and the status is 1.
 """
-import random
 import sys
 
 import top  # noqa: F401
+from runs import seeded
 from random_types import some_bytes, some_type
 from model.faults import Refused
 from model.label_reading import (LENGTHS, NoRow, array_name, can_solve, is_own, least_width, read, solved,
@@ -261,11 +261,8 @@ def compared(body, data, told):
 
 
 def main():
-    if len(sys.argv) != 3:
-        sys.exit(__doc__)
-    random.seed(int(sys.argv[1]))
     count = {"differ": 0, "plain": 0, "not plain": 0, "no row": 0, "unreadable": 0, "readable": 0}
-    for _ in range(int(sys.argv[2])):
+    for _ in seeded():
         body = some_type()
         told = Told(body)
         count["readable" if told.is_readable() else "unreadable"] += 1

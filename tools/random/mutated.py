@@ -19,16 +19,16 @@ import struct
 import sys
 
 from top import TOP
+from files import text_of as text_of_file
 from model.breaks import breaks, text_of
 from model.case_reader import read_cases
 from model.faults import Refused
-from model.fork import admitted, image
-from model.forms import ALPHABET, MAGICS, File, checked, crc, form_of, hqx_head, hqx_text, macbin, read_form, written
+from model.fork import admitted, image, number_at, type_places
+from model.forms import (ALPHABET, FORMS, MAGICS, File, checked, crc, form_of, hqx_head, hqx_text, macbin, read_form,
+                         written)
 from model.shown import resource_text
-from running import program_to_run
 from runs import run_all
 
-FORMS = ("raw", "double", "single", "macbin", "hqx")
 MOST_FILE, MOST = 2_000_000, 60_000  # the bytes of a file that is read, and of a resource that is taken
 
 
@@ -36,9 +36,7 @@ def resources_of_cases():
     """The resources of all forks of the case files, each once."""
     found = {}
     for name in sorted(glob.glob(os.path.join(TOP, "crates", "rezkit_cases", "data", "*.cases"))):
-        with open(name, encoding="utf-8") as file:
-            cases = read_cases(file.read())
-        for case in cases:
+        for case in read_cases(text_of_file(name)):
             for data in case.files.values():
                 if len(data) > MOST_FILE:
                     continue
@@ -88,19 +86,14 @@ class Maker:
 
     def fields_of_fork(self, data):
         """The places and lengths of the fields of a fork."""
-        def at(place, size):
-            return int.from_bytes(data[place:place + size], "big")
-        fields = [(0, 4), (4, 4), (8, 4), (12, 4)]
-        the_map = at(4, 4)
-        fields += [(the_map + 22, 2), (the_map + 24, 2), (the_map + 26, 2)]
-        types = the_map + at(the_map + 24, 2)
-        fields.append((types, 2))
-        for k in range(min((at(types, 2) + 1) % 65536, 40)):
-            entry = types + 2 + 8 * k
+        the_map = number_at(data, 4, 4)
+        fields = [(0, 4), (4, 4), (8, 4), (12, 4), (the_map + 22, 2), (the_map + 24, 2), (the_map + 26, 2),
+                  (the_map + number_at(data, the_map + 24, 2), 2)]
+        for entry, references in type_places(data, 40):
             fields += [(entry, 4), (entry + 4, 2), (entry + 6, 2)] * 2
-            for j in range(min((at(entry + 4, 2) + 1) % 65536, 40)):
-                one = types + at(entry + 6, 2) + 12 * j
-                fields += [(one, 2), (one + 2, 2), (one + 4, 1), (one + 5, 3), (one + 8, 4), (at(0, 4) + at(one + 5, 3), 4)]
+            for one in references:
+                content = number_at(data, 0, 4) + number_at(data, one + 5, 3)
+                fields += [(one, 2), (one + 2, 2), (one + 4, 1), (one + 5, 3), (one + 8, 4), (content, 4)]
         return fields
 
     def changed_fork(self, data):
@@ -200,7 +193,8 @@ def run(runs, number, words, files, expected):
     runs.run(number, words, files, wanted, answer)
 
 
-def steps(runs, count, maker):
+def steps(runs, count, seed):
+    maker = Maker(seed)
     for number in range(count):
         form = FORMS[number % len(FORMS)]
         data = maker.in_form(form, maker.file(maker.changed_fork(maker.fork())))
@@ -215,11 +209,7 @@ def steps(runs, count, maker):
 
 
 def main():
-    arguments = sys.argv[1:] + [None] * 3
-    program = os.path.abspath(arguments[0] or program_to_run())
-    count, maker = int(arguments[1] or 4000), Maker(int(arguments[2] or 1))
-    run_all(program, "rezkit-mutated-", lambda runs: steps(runs, count, maker),
-            "%d files of %d resources" % (count, len(maker.resources)))
+    run_all(sys.argv[1:], 4000, steps, "files")
 
 
 if __name__ == "__main__":

@@ -17,7 +17,7 @@ from model import shown
 from model.case_lines import byte_lines
 from model.faults import Refused
 from model.fork import fork_of
-from model.label_types import quotient, wrapped
+from model.label_types import LEVEL, value_of
 from model.quoting import quoted
 
 def some_bytes(count):
@@ -59,44 +59,15 @@ def fork_case(k):
 
 # Expressions.
 
-LEVELS = [["*", "/", "%"], ["+", "-"], ["<<", ">>"], [">", ">=", "<", "<="], ["==", "!="], ["&"], ["^"], ["|"],
-          ["&&"], ["||"]]
-LEVEL = {sign: level for level, signs in enumerate(LEVELS) for sign in signs}
 VALUES = [0, 1, 2, 3, 5, 7, 31, 32, 255, 65535, 2 ** 31 - 1, 2 ** 31, 2 ** 32 - 1]
-
-
-BINARY = {
-    "*": lambda a, b: a * b, "+": lambda a, b: a + b, "-": lambda a, b: a - b,
-    "/": quotient, "%": lambda a, b: a - b * quotient(a, b),
-    "<<": lambda a, b: a << b, ">>": lambda a, b: a >> b,
-    ">": lambda a, b: a > b, ">=": lambda a, b: a >= b, "<": lambda a, b: a < b, "<=": lambda a, b: a <= b,
-    "==": lambda a, b: a == b, "!=": lambda a, b: a != b,
-    "&": lambda a, b: a & b, "^": lambda a, b: a ^ b, "|": lambda a, b: a | b,
-    "&&": lambda a, b: a != 0 and b != 0, "||": lambda a, b: a != 0 or b != 0,
-}
-UNARY = {"-": lambda a: -a, "~": lambda a: ~a, "!": lambda a: a == 0}
-
-
-def value_of(tree):
-    """The value of an expression, or its first fault."""
-    if len(tree) == 1:
-        return wrapped(tree[0])
-    if len(tree) == 2:
-        return wrapped(int(UNARY[tree[0]](value_of(tree[1]))))
-    sign, left, right = tree[0], value_of(tree[1]), value_of(tree[2])
-    if sign in ("/", "%") and right == 0:
-        raise Refused(211)
-    if sign in ("<<", ">>") and not 0 <= right <= 31:
-        raise Refused(215, right)
-    return wrapped(int(BINARY[sign](left, right)))
 
 
 def some_expression(depth):
     kind = random.random()
     if depth == 0 or kind < 0.2:
-        return (random.choice(VALUES + [random.randrange(2 ** 32)]),)
+        return "number", random.choice(VALUES + [random.randrange(2 ** 32)])
     if kind < 0.4:
-        return random.choice(list(UNARY)), some_expression(depth - 1)
+        return random.choice("-~!"), some_expression(depth - 1)
     return random.choice(list(LEVEL)), some_expression(depth - 1), some_expression(depth - 1)
 
 
@@ -108,8 +79,8 @@ def literal(value):
 def spelled(tree, loosest):
     """The text of an expression, in brackets where its operator is looser than may stand there."""
     blank = random.choice(["", " ", "\t", "/* x */"])
-    if len(tree) == 1:
-        value = tree[0]
+    if tree[0] == "number":
+        value = tree[1]
         forms = ["$%X" % value, "0x%x" % value, "0b{:b}".format(value), "%d" % value, literal(value)]
         words = {0: "false", 1: "true"}
         return random.choice(forms + [words.get(value, "0%o" % value if value else "0")])
@@ -123,7 +94,7 @@ def spelled(tree, loosest):
 def id_case(text, tree):
     given = "| data 'Test' (%s) { };\n" % text
     try:
-        value = value_of(tree)
+        value = value_of(tree, None)
         if not -32768 <= value <= 32767:
             raise Refused(204, value)
     except Refused as fault:
@@ -134,7 +105,7 @@ def id_case(text, tree):
 def condition_case(text, tree):
     given = "| #if %s\n| data 'Test' (1) { };\n| #endif\n" % text
     try:
-        chosen = [(b"Test", 1, b"", 0, b"")] if value_of(tree) else []
+        chosen = [(b"Test", 1, b"", 0, b"")] if value_of(tree, None) else []
     except Refused:
         return given + "status 2\nerr text\n| rezkit: e.r:1: error 114 BadCondition\n"
     return given + "status 0\nleaves bytes x\n" + byte_lines(fork_of(chosen))

@@ -11,7 +11,6 @@ message, for five catalogues: that of the fork itself, and others with changed t
 too many, or with something changed in their bytes. Printed is how often each answer came. The status is 1 if another
 came. This is no part of the gate.
 """
-import os
 import random
 import re
 import sys
@@ -21,12 +20,10 @@ from random_rows import labelled, unlabelled
 from model.catalogues import entries_in, entry_text, message, restring, strings
 from model.faults import Refused
 from model.fork import image
-from model.forms import File, written
+from model.forms import FORMS, File, written
 from model.type_files import declarations_of, tokens_of
-from running import program_to_run
 from runs import run_all
 
-FORMS = ("raw", "double", "single", "macbin", "hqx")
 LETTERS = [0, 34, 39, 92, 97, 98, 99, 233, 255]
 
 
@@ -104,7 +101,8 @@ def run(runs, number, words, files, command):
     runs.run(number, words, files, (status, out, err, made), answer)
 
 
-def steps(runs, count):
+def steps(runs, count, seed):
+    random.seed(seed)
     for number in range(count):
         types, resources, data = some_file()
         files = {"f": data, "t.r": types.encode()}
@@ -117,11 +115,7 @@ def steps(runs, count):
 
 
 def main():
-    arguments = sys.argv[1:] + [None] * 3
-    program = os.path.abspath(arguments[0] or program_to_run())
-    count = int(arguments[1] or 2000)
-    random.seed(int(arguments[2] or 1))
-    run_all(program, "rezkit-catalogues-", lambda runs: steps(runs, count), "%d forks" % count)
+    run_all(sys.argv[1:], 2000, steps, "forks")
 
 
 if __name__ == "__main__":

@@ -11,13 +11,15 @@ import random
 import sys
 
 import top  # noqa: F401
+from random_types import some_row
+from runs import seeded
 from model.case_lines import content
 from model.faults import Refused
 from model.fork import image
 from model.label_spelling import is_spelled
 from model.label_types import (Align, Array, Expr, Fill, Format, Label, Number, Points, Switch, Text, at, at_row,
                          bits_at, byte_at, fact, items_text, key, long_at, num, number, row_of, rows_of, type_text, word_at)
-from model.labels import FACTS, bytes_of, check, row_labels, takes
+from model.labels import FACTS, bytes_of, check, row_labels
 
 PICK = random.choice
 
@@ -180,32 +182,13 @@ def filled(body, around, array=None):
     return out
 
 
-def some_row(body):
-    out = []
-    for field in body:
-        if not takes(field):
-            continue
-        if isinstance(field, Number):
-            most = 2 ** min(field.width, 31) - 1
-            low = 0 if field.form in ("char", "boolean") else -(2 ** (field.width - 1))
-            out.append(PICK([0, min(most, 1), min(most, 2), min(most, 3), min(most, 5), random.randrange(most + 1), low]))
-        elif isinstance(field, Text):
-            out.append(PICK([b"", b"a", b"bc", b"def", b"\0\xFF", b"longer text"]))
-        elif isinstance(field, Points):
-            out.append(tuple(PICK([0, 1, -1, 300, 65535]) for _ in range(field.count)))
-        elif isinstance(field, Array):
-            count = field.count if field.count is not None else PICK([0, 1, 2, 2, 3])
-            out.append([some_row(field.row) for _ in range(count)])
-        else:
-            name, row = PICK(field.cases)
-            out.append((name, some_row(row)))
-    return out
+TEXTS = [b"", b"a", b"bc", b"def", b"\0\xFF", b"longer text"]
 
 
 def case(k):
     while True:
         body = filled(Declaration().body(2), Named())
-        row = some_row(body)
+        row = some_row(body, TEXTS)
         facts = dict(FACTS, ID=random.randrange(-3, 40))
         source = type_text(body) + "resource 'Test' (%d) { %s };\n" % (facts["ID"], items_text(row))
         line, given = 1, ["case random labels %d" % k, "words rez s.r -o x"] + content("file", "s.r", source)
@@ -222,10 +205,7 @@ def case(k):
 
 
 def main():
-    if len(sys.argv) != 3:
-        sys.exit(__doc__)
-    random.seed(int(sys.argv[1]))
-    for k in range(int(sys.argv[2])):
+    for k in seeded():
         print("\n".join(case(k)))
 
 

@@ -9,9 +9,9 @@ The first case has what `derez` shows, and the second has this text after the ty
 the fork again. This is no part of the gate: the program can be tried against it for as long as one likes.
 """
 import random
-import sys
 
 import top  # noqa: F401
+from runs import seeded
 from random_types import LONG, changed, row_bytes, some_type
 from model import shown
 from model.case_lines import byte_lines
@@ -152,10 +152,7 @@ def cases(k):
 
 
 def main():
-    if len(sys.argv) != 3:
-        sys.exit(__doc__)
-    random.seed(int(sys.argv[1]))
-    for k in range(int(sys.argv[2])):
+    for k in seeded():
         cases(k)
 
 

@@ -10,7 +10,6 @@ bytes are of its fields, or nearly, or by chance; each text with a `resource` st
 give the fork. What comes has to be what templates.py and shown.py say, which know nothing of the code. Printed is how
 often each answer came. The status is 1 if another came. This is no part of the gate.
 """
-import os
 import random
 import re
 import sys
@@ -23,8 +22,7 @@ from model.label_types import Align, Fill, Number, Points, Text, UNITS
 from model.labels import width_of
 from model.shown import derez
 from model.templates import COUNTS, FIELDS, LISTS, types_of
-from model.type_files import Reader, tokens_of
-from running import program_to_run
+from model.type_files import fields_of
 from runs import run_all
 
 CODES = [*FIELDS, *COUNTS, *LISTS, "LSTE"]
@@ -158,7 +156,7 @@ class Maker:
         """A fork of resources of the types."""
         held = []
         for kind in [b"Test"] + [b"More"] * self.some(0, 1):
-            fields = [Reader(tokens_of(text + "}")).fields() for name, text in types if name == kind]
+            fields = [fields_of(text) for name, text in types if name == kind]
             for k in range(self.some(1, 2, 4)):
                 content = self.content(self.some(*fields)) if fields else self.bytes(self.random.randrange(4))
                 held.append((kind, 128 + k, b"", 0, content))
@@ -175,7 +173,8 @@ def wanted(templates, make):
     return fork, derez(["f", "-tmpl", "t"], {"f": fork, "t": templates}), ""
 
 
-def steps(runs, count, make):
+def steps(runs, count, seed):
+    make = Maker(seed)
     for number in range(count):
         templates = make.templates()
         fork, out, err = wanted(templates, make)
@@ -188,10 +187,7 @@ def steps(runs, count, make):
 
 
 def main():
-    program = os.path.abspath(sys.argv[1] if sys.argv[1:] else program_to_run())
-    count, seed = int((sys.argv[2:] + ["10000"])[0]), int((sys.argv[3:] + ["1"])[0])
-    make = Maker(seed)
-    run_all(program, "rezkit-templates-", lambda runs: steps(runs, count, make), "%d lists" % count)
+    run_all(sys.argv[1:], 10000, steps, "lists")
 
 
 if __name__ == "__main__":

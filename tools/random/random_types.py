@@ -252,18 +252,19 @@ LONG = SHORT + [b"\"'\\b\xE9" * 3, b"q" * 16, b"q" * 17, b"x'\0\\" * 16, b"z\"" 
 
 
 def some_row(body, texts=SHORT):
-    """A row of small values."""
+    """A row of small values, of which some are negative where the type has such."""
     out = []
     for field in body:
         if not takes(field):
             continue
         if isinstance(field, Number):
-            given = [value for _, value in field.symbols]
-            out.append(PICK([0, 1, 2, 3, 5, 255, random.randrange(2 ** field.width)] + given) % 2 ** field.width)
+            given = [0, 1, 2, 3, 5, 255, random.randrange(2 ** field.width)] + [value for _, value in field.symbols]
+            low = [] if field.form in ("char", "boolean") else [-(2 ** (field.width - 1))]
+            out.append(PICK([value % 2 ** field.width for value in given] + low))
         elif isinstance(field, Text):
             out.append(PICK(texts))
         elif isinstance(field, Points):
-            out.append(tuple(PICK([0, 1, 300, 65535]) for _ in range(field.count)))
+            out.append(tuple(PICK([0, 1, -1, 300, 65535]) for _ in range(field.count)))
         elif isinstance(field, Array):
             count = field.count if field.count is not None else PICK([0, 1, 1, 2, 2, 3])
             out.append([some_row(field.row, texts) for _ in range(count)])
