@@ -32,5 +32,5 @@ pub use fault::{BridgeFault, fault_at};
 pub use file::{Finder, MacFile, finder_is_stored};
 pub use macbin_in::macbin_read;
 pub use macbin_out::macbin_write;
-pub use place::piece_at;
+pub use place::{Span, piece_at, pieces_in};
 pub use refuse::file_refused;

@@ -8,7 +8,7 @@ ghost use Rattle.rz_bridge.specs.MacBinary.{macbin_extra, macbin_finder, macbin_
 use crate::fault::BridgeFault;
 use crate::file::{Finder, MacFile};
 use crate::macbin_rules::{data_length, data_place, macbin_torn, resource_length, resource_place};
-use crate::place::piece_at;
+use crate::place::{Span, piece_at, pieces_in};
 use rz_core::{Bytes, NoMemory, OsType, Stop, u8_at, u16_at, u32_at};
 use std::alloc::Global;
 
@@ -22,14 +22,14 @@ const SIGNATURE: u32 = 0x6D42_494E;
 ///
 /// Refused with the first broken rule, in the order 421, 422, 427, 424, 425, 426 (see [`BridgeFault`]). (MacBinary II
 /// and III.)
-pub fn macbin_read(alloc: Global, bytes: &[u8]) -> Result<MacFile, Stop<BridgeFault>>
-    requires { length bytes.now < 2 ^ 32 }
-    ensures file { Gives (macbin_content bytes.now) result }
+pub fn macbin_read(alloc: Global, bytes: Bytes) -> Result<MacFile, Stop<BridgeFault>>
+    requires { length bytes < 2 ^ 32 }
+    ensures file { Gives (macbin_content bytes) result }
     ensures data_fork { IfOk result (λ file. length file.data_fork < 2 ^ 32) }
     ensures res_fork { IfOk result (λ file. length file.res_fork < 2 ^ 32) }
     ensures sayable { OnFault result IsSayable }
 {
-    if let Some(fault) = macbin_torn(bytes) {
+    if let Some(fault) = macbin_torn(bytes.as_slice()) {
         return Err(Stop::Refused(fault));
     }
     Ok(read_fields(alloc, bytes)?)
@@ -37,23 +37,35 @@ pub fn macbin_read(alloc: Global, bytes: &[u8]) -> Result<MacFile, Stop<BridgeFa
 
 /// The file that the fields make.
 #[tactic(auto, unfolding(crate::specs::MacBinary::macbin_fields))]
-fn read_fields(alloc: Global, bytes: &[u8]) -> Result<MacFile, NoMemory>
-    requires { 128 ≤ length bytes.now }
-    ensures file { IfOk result (λ file. file ≡ macbin_fields bytes.now) }
-    ensures data_fork { IfOk result (λ file. length file.data_fork ≤ length bytes.now) }
-    ensures res_fork { IfOk result (λ file. length file.res_fork ≤ length bytes.now) }
+fn read_fields(alloc: Global, bytes: Bytes) -> Result<MacFile, NoMemory>
+    requires { 128 ≤ length bytes }
+    ensures file { IfOk result (λ file. file ≡ macbin_fields bytes) }
+    ensures data_fork { IfOk result (λ file. length file.data_fork ≤ length bytes) }
+    ensures res_fork { IfOk result (λ file. length file.res_fork ≤ length bytes) }
 {
-    let name = piece_at(bytes, 2, u8_at(bytes, 1) as usize);
-    let data_fork = piece_at(bytes, data_place(bytes), data_length(bytes));
-    let res_fork = piece_at(bytes, resource_place(bytes), resource_length(bytes));
+    let lent = bytes.as_slice();
+    let name = Bytes::of(alloc, piece_at(lent, 2, u8_at(lent, 1) as usize))?;
+    let finder = read_finder(lent);
+    let locked = u8_at(lent, 81) % 2 == 1;
+    let created = u32_at(lent, 91);
+    let modified = u32_at(lent, 95);
+    let data = Span {
+        place: data_place(lent),
+        count: data_length(lent),
+    };
+    let resource = Span {
+        place: resource_place(lent),
+        count: resource_length(lent),
+    };
+    let (data_fork, res_fork) = pieces_in(alloc, bytes, data, resource)?;
     Ok(MacFile {
-        name: Bytes::of(alloc, name)?,
-        finder: read_finder(bytes),
-        locked: u8_at(bytes, 81) % 2 == 1,
-        created: u32_at(bytes, 91),
-        modified: u32_at(bytes, 95),
-        data_fork: Bytes::of(alloc, data_fork)?,
-        res_fork: Bytes::of(alloc, res_fork)?,
+        name,
+        finder,
+        locked,
+        created,
+        modified,
+        data_fork,
+        res_fork,
     })
 }
 

@@ -37,7 +37,7 @@ pub fn file_in(
     ensures nameable { (files : ℕ) → IsMarked files mark → OnFault result (IsNameable files) }
 {
     let form = form_or(form, bytes.as_slice());
-    let file = content_of(alloc, form, bytes, data_file, mark)?;
+    let file = read_as(alloc, form, bytes, data_file.as_slice(), mark)?;
     is_file(file.res_fork.as_slice());
     Ok(file)
 }
@@ -52,39 +52,16 @@ fn form_or(form: Option<Form>, bytes: &[u8]) -> Form
     }
 }
 
-/// What bytes of a form hold. Those of a raw file become its resource fork.
-fn content_of(
-    alloc: Global,
-    form: Form,
-    bytes: Bytes,
-    data_file: Bytes,
-    mark: Option<Mark>,
-) -> Result<MacFile, Stop<Fault>>
-    requires { length bytes < 2 ^ 32 }
-    ensures file { Gives (or_broken mark (content_of form bytes data_file)) result }
-    ensures res_fork { IfOk result (λ file. length file.res_fork < 2 ^ 32) }
-    ensures nameable { (files : ℕ) → IsMarked files mark → OnFault result (IsNameable files) }
-{
-    if matches!(form, Form::Raw) {
-        let file = read_as(alloc, form, &[], &[], mark)?;
-        return Ok(MacFile {
-            res_fork: bytes,
-            ..file
-        });
-    }
-    read_as(alloc, form, bytes.as_slice(), data_file.as_slice(), mark)
-}
-
-/// What bytes of a form hold, copied.
+/// What bytes of a form hold.
 fn read_as(
     alloc: Global,
     form: Form,
-    bytes: &[u8],
+    bytes: Bytes,
     data_file: &[u8],
     mark: Option<Mark>,
 ) -> Result<MacFile, Stop<Fault>>
-    requires { length bytes.now < 2 ^ 32 }
-    ensures file { Gives (or_broken mark (content_of form bytes.now data_file.now)) result }
+    requires { length bytes < 2 ^ 32 }
+    ensures file { Gives (or_broken mark (content_of form bytes data_file.now)) result }
     ensures res_fork { IfOk result (λ file. length file.res_fork < 2 ^ 32) }
     ensures nameable { (files : ℕ) → IsMarked files mark → OnFault result (IsNameable files) }
 {

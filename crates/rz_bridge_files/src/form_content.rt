@@ -10,7 +10,7 @@ use rz_bridge::{
     BridgeFault, Finder, MacFile, double_read, double_write, macbin_read, macbin_write,
     single_read, single_write,
 };
-use rz_core::{Bytes, NoMemory, OsType, Stop};
+use rz_core::{Bytes, OsType, Stop};
 use rz_hqx::{hqx_read, hqx_write};
 use std::alloc::Global;
 
@@ -25,28 +25,28 @@ const UNKNOWN: OsType = OsType { code: 0x3F3F_3F3F };
 pub fn read_form(
     alloc: Global,
     form: Form,
-    bytes: &[u8],
+    bytes: Bytes,
     data_file: &[u8],
 ) -> Result<MacFile, Stop<BridgeFault>>
-    requires { length bytes.now < 2 ^ 32 }
-    ensures file { Gives (content_of form bytes.now data_file.now) result }
+    requires { length bytes < 2 ^ 32 }
+    ensures file { Gives (content_of form bytes data_file.now) result }
     ensures res_fork { IfOk result (λ file. length file.res_fork < 2 ^ 32) }
     ensures sayable { OnFault result IsSayable }
 {
     match form {
-        Form::Raw => Ok(read_raw(alloc, bytes)?),
-        Form::AppleDouble => double_read(alloc, bytes, data_file),
-        Form::AppleSingle => single_read(alloc, bytes),
+        Form::Raw => Ok(read_raw(alloc, bytes)),
+        Form::AppleDouble => double_read(alloc, bytes.as_slice(), data_file),
+        Form::AppleSingle => single_read(alloc, bytes.as_slice()),
         Form::MacBinary => macbin_read(alloc, bytes),
-        Form::BinHex => hqx_read(alloc, bytes),
+        Form::BinHex => hqx_read(alloc, bytes.as_slice()),
     }
 }
 
-/// The file whose resource fork is all of the bytes.
-fn read_raw(alloc: Global, bytes: &[u8]) -> Result<MacFile, NoMemory>
-    ensures { IfOk result (λ file. file ≡ raw_file bytes.now) }
+/// The file whose resource fork is all of the bytes. It takes no memory.
+fn read_raw(alloc: Global, bytes: Bytes) -> MacFile
+    ensures { result ≡ raw_file bytes }
 {
-    Ok(MacFile {
+    MacFile {
         name: Bytes::new(alloc),
         finder: Finder {
             kind: UNKNOWN,
@@ -61,8 +61,8 @@ fn read_raw(alloc: Global, bytes: &[u8]) -> Result<MacFile, NoMemory>
         created: 0,
         modified: 0,
         data_fork: Bytes::new(alloc),
-        res_fork: Bytes::of(alloc, bytes)?,
-    })
+        res_fork: bytes,
+    }
 }
 
 /// The one file of a form; of AppleDouble the header file, beside which the data fork is a file of its own. Of a raw

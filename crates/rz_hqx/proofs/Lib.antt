@@ -1,10 +1,11 @@
 pub mod Again
 pub mod Fielded
+pub mod Grouped
+pub mod Lettered
 pub mod Numbered
 pub mod Reading
 pub mod Short
 pub mod Sixes
 pub mod Spoken
-pub mod Steps
 pub mod Undone
 pub mod Writing

@@ -54,7 +54,7 @@ abbrev told : ℕ × ℕ → BridgeFault
 told one = fault 442 one.0 one.1
 
 -- a blank is no letter
-blank_none : (b : ℕ) → is_blank b ≡ true → number_of b ≡ None
+pub blank_none : (b : ℕ) → is_blank b ≡ true → number_of b ≡ None
 blank_none b blank =
     by_test (number_of b ≡ None) (b == 32) (λ is. ap number_of (eqb-true b 32 is))
     (λ a. by_test (number_of b ≡ None) (b == 9) (λ is. ap number_of (eqb-true b 9 is))

@@ -7,29 +7,12 @@ use Rattle.rz_core.proofs.Tests.{by_test}
 use Rattle.rz_core.specs.Lists.{or_else, unless_fault}
 use Rattle.rz_bridge.specs.Faults.{broken, fault}
 use Rattle.rz_bridge.specs.declared.fault.BridgeFault.{BridgeFault}
+use Rattle.rz_hqx.specs.Held.{last_of, run_behind, unpacked_behind}
 use Rattle.rz_hqx.specs.Runs.{cut_of, marked, meant, run_at_start, unpacked, with_byte, with_count, Cut}
 
 -- what is read of codes from a place on, after bytes that are known
 abbrev pub Read : Type 0
 Read = Result (List ℕ) BridgeFault
-
--- the last of some bytes
-abbrev pub last_of : List ℕ → ℕ
-last_of bytes = get_or bytes (length bytes - 1) 0
-
--- the bytes that codes from a place on stand for, after bytes that are known; and the same after a 90 at that place
-abbrev mutual
-  pub unpacked_behind : List ℕ → ℕ → List ℕ → Read
-  unpacked_behind front place [] = Ok front
-  unpacked_behind front place (x ∷ xs) =
-      if x == 144 then run_behind front place xs else unpacked_behind (front ++ x ∷ []) (place + 1) xs
-
-  pub run_behind : List ℕ → ℕ → List ℕ → Read
-  run_behind front place [] = Err (fault 445 place 1)
-  run_behind front place (count ∷ xs) =
-      if count == 0 then unpacked_behind (front ++ 144 ∷ []) (place + 2) xs
-      else if length front == 0 then Err (fault 446 place count)
-      else unpacked_behind (front ++ replicate (count - 1) (last_of front)) (place + 2) xs
 
 -- the bytes that counts add after a byte
 abbrev grown : ℕ → List ℕ → List ℕ

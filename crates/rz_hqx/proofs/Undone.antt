@@ -1,12 +1,15 @@
 -- What bytes are cut into, and what codes are read as; so bytes that were written are read again.
-use Rattle.std.proofs.Common.{◌≡◌, ◌≢◌, ℕ, zero, suc, ◌+◌, ◌-◌, ◌*◌, ◌/◌, ◌%◌, ◌≤◌, ◌==◌, nat_lt, if◌then◌else◌, Bool, true, false, List, [], ◌∷◌, ◌++◌, length, replicate, Ok, refl, sym, ap, subst, ◌∙◌, arith, append_assoc}
+use Rattle.std.proofs.Common.{◌≡◌, ◌≢◌, ℕ, zero, suc, ◌+◌, ◌-◌, ◌*◌, ◌/◌, ◌%◌, ◌≤◌, ◌==◌, nat_lt, if◌then◌else◌, Bool, true, false, List, [], ◌∷◌, ◌++◌, length, replicate, Ok, Err, Result, refl, sym, ap, subst, ◌∙◌, arith, append_assoc}
 use Rattle.std.proofs.lemmas.Bool.{eqb-true, eqb-false, ltb-false, ne_eqb}
 use Rattle.std.proofs.lemmas.List.{append-nil, replicate-append-replicate}
 use Rattle.std.proofs.lemmas.List.Concat.{flat_map-append}
 use Rattle.std.specs.List.{flat_map, AllByRecursion}
 use Rattle.rz_core.proofs.Lists.{all_append}
 use Rattle.rz_core.proofs.Tests.{by_test}
+use Rattle.std.specs.Prelude.{IfOk}
 use Rattle.rz_core.specs.Lists.{or_else, unless_fault}
+use Rattle.rz_core.specs.Stop.{Gives}
+use Rattle.rz_core.specs.declared.stop.Stop.{Stop}
 use Rattle.rz_bridge.specs.Faults.{broken, fault}
 use Rattle.rz_bridge.specs.declared.fault.BridgeFault.{BridgeFault}
 use Rattle.rz_hqx.specs.Runs.{before_runs, cut_of, equal_codes, literal, marked, meant, packed, run_at_start, run_codes, runs_of, stored, unpacked, with_byte, with_count, Code, Cut, IsCode, IsCoding, Run}
@@ -216,3 +219,8 @@ pub packed_again : (bytes : List ℕ) → unpacked (packed bytes) ≡ Ok bytes
 unfolding packed
 packed_again bytes =
     let runs = runs_of bytes in codes_read (flat_map run_codes runs) (all_runs runs) ∙ ap Ok (meant_runs runs ∙ spelled_runs bytes)
+
+-- what was read is what the codes mean
+pub coding_given : (coded : List ℕ) (result : Result (List ℕ) (Stop BridgeFault)) → Gives (unpacked coded) result → IfOk result (IsCoding coded)
+coding_given coded (Ok bytes) is = coding_read coded bytes is
+coding_given coded (Err stop) is = tt

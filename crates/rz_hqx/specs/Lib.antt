@@ -1,4 +1,5 @@
 pub mod Runs
 pub mod Letters
 pub mod Text
+pub mod Held
 pub mod BinHex

@@ -1,8 +1,9 @@
 //! The bytes that run codes stand for, or the first fault. What those are is in `specs/Runs`.
 
-ghost use Rattle.std.specs.Prelude.{◌≡◌, ◌<◌, ◌+◌, ◌-◌, ◌^◌, ◌++◌, length, replicate, slice_index, IfOk, OnOk, Ok};
+ghost use Rattle.std.specs.Prelude.{◌≡◌, ◌<◌, ◌≤◌, ◌+◌, ◌-◌, ◌^◌, ◌++◌, [], ◌∷◌, ℕ, List, length, replicate, slice_index, IfOk, OnOk, Ok};
 ghost use Rattle.rz_core.specs.Stop.{Gives, OnFault};
 ghost use Rattle.rz_bridge.specs.Faults.{IsSayable};
+ghost use Rattle.rz_hqx.specs.Held.{undone};
 ghost use Rattle.rz_hqx.specs.Runs.{unpacked, IsCoding};
 
 use crate::coded::MARK;
@@ -21,31 +22,98 @@ pub fn runs_read(alloc: Global, coded: &[u8]) -> Result<Bytes, Stop<BridgeFault>
     ensures codes { IfOk result (IsCoding coded.now) }
     ensures sayable { OnFault result IsSayable }
 {
-    let mut out = Bytes::with_capacity(alloc, coded.len())?;
-    let mut place = 0;
-    let mut marked = false;
+    let mut undoing = Undoing::with_capacity(alloc, coded.len())?;
     for code in coded {
-        if marked {
-            if *code == 0 {
-                out.push(MARK)?;
-            } else if out.is_empty() {
-                return Err(Stop::Refused(fault_at(446, place, u64::from(*code))));
-            } else {
-                append_copies(&mut out, *code - 1)?;
+        undoing.take(*code)?;
+    }
+    undoing.finish()
+}
+
+/// What stands before the next code.
+#[derive(Clone, Copy)]
+pub enum Before {
+    /// Whole codes.
+    Whole,
+    /// A 90 that waits for its count.
+    Mark,
+    /// A count that has no byte before it.
+    Fault(u8),
+}
+
+/// The bytes that codes stand for, which are taken one after the other.
+#[derive(Drop)]
+pub struct Undoing {
+    /// The bytes of the codes before.
+    pub out: Bytes,
+    /// How many whole codes are before.
+    pub place: usize,
+    /// What stands before the next code.
+    pub before: Before,
+}
+
+impl Undoing {
+    /// No codes before, with memory for so many bytes.
+    pub fn with_capacity(alloc: Global, size: usize) -> Result<Undoing, NoMemory>
+        ensures undone { IfOk result (λ undoing. (codes : List ℕ) → undone undoing codes ≡ unpacked codes) }
+        ensures place { IfOk result (λ undoing. undoing.place ≡ 0) }
+    {
+        Ok(Undoing {
+            out: Bytes::with_capacity(alloc, size)?,
+            place: 0,
+            before: Before::Whole,
+        })
+    }
+
+    /// Takes the next code.
+    pub fn take(&mut self, code: u8) -> Result<(), NoMemory>
+        requires { self.old.place < 2 ^ 40 }
+        ensures undone { OnOk result ((codes : List ℕ) → undone self.new codes ≡ undone self.old (code ∷ codes)) }
+        ensures place { OnOk result (self.new.place ≤ self.old.place + 2) }
+    {
+        match self.before {
+            Before::Whole if code == MARK => self.before = Before::Mark,
+            Before::Whole => {
+                self.out.push(code)?;
+                self.place += 1;
             }
-            marked = false;
-            place += 2;
-        } else if *code == MARK {
-            marked = true;
+            Before::Mark => self.take_count(code)?,
+            Before::Fault(_) => {}
+        }
+        Ok(())
+    }
+
+    /// Takes the count after a 90.
+    fn take_count(&mut self, count: u8) -> Result<(), NoMemory>
+        requires place { self.old.place < 2 ^ 40 }
+        requires mark { self.old.before ≡ Before.Mark }
+        ensures undone { OnOk result ((codes : List ℕ) → undone self.new codes ≡ undone self.old (count ∷ codes)) }
+        ensures place { OnOk result (self.new.place ≤ self.old.place + 2) }
+    {
+        if count == 0 {
+            self.out.push(MARK)?;
+        } else if self.out.is_empty() {
+            self.before = Before::Fault(count);
+            return Ok(());
         } else {
-            out.push(*code)?;
-            place += 1;
+            append_copies(&mut self.out, count - 1)?;
+        }
+        self.before = Before::Whole;
+        self.place += 2;
+        Ok(())
+    }
+
+    /// The bytes, where no code comes after those before.
+    pub fn finish(self) -> Result<Bytes, Stop<BridgeFault>>
+        ensures bytes { Gives (undone self []) result }
+        ensures sayable { OnFault result IsSayable }
+    {
+        let Undoing { out, place, before } = self;
+        match before {
+            Before::Whole => Ok(out),
+            Before::Mark => Err(Stop::Refused(fault_at(445, place, 1))),
+            Before::Fault(count) => Err(Stop::Refused(fault_at(446, place, u64::from(count)))),
         }
     }
-    if marked {
-        return Err(Stop::Refused(fault_at(445, place, 1)));
-    }
-    Ok(out)
 }
 
 /// Appends so many copies of the last byte.

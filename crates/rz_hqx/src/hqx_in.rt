@@ -5,13 +5,12 @@ ghost use Rattle.rz_core.specs.Stop.{Gives, OnFault};
 ghost use Rattle.rz_bridge.specs.Faults.{IsSayable};
 ghost use Rattle.rz_hqx.specs.BinHex.{kind_place, hqx_finder, hqx_fields, decoded_content, hqx_content};
 
-use crate::decoded::runs_read;
+use crate::body::decoded_in;
 use crate::fields::{
     data_length, data_place, fields_torn, kind_place, name_length, resource_length, resource_place,
 };
-use crate::letters::eights;
-use crate::text::{behind_colon, behind_head, numbers_in};
-use rz_bridge::{BridgeFault, Finder, MacFile, fault_at, piece_at};
+use crate::text::{behind_colon, behind_head};
+use rz_bridge::{BridgeFault, Finder, MacFile, Span, fault_at, piece_at, pieces_in};
 use rz_core::{Bytes, NoMemory, OsType, Stop, u16_at, u32_at};
 use std::alloc::Global;
 
@@ -37,20 +36,18 @@ pub fn hqx_read(alloc: Global, bytes: &[u8]) -> Result<MacFile, Stop<BridgeFault
     let Some(body) = behind_colon(behind_head(bytes)) else {
         return Err(Stop::Refused(fault_at(441, 0, 0)));
     };
-    let numbers = numbers_in(alloc, bytes.len() - body.len(), body)?;
-    let coded = eights(alloc, numbers.as_slice())?;
-    let decoded = runs_read(alloc, coded.as_slice())?;
-    read_decoded(alloc, decoded.as_slice())
+    let decoded = decoded_in(alloc, bytes.len() - body.len(), body)?;
+    read_decoded(alloc, decoded)
 }
 
 /// The file of decoded bytes.
-fn read_decoded(alloc: Global, bytes: &[u8]) -> Result<MacFile, Stop<BridgeFault>>
-    ensures file { Gives (decoded_content bytes.now) result }
+fn read_decoded(alloc: Global, bytes: Bytes) -> Result<MacFile, Stop<BridgeFault>>
+    ensures file { Gives (decoded_content bytes) result }
     ensures data_fork { IfOk result (λ file. length file.data_fork < 2 ^ 32) }
     ensures res_fork { IfOk result (λ file. length file.res_fork < 2 ^ 32) }
     ensures sayable { OnFault result IsSayable }
 {
-    if let Some(fault) = fields_torn(bytes) {
+    if let Some(fault) = fields_torn(bytes.as_slice()) {
         return Err(Stop::Refused(fault));
     }
     Ok(read_fields(alloc, bytes)?)
@@ -58,24 +55,33 @@ fn read_decoded(alloc: Global, bytes: &[u8]) -> Result<MacFile, Stop<BridgeFault
 
 /// The file that the fields make.
 #[tactic(auto, unfolding(crate::specs::BinHex::hqx_fields))]
-fn read_fields(alloc: Global, bytes: &[u8]) -> Result<MacFile, NoMemory>
-    requires some { 1 ≤ length bytes.now }
-    requires header { kind_place bytes.now + 20 ≤ length bytes.now }
-    ensures file { IfOk result (λ file. file ≡ hqx_fields bytes.now) }
+fn read_fields(alloc: Global, bytes: Bytes) -> Result<MacFile, NoMemory>
+    requires some { 1 ≤ length bytes }
+    requires header { kind_place bytes + 20 ≤ length bytes }
+    ensures file { IfOk result (λ file. file ≡ hqx_fields bytes) }
     ensures data_fork { IfOk result (λ file. length file.data_fork < 2 ^ 32) }
     ensures res_fork { IfOk result (λ file. length file.res_fork < 2 ^ 32) }
 {
-    let name = piece_at(bytes, 1, name_length(bytes));
-    let data_fork = piece_at(bytes, data_place(bytes), data_length(bytes));
-    let res_fork = piece_at(bytes, resource_place(bytes), resource_length(bytes));
+    let lent = bytes.as_slice();
+    let name = Bytes::of(alloc, piece_at(lent, 1, name_length(lent)))?;
+    let finder = read_finder(lent);
+    let data = Span {
+        place: data_place(lent),
+        count: data_length(lent),
+    };
+    let resource = Span {
+        place: resource_place(lent),
+        count: resource_length(lent),
+    };
+    let (data_fork, res_fork) = pieces_in(alloc, bytes, data, resource)?;
     Ok(MacFile {
-        name: Bytes::of(alloc, name)?,
-        finder: read_finder(bytes),
+        name,
+        finder,
         locked: false,
         created: 0,
         modified: 0,
-        data_fork: Bytes::of(alloc, data_fork)?,
-        res_fork: Bytes::of(alloc, res_fork)?,
+        data_fork,
+        res_fork,
     })
 }
 

@@ -2,7 +2,7 @@
 
 ghost use Rattle.std.specs.Prelude.{◌≡◌, ◌<◌, ◌+◌, ◌*◌, ◌/◌, ◌%◌, ◌++◌, length, slice_index, IfOk, OnOk, IfSome};
 ghost use Rattle.std.specs.List.{AllByRecursion};
-ghost use Rattle.rz_hqx.specs.Letters.{letter, number_of, sixes, eights};
+ghost use Rattle.rz_hqx.specs.Letters.{letter, number_of, sixes};
 
 use rz_core::{Bytes, NoMemory};
 use std::alloc::Global;
@@ -97,38 +97,6 @@ fn append_last_sixes(out: &mut Bytes, rest: &[u8]) -> Result<(), NoMemory>
             out.push(*b % 16 * 4)?;
         } else {
             out.push(*a % 4 * 16)?;
-        }
-    }
-    Ok(())
-}
-
-/// Bytes out of sixes of bits; fewer than eight bits at the end are dropped.
-pub fn eights(alloc: Global, numbers: &[u8]) -> Result<Bytes, NoMemory>
-    requires { AllByRecursion (λ n. n < 64) numbers.now }
-    ensures { IfOk result (λ bytes. bytes ≡ eights numbers.now) }
-{
-    let mut out = Bytes::with_capacity(alloc, numbers.len() / 4 * 3 + 3)?;
-    let mut rest = numbers;
-    while let [p, q, r, s, after @ ..] = rest {
-        out.push(*p * 4 + *q / 16)?;
-        out.push(*q % 16 * 16 + *r / 4)?;
-        out.push(*r % 4 * 64 + *s)?;
-        rest = after;
-    }
-    append_last_eights(&mut out, rest)?;
-    Ok(out)
-}
-
-/// Appends the bytes of up to three numbers.
-fn append_last_eights(out: &mut Bytes, rest: &[u8]) -> Result<(), NoMemory>
-    requires few { length rest.now < 4 }
-    requires small { AllByRecursion (λ n. n < 64) rest.now }
-    ensures { OnOk result (out.new ≡ out.old ++ eights rest.now) }
-{
-    if let [p, q, after @ ..] = rest {
-        out.push(*p * 4 + *q / 16)?;
-        if let [r, ..] = after {
-            out.push(*q % 16 * 16 + *r / 4)?;
         }
     }
     Ok(())

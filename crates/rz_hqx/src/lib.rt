@@ -5,6 +5,7 @@
 //! What the form is stands in `specs`, which changes with it.
 #![tactic(auto)]
 
+mod body;
 mod coded;
 mod decoded;
 mod fields;

@@ -1,15 +1,12 @@
 //! The text of BinHex: the first line, the colons, and lines of letters; changed only with `specs/Text`.
 
-ghost use Rattle.std.specs.Prelude.{◌≡◌, ◌<◌, ◌≤◌, ◌+◌, ◌^◌, ◌++◌, ◌∷◌, [], length, IfOk, IfSome, OnOk};
+ghost use Rattle.std.specs.Prelude.{◌≡◌, ◌<◌, ◌≤◌, ◌++◌, ◌∷◌, [], length, IfOk, IfSome, OnOk};
 ghost use Rattle.std.specs.List.{AllByRecursion};
 ghost use Rattle.std.specs.Option.{option_copied};
-ghost use Rattle.rz_core.specs.Stop.{Gives, OnFault};
-ghost use Rattle.rz_bridge.specs.Faults.{IsSayable};
-ghost use Rattle.rz_hqx.specs.Text.{is_line_end, is_blank, behind_line, behind_head, behind_colon, numbers_in, gap_at, lines_of};
+ghost use Rattle.rz_hqx.specs.Text.{is_line_end, is_blank, behind_line, behind_head, behind_colon, gap_at, lines_of};
 
-use crate::letters::{letter, number_of};
-use rz_bridge::{BridgeFault, fault_at};
-use rz_core::{Bytes, NoMemory, Stop};
+use crate::letters::letter;
+use rz_core::{Bytes, NoMemory};
 use std::alloc::Global;
 
 /// How the line begins after which the letters stand.
@@ -19,15 +16,17 @@ const HEAD: &[u8] = b"(This file must be converted with BinHex";
 const HEAD_LINE: &[u8] = b"(This file must be converted with BinHex 4.0)\n";
 
 /// The byte before and after the letters.
-const COLON: u8 = b':';
+pub const COLON: u8 = b':';
 
+/// Whether a line ends at the byte: a line feed or a carriage return.
 fn is_line_end(byte: u8) -> bool
     ensures { result ≡ is_line_end byte }
 {
     byte == b'\n' || byte == b'\r'
 }
 
-fn is_blank(byte: u8) -> bool
+/// Whether the byte stands for nothing among letters: a blank, a tab or the end of a line. (BinHex 4.0.)
+pub fn is_blank(byte: u8) -> bool
     ensures { result ≡ is_blank byte }
 {
     byte == b' ' || byte == b'\t' || is_line_end(byte)
@@ -81,31 +80,6 @@ pub fn behind_colon(bytes: &[u8]) -> Option<&[u8]>
         rest = after;
     }
     None
-}
-
-/// The numbers of the letters up to the next colon, from a place on, in bytes from the start of the text.
-pub fn numbers_in(alloc: Global, place: usize, body: &[u8]) -> Result<Bytes, Stop<BridgeFault>>
-    requires { place + length body.now < 2 ^ 32 }
-    ensures numbers { Gives (numbers_in place body.now) result }
-    ensures small { IfOk result (AllByRecursion (λ n. n < 64)) }
-    ensures few { IfOk result (λ numbers. length numbers ≤ length body.now) }
-    ensures sayable { OnFault result IsSayable }
-{
-    let mut out = Bytes::with_capacity(alloc, body.len())?;
-    let mut at = place;
-    for byte in body {
-        if *byte == COLON {
-            return Ok(out);
-        }
-        if !is_blank(*byte) {
-            let Some(number) = number_of(*byte) else {
-                return Err(Stop::Refused(fault_at(442, at, u64::from(*byte))));
-            };
-            out.push(number)?;
-        }
-        at += 1;
-    }
-    Err(Stop::Refused(fault_at(443, at, at as u64)))
 }
 
 /// Appends a character after so many others, on a line of its own after each 64.

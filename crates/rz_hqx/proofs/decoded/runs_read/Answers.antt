@@ -1,16 +1,13 @@
-use Rattle.std.proofs.Common.{◌≡◌, List, ℕ, Ok, ap, ◌∙◌, arith}
-use Rattle.std.proofs.lemmas.Grind.{common_steps}
-use Rattle.rz_hqx.specs.Runs.{unpacked}
-use Rattle.rz_hqx.proofs.Reading.{unpacked_behind, unpacked_is}
-use Rattle.rz_hqx.proofs.Undone.{coding_read}
+use Rattle.std.proofs.Common.{List, ℕ, Result, sym, subst, ◌∙◌}
+use Rattle.std.proofs.lemmas.List.{at_drop_all}
+use Rattle.rz_core.specs.Stop.{Gives}
+use Rattle.rz_bridge.specs.declared.fault.BridgeFault.{BridgeFault}
+use Rattle.rz_hqx.specs.Held.{undone}
+use Rattle.rz_hqx.proofs.Undone.{coding_given}
 use Rattle.rz_hqx.proofs.decoded.runs_read.Goals as goal
-
-pub loop-code-init : goal.loop-code-init
-loop-code-init c = record {
-  so_far = ap (λ (out : List ℕ). unpacked_behind out 0 c.args.coded.now) c.in_ok-out.ensures ∙ unpacked_is c.args.coded.now;
-  within = omega arith;
-}
 
 pub returns-clause-codes : goal.returns-clause-codes
 returns-clause-codes c =
-    let told : unpacked c.args.coded.now ≡ Ok c.loop-code.out = grind (arith, common_steps) in coding_read c.args.coded.now c.loop-code.out told
+    let coded = c.args.coded.now in
+    let ends = sym (at_drop_all (undone c.loop-code.undoing) coded c.loop-code.code-index c.loop-code-test.false) ∙ c.loop-code.invariant.so_far in
+    coding_given coded c.finish.result (subst (λ (r : Result (List ℕ) BridgeFault). Gives r c.finish.result) ends c.finish.ensures.bytes)
