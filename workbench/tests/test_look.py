@@ -294,8 +294,8 @@ def test_a_break_leaves_nothing(tmp_path):
     pipe = os.open(str(tmp_path / "pipe"), os.O_WRONLY)  # waits until the program opens it
     made = [name for name in names_in(tmp_path) if name.startswith(".rezkit-")]
     running.send_signal(signal.SIGINT)
+    os.close(pipe)  # a break that came just before the program began to wait is seen when the waiting ends
     assert running.wait(60) == 130 and running.stderr.read() == b"" and len(made) == 1
-    os.close(pipe)
     running.stderr.close()
     assert names_in(tmp_path) == ["fork", "pipe"]
 

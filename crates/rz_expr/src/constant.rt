@@ -1,7 +1,6 @@
 //! Constants: expressions without names and functions, and their values. They are defined in `specs/Constant`.
 
 ghost use Rattle.std.specs.Prelude.{◌≡◌, IfOk, option_map};
-ghost use Rattle.std.proofs.Common.{rules};
 ghost use Rattle.rz_expr.specs.Constant.{constant_of, constant_sight, is_constant, IsConstant};
 ghost use Rattle.rz_expr.specs.Term.{term_of};
 ghost use Rattle.rz_core.specs.Decided.{Decided};
@@ -19,8 +18,6 @@ pub struct ConstantEnv;
 impl Env for ConstantEnv {
     ghost view = { λ _. constant_sight };
 
-    ghost belongs = { λ _ finished. finished ≡ constant_sight };
-
     fn give(&self, key: Key<'_>) -> Option<i128> {
         value_outside(key)
     }
@@ -32,8 +29,6 @@ impl Env for ConstantEnv {
     fn fact(&self, _which: FactWord) -> i32 {
         0
     }
-
-    ghost law = { Prim.search rules };
 }
 
 /// Whether an expression is a constant: it has no names but `true` and `false`, and no `$$` functions. (MPW

@@ -2,7 +2,7 @@
 
 ghost use Rattle.std.specs.Prelude.{◌≡◌, ◌≤ℤ◌, pos, option_map};
 ghost use Rattle.rz_expr.specs.Constant.{predefined_key};
-ghost use Rattle.rz_expr.specs.Environment.{Sight, IsSeenIn, predefined};
+ghost use Rattle.rz_expr.specs.Environment.{Sight, predefined};
 ghost use Rattle.rz_expr.specs.NameKey.{key_of};
 ghost use Rattle.rz_expr.specs.Value.{reduced};
 
@@ -58,9 +58,6 @@ pub trait Env {
     /// What is seen.
     ghost view: { Self → Sight };
 
-    /// The finished sights of which the view is a part.
-    ghost belongs: { Self → Sight → Type 0 };
-
     /// The value of a key, not wrapped to 32 bits. `None` where the key has none.
     fn give(&self, key: Key<'_>) -> Option<i128>
         ensures { result ≡ (view self.now).names.give (key_of key.entry) };
@@ -74,7 +71,4 @@ pub trait Env {
     /// A fact of the resource or the moment, wrapped to 32 bits with a sign.
     fn fact(&self, which: FactWord) -> i32
         ensures { result ≡ reduced ((view self.now).fact which) };
-
-    /// What the view shows, each finished sight shows too of which the view is a part.
-    ghost law: { (env : Self) (finished : Sight) → belongs env finished → IsSeenIn (view env) finished };
 }

@@ -8,7 +8,8 @@
 //!   of an `Expr`), and so is all that holds one, as a field or an item: contracts name no private field.
 //! - What an expression sees is three things: values of names and arrays, the bits of the resource, and the facts.
 //!   Places of labels, in rows too, counts of rows and numbers of rows have keys of one type. `Env` answers one
-//!   question of names, the whole value of a key, and two more, of bits and of facts.
+//!   question of names, the whole value of a key, and two more, of bits and of facts. What is a value in one sight is
+//!   the value in each that shows more (`values_stay`), so an environment needs no law of its own.
 //! - `Env` is a trait without default bodies: one would be proved once for all implementations, and couldn't use what
 //!   one of them alone has, so an exact clause would have no proof.
 #![tactic(auto)]

@@ -1,10 +1,10 @@
 //! The value of an expression, or its first fault. What each operator gives is in `specs/Value`.
 
-ghost use Rattle.std.specs.Prelude.{◌≡◌, ◌≢◌, ◌^◌, ◌+ℤ◌, ◌*ℤ◌, false, pos, int_div, int_rem, IfOk, Ok, Err};
+ghost use Rattle.std.specs.Prelude.{◌≡◌, ◌≢◌, ◌^◌, ◌+ℤ◌, ◌*ℤ◌, false, pos, int_div, int_rem, Err};
 ghost use Rattle.std.specs.Int.{int_shr};
 ghost use Rattle.rz_core.specs.Stop.{Gives};
 ghost use Rattle.rz_core.specs.declared.stop.Stop.TheVariants as stop;
-ghost use Rattle.rz_expr.specs.Environment.{Sight, rows_key};
+ghost use Rattle.rz_expr.specs.Environment.{rows_key};
 ghost use Rattle.rz_expr.specs.Mention.{has_names};
 ghost use Rattle.rz_expr.specs.NameKey.{key_of};
 ghost use Rattle.rz_expr.specs.Term.{term_of};
@@ -60,8 +60,6 @@ pub fn eval<E: Env>(alloc: Global, expr: &Expr, env: &E) -> Result<i32, Stop<Eva
     ensures value { Gives (value_of (term_of expr.now) (E.view env.now)) result }
     ensures nameless { has_names (term_of expr.now) ≡ false → result ≢ Err stop.NoMemory }
     ensures memory { result ≡ Err stop.NoMemory → IsUnknown (value_of (term_of expr.now) (E.view env.now)) }
-    ensures finished { (finished : Sight) → E.belongs env.now finished
-        → IfOk result (λ value. value_of (term_of expr.now) finished ≡ Ok value) }
 {
     match value_in(expr, env) {
         Ok(value) => Ok(value),

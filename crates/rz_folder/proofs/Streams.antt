@@ -1,6 +1,7 @@
 -- What puts and flushes change, one after the other.
-use Rattle.std.proofs.Common.{◌≡◌, ◌≢◌, inl, inr, ℕ, List, [], ◌∷◌, ◌++◌, Some, None, Ok, refl, sym, ap, subst, ◌∙◌, append_assoc, append-nil}
+use Rattle.std.proofs.Common.{◌≡◌, ◌≢◌, inl, inr, ℕ, List, [], ◌∷◌, ◌++◌, Some, None, Ok, refl, sym, ap, subst, ◌∙◌, append_assoc, append-nil, arith}
 use Rattle.std.specs.declared.option.Option.{Option}
+use Rattle.rz_folder.specs.Counts.{faults_with, next, Rose}
 use Rattle.rz_folder.specs.Sink.{all_out, written, Flushes, Got, GotBut, GotFront, GotPart, IsFlushed, IsFront, IsOut, Puts, PutsOut, Stream, Told}
 use Rattle.rz_folder.specs.declared.sink.Put.{Put}
 use Rattle.rz_folder.specs.declared.sink.Put.TheVariants.{Done, Failed}
@@ -97,6 +98,23 @@ told_same P so (Some s) = so s
 pub put_flushed : (text : List ℕ) (a b c : Option Stream) (result : Put) → Puts text a b Done → Flushes b c result → PutsOut text a c (Ok result)
 put_flushed text a b c Done put flush = told_then (Got text) (IsFlushed []) (IsFlushed text) (got_flushed text) a b c put flush
 put_flushed text a b c Failed put flush = told_then (Got text) (Got []) (GotFront text) (flush_failed text) a b c put flush
+
+-- Counts of faults.
+
+pub kept_with : (before after : ℕ) (put : Put) → put ≡ Done → after ≡ faults_with before put → after ≡ before
+kept_with before after Done is counted = counted
+kept_with before after Failed is counted = absurd (cc is)
+
+pub failed_with : (before after : ℕ) (put : Put) → put ≡ Failed → after ≡ faults_with before put → after ≡ next before
+failed_with before after Done is counted = absurd (cc is)
+failed_with before after Failed is counted = counted
+
+pub rose_with : (before after : ℕ) (put : Put) → after ≡ faults_with before put → put ≡ Failed → Rose before after
+rose_with before after put counted is = (let more = failed_with before after put is counted in omega (arith, more))
+
+-- a call after one that was done
+pub then_with : (before mid after : ℕ) (put : Put) → mid ≡ before → after ≡ faults_with mid put → after ≡ faults_with before put
+then_with before mid after put same counted = counted ∙ ap (λ (n : ℕ). faults_with n put) same
 
 -- Of a sink that holds nothing back.
 

@@ -1,12 +1,10 @@
--- What contracts see of a folder of the host's (writes and faults) and of a sink (faults).
+-- What contracts see of a folder of the host's: writes and faults.
 use Rattle.std.specs.Prelude.{ℕ}
 use Rattle.rz_folder.specs.Counts.{next}
 use Rattle.rz_folder.specs.declared.folder.Read.{Read}
 use Rattle.rz_folder.specs.declared.folder.Read.TheVariants as read
 use Rattle.rz_folder.specs.declared.folder.Written.{Written}
 use Rattle.rz_folder.specs.declared.folder.Written.TheVariants as written
-use Rattle.rz_folder.specs.declared.sink.Put.{Put}
-use Rattle.rz_folder.specs.declared.sink.Put.TheVariants as put
 
 -- the numbers of reads and of writes that failed, and that of all writes
 pub record RealCounts : Type 0 where
@@ -25,8 +23,3 @@ after_read s read.NoMemory = s
 abbrev pub after_write : RealCounts → Written → RealCounts
 after_write s written.Done = record s { writes = next s.writes }
 after_write s written.Failed = record s { write_faults = next s.write_faults; writes = next s.writes }
-
--- the count of a sink after a put that ended so
-abbrev pub after_put : ℕ → Put → ℕ
-after_put faults put.Done = faults
-after_put faults put.Failed = next faults

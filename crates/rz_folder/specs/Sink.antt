@@ -4,6 +4,7 @@ use Rattle.std.specs.declared.option.Option.{Option}
 use Rattle.std.specs.declared.option.Option.TheVariants.{Some, None}
 use Rattle.std.specs.declared.result.Result.{Result}
 use Rattle.rz_core.specs.declared.stop.NoMemory.{NoMemory}
+use Rattle.rz_folder.specs.Counts.{faults_with}
 use Rattle.rz_folder.specs.declared.sink.Put.{Put}
 use Rattle.rz_folder.specs.declared.sink.Put.TheVariants.{Done, Failed}
 
@@ -77,3 +78,9 @@ abbrev pub PutsOut : List ℕ → Option Stream → Option Stream → Result Put
 PutsOut text before after (Ok Done) = Told (IsFlushed text) before after
 PutsOut text before after (Ok Failed) = Told (GotFront text) before after
 PutsOut text before after (Err refused) = Told (GotPart text) before after
+
+-- The faults that a sink counts after a text was put piece by piece: one more after a call that failed, for no call came
+-- after that one; where memory was refused none.
+abbrev pub faults_with_text : ℕ → Result Put NoMemory → ℕ
+faults_with_text faults (Ok put) = faults_with faults put
+faults_with_text faults (Err refused) = faults

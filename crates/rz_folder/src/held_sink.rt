@@ -1,7 +1,7 @@
 //! A sink in memory that holds back what is put until a flush. What puts and flushes do is in `specs/Sink`.
 
-ghost use Rattle.std.specs.Prelude.{◌≡◌, ◌≤◌, ◌↔◌, ◌⊎◌, [], length, Some};
-ghost use Rattle.rz_folder.specs.Counts.{Rose};
+ghost use Rattle.std.specs.Prelude.{◌≡◌, ◌↔◌, ◌⊎◌, [], length, Some};
+ghost use Rattle.rz_folder.specs.Counts.{faults_with};
 ghost use Rattle.rz_folder.specs.Sink.{Flushes, Puts};
 
 use crate::{MemSink, Put, Sink};
@@ -67,9 +67,7 @@ impl Sink for HeldSink {
     /// Puts the piece on the sink in memory, and holds it back.
     fn put(&mut self, bytes: &[u8]) -> Put
         ensures told { Puts bytes.now (Some (stream_of self.old)) (Some (stream_of self.new)) result }
-        ensures counted { self.old.sink.faults ≤ self.new.sink.faults }
-        ensures quiet { result ≡ Put.Done → self.new.sink.faults ≡ self.old.sink.faults }
-        ensures cause { result ≡ Put.Failed → Rose self.old.sink.faults self.new.sink.faults }
+        ensures counted { self.new.sink.faults ≡ faults_with self.old.sink.faults result }
 
         ensures failed { (result ≡ Put.Failed) ↔ (IsNextNamed self.old.sink ⊎ LacksRoom self.old.sink bytes.now) }
         ensures after { self.new ≡ record self.old { sink = after_put self.old.sink bytes.now } }
@@ -80,9 +78,7 @@ impl Sink for HeldSink {
     /// Puts out what is held back. `Failed` comes exactly where `fail_at` named this call.
     fn flush(&mut self) -> Put
         ensures told { Flushes (Some (stream_of self.old)) (Some (stream_of self.new)) result }
-        ensures counted { self.old.sink.faults ≤ self.new.sink.faults }
-        ensures quiet { result ≡ Put.Done → self.new.sink.faults ≡ self.old.sink.faults }
-        ensures cause { result ≡ Put.Failed → Rose self.old.sink.faults self.new.sink.faults }
+        ensures counted { self.new.sink.faults ≡ faults_with self.old.sink.faults result }
 
         ensures failed { (result ≡ Put.Failed) ↔ IsNextNamed self.old.sink }
         ensures sink { self.new.sink ≡ after_put self.old.sink [] }

@@ -2,7 +2,7 @@
 //! `specs/Sink`.
 
 ghost use Rattle.std.specs.Prelude.{◌≡◌, ◌≤◌, ◌↔◌, ◌⊎◌, length, max, Some, OnOk, OnErr};
-ghost use Rattle.rz_folder.specs.Counts.{Rose};
+ghost use Rattle.rz_folder.specs.Counts.{faults_with};
 ghost use Rattle.rz_folder.specs.Sink.{all_out, Flushes, Puts};
 
 use crate::{Put, Sink};
@@ -107,9 +107,7 @@ impl Sink for MemSink {
     /// room alone takes nothing.
     fn put(&mut self, bytes: &[u8]) -> Put
         ensures told { Puts bytes.now (Some (all_out self.old.written)) (Some (all_out self.new.written)) result }
-        ensures counted { self.old.faults ≤ self.new.faults }
-        ensures quiet { result ≡ Put.Done → self.new.faults ≡ self.old.faults }
-        ensures cause { result ≡ Put.Failed → Rose self.old.faults self.new.faults }
+        ensures counted { self.new.faults ≡ faults_with self.old.faults result }
 
         ensures failed { (result ≡ Put.Failed) ↔ (IsNextNamed self.old ⊎ LacksRoom self.old bytes.now) }
         ensures after { self.new ≡ after_put self.old bytes.now }

@@ -3,8 +3,7 @@
 
 ghost use Rattle.std.specs.Prelude.{◌≡◌, ◌≤◌, [], true, length, take, IfOk};
 ghost use Rattle.std.specs.Io.KnownBytes.{Appends};
-ghost use Rattle.rz_folder.specs.Counts.{Rose};
-ghost use Rattle.rz_folder.specs.RealFaults.{after_put};
+ghost use Rattle.rz_folder.specs.Counts.{faults_with};
 ghost use Rattle.rz_folder.specs.RealSink.{put_of, stream_over};
 ghost use Rattle.rz_folder.specs.Sink.{Flushes, Got, Puts, Told};
 
@@ -78,9 +77,7 @@ impl<W: Write + Drop> RealSink<W> {
     fn ended(&mut self, is_done: bool) -> Put
         ensures result { result ≡ put_of is_done }
         ensures stream { self.new.stream ≡ self.old.stream }
-        ensures counted { self.old.faults ≤ self.new.faults }
-        ensures quiet { result ≡ Put.Done → self.new.faults ≡ self.old.faults }
-        ensures after { self.new.faults ≡ after_put self.old.faults result }
+        ensures counted { self.new.faults ≡ faults_with self.old.faults result }
         ensures stays { self.old.has_failed ≡ true → self.new.has_failed ≡ true }
         ensures failed { result ≡ Put.Failed → self.new.has_failed ≡ true }
     {
@@ -103,10 +100,7 @@ impl<W: Write + Drop> Sink for RealSink<W> {
     /// it stands at 2^64 - 1.
     fn put(&mut self, bytes: &[u8]) -> Put
         ensures told { Puts bytes.now self.old.stream self.new.stream result }
-        ensures counted { self.old.faults ≤ self.new.faults }
-        ensures quiet { result ≡ Put.Done → self.new.faults ≡ self.old.faults }
-        ensures cause { result ≡ Put.Failed → Rose self.old.faults self.new.faults }
-        ensures after { self.new.faults ≡ after_put self.old.faults result }
+        ensures counted { self.new.faults ≡ faults_with self.old.faults result }
         ensures stays { self.old.has_failed ≡ true
             → (result ≡ Put.Failed) × (self.new.stream ≡ self.old.stream) × (self.new.has_failed ≡ true) }
         ensures failed { result ≡ Put.Failed → self.new.has_failed ≡ true }
@@ -122,10 +116,7 @@ impl<W: Write + Drop> Sink for RealSink<W> {
     /// flush failed.
     fn flush(&mut self) -> Put
         ensures told { Flushes self.old.stream self.new.stream result }
-        ensures counted { self.old.faults ≤ self.new.faults }
-        ensures quiet { result ≡ Put.Done → self.new.faults ≡ self.old.faults }
-        ensures cause { result ≡ Put.Failed → Rose self.old.faults self.new.faults }
-        ensures after { self.new.faults ≡ after_put self.old.faults result }
+        ensures counted { self.new.faults ≡ faults_with self.old.faults result }
         ensures stays { self.old.has_failed ≡ true
             → (result ≡ Put.Failed) × (self.new.stream ≡ self.old.stream) × (self.new.has_failed ≡ true) }
         ensures failed { result ≡ Put.Failed → self.new.has_failed ≡ true }

@@ -1,8 +1,8 @@
 //! The trait of a place to write to, with a count of its faults. What puts and flushes do is in `specs/Sink`.
 
-ghost use Rattle.std.specs.Prelude.{◌≡◌, ◌≤◌, ℕ};
+ghost use Rattle.std.specs.Prelude.{◌≡◌, ℕ};
 ghost use Rattle.std.specs.declared.option.Option.{Option};
-ghost use Rattle.rz_folder.specs.Counts.{Rose};
+ghost use Rattle.rz_folder.specs.Counts.{faults_with};
 ghost use Rattle.rz_folder.specs.Sink.{Flushes, Puts, Stream};
 
 /// How a put or a flush ended.
@@ -29,22 +29,18 @@ pub trait Sink {
 
     /// Puts the piece after all that was put. A sink may hold some of it back until `flush`.
     ///
-    /// After `Done` the whole piece is put, and `faults` is as before. `Failed` comes only where `faults`
-    /// rose in this call or stands at its last value; then a front of the piece is put.
+    /// After `Done` the whole piece is put, and `faults` is as before. After `Failed` a front of the piece is put, and
+    /// `faults` is one more, up to its last value.
     fn put(&mut self, bytes: &[u8]) -> Put
         ensures told { Puts bytes.now (stream self.old) (stream self.new) result }
-        ensures counted { faults self.old ≤ faults self.new }
-        ensures quiet { result ≡ Put.Done → faults self.new ≡ faults self.old }
-        ensures cause { result ≡ Put.Failed → Rose (faults self.old) (faults self.new) };
+        ensures counted { faults self.new ≡ faults_with (faults self.old) result };
 
     /// Sees to it that all that was put is out. It takes no memory. After `Done` nothing is held
-    /// back, and `faults` is as before. `Failed` comes only where `faults` rose in this call or stands
-    /// at its last value; then some of what was held back may be out, and the rest is held back still.
+    /// back, and `faults` is as before. After `Failed` some of what was held back may be out, the rest is held back
+    /// still, and `faults` is one more, up to its last value.
     fn flush(&mut self) -> Put
         ensures told { Flushes (stream self.old) (stream self.new) result }
-        ensures counted { faults self.old ≤ faults self.new }
-        ensures quiet { result ≡ Put.Done → faults self.new ≡ faults self.old }
-        ensures cause { result ≡ Put.Failed → Rose (faults self.old) (faults self.new) };
+        ensures counted { faults self.new ≡ faults_with (faults self.old) result };
 
     /// The number of calls that failed, which stops at 2^64 - 1.
     fn faults(&self) -> u64

@@ -1,7 +1,7 @@
 //! A sink over bytes of its own, which grow. What a put does is in `specs/Sink`.
 
-ghost use Rattle.std.specs.Prelude.{◌≡◌, ◌≤◌, ◌++◌, [], Some};
-ghost use Rattle.rz_folder.specs.Counts.{next, Rose};
+ghost use Rattle.std.specs.Prelude.{◌≡◌, ◌++◌, [], Some};
+ghost use Rattle.rz_folder.specs.Counts.{faults_with, next};
 ghost use Rattle.rz_folder.specs.Sink.{all_out, Flushes, Puts};
 
 use crate::{Put, Sink};
@@ -55,9 +55,7 @@ impl Sink for TextSink {
     /// of faults is one more, up to 2^64 - 1.
     fn put(&mut self, bytes: &[u8]) -> Put
         ensures told { Puts bytes.now (Some (all_out self.old.bytes)) (Some (all_out self.new.bytes)) result }
-        ensures counted { self.old.faults ≤ self.new.faults }
-        ensures quiet { result ≡ Put.Done → self.new.faults ≡ self.old.faults }
-        ensures cause { result ≡ Put.Failed → Rose self.old.faults self.new.faults }
+        ensures counted { self.new.faults ≡ faults_with self.old.faults result }
         ensures done { result ≡ Put.Done → self.new ≡ record self.old { bytes = self.old.bytes ++ bytes.now } }
         ensures failed { result ≡ Put.Failed → self.new ≡ record self.old { faults = next self.old.faults } }
     {

@@ -5,9 +5,10 @@ use Rattle.std.specs.Prelude.{if◌then◌else◌, min, nat_lt, length, nat_abs}
 use Rattle.rz_core.specs.Stop.{◌>>=◌}
 use Rattle.rz_core.specs.declared.facts.Facts.{Facts}
 use Rattle.rz_bits.specs.BitBuf.{zeros}
-use Rattle.rz_laws.specs.Flat.{closed, ended, nothing_drafted, pieces_in, steps_drafted, within_bodies, Begins, Closes, Drafts, Ends, EndsRows, Lays, Opens, Step}
+use Rattle.rz_expr.specs.Environment.{Environment}
+use Rattle.rz_laws.specs.Flat.{ended, nothing_drafted, pieces_in, rows_ended, steps_drafted, within_bodies, Begins, BeginsRows, Drafts, Ends, EndsRows, Lays, Step}
 use Rattle.rz_types_fields.specs.Field.{PlainBody}
-use Rattle.rz_types_fields.specs.Laid.{behind_rows, enter, grown, late_at, later, lay, most_kept, now, one_more, piece_form, too_long, with_form, with_places, Draft, Form, Refusal}
+use Rattle.rz_types_fields.specs.Laid.{enter, grown, late_at, later, lay, most_kept, now, one_more, piece_form, too_long, with_form, Draft, Form, Refusal}
 use Rattle.rz_types_fields.specs.RowLabels.{RowOf}
 use Rattle.rz_types_fields.specs.Piece.{Piece}
 use Rattle.rz_types_fields.specs.Spells.{most_bits}
@@ -56,13 +57,13 @@ has_same : (count other : ℕ) (drafted : Result Drafts Refusal) → count ≡ o
 has_same count other (Ok next) same is = is ∙ same
 has_same count other (Err fault) same is = tt
 
-ended_has : (which : Option RowOf) (body : PlainBody) (inner : Draft) (around : List Draft) → (ended which body inner around).inner.piece ≡ inner.piece
-ended_has which body inner [] = refl
-ended_has which body inner (outer ∷ others) = refl
+ended_has : (which : Option RowOf) (body : PlainBody) (inner : Draft) (around : List Draft) (ends : List (List Environment)) → (ended which body inner around ends).inner.piece ≡ inner.piece
+ended_has which body inner [] ends = refl
+ended_has which body inner (outer ∷ others) ends = refl
 
-closed_has : (inner : Draft) (around : List Draft) → (closed inner around).inner.piece ≡ inner.piece
-closed_has inner [] = refl
-closed_has inner (outer ∷ others) = refl
+rows_ended_has : (row : PlainBody) (inner : Draft) (around : List Draft) (ends : List (List Environment)) → (rows_ended row inner around ends).inner.piece ≡ inner.piece
+rows_ended_has row inner around [] = refl
+rows_ended_has row inner around (nearest ∷ others) = refl
 
 has_is : (count : ℕ) (found : Result Drafts Refusal) (next : Drafts) → Has count found → found ≡ Ok next → next.inner.piece ≡ count
 has_is count (Ok other) next is same =
@@ -96,13 +97,14 @@ module _ (known : Facts) where
           (steps_drafted known (within_bodies drafts next) steps) (ap (λ (c : ℕ). min (c + pieces_in steps) most_kept) is ∙ step.0)
           (more next (subst (λ (c : ℕ). c ≤ most_kept) (sym is) step.1))
   steps_count (Begins which body values ∷ steps) drafts within =
-      steps_count steps (record { inner = enter which body values drafts.inner; around = drafts.inner ∷ drafts.around }) within
+      steps_count steps (record { inner = enter which body values drafts.inner; around = drafts.inner ∷ drafts.around; ends = drafts.ends }) within
   steps_count (Ends which body ∷ steps) drafts within =
-      same_count steps drafts (ended which body drafts.inner drafts.around) within (ended_has which body drafts.inner drafts.around) (λ within. steps_count steps (ended which body drafts.inner drafts.around) within)
-  steps_count (Opens ∷ steps) drafts within = steps_count steps (record { inner = with_places [] drafts.inner; around = drafts.inner ∷ drafts.around }) within
-  steps_count (Closes ∷ steps) drafts within =
-      same_count steps drafts (closed drafts.inner drafts.around) within (closed_has drafts.inner drafts.around) (λ within. steps_count steps (closed drafts.inner drafts.around) within)
-  steps_count (EndsRows row count ∷ steps) drafts within = steps_count steps (within_bodies drafts (behind_rows row count drafts.inner)) within
+      let next : Drafts = ended which body drafts.inner drafts.around drafts.ends in
+      same_count steps drafts next within (ended_has which body drafts.inner drafts.around drafts.ends) (λ within. steps_count steps next within)
+  steps_count (BeginsRows ∷ steps) drafts within = steps_count steps (record { inner = drafts.inner; around = drafts.around; ends = [] ∷ drafts.ends }) within
+  steps_count (EndsRows row ∷ steps) drafts within =
+      let next : Drafts = rows_ended row drafts.inner drafts.around drafts.ends in
+      same_count steps drafts next within (rows_ended_has row drafts.inner drafts.around drafts.ends) (λ within. steps_count steps next within)
 
   pub front_counts : (front : List Step) (drafts : Drafts) → steps_drafted known nothing_drafted front ≡ Ok drafts → drafts.inner.piece ≡ min (pieces_in front) most_kept
   front_counts front drafts is =

@@ -9,10 +9,10 @@ use Rattle.rz_laws.proofs.Counts.{front_counts}
 use Rattle.rz_laws.proofs.Drafting.{parted, row_drafted}
 use Rattle.rz_laws.proofs.Left.{number_of_piece}
 use Rattle.rz_laws.proofs.Where.{late_at_its_piece, lay_at, stands}
-use Rattle.rz_laws.specs.Flat.{alone, closed, ended, flat_row, nothing_drafted, step_drafted, steps_drafted, within_bodies, Begins, Closes, Drafts, Ends, EndsRows, Lays, Opens, Step}
+use Rattle.rz_laws.specs.Flat.{alone, ended, flat_row, nothing_drafted, rows_ended, step_drafted, steps_drafted, within_bodies, Begins, BeginsRows, Drafts, Ends, EndsRows, Lays, Step}
 use Rattle.rz_laws.specs.RefusedAt.{IsRefusedAt, IsRefusedNumber, IsRefusedPiece}
 use Rattle.rz_types_fields.specs.Field.{PlainBody}
-use Rattle.rz_types_fields.specs.Laid.{behind_rows, enter, fill, laid, late_bits, lay, nothing_laid, patched, row_laid, with_places, Draft, LateNumber, Refusal}
+use Rattle.rz_types_fields.specs.Laid.{enter, fill, laid, late_bits, lay, nothing_laid, patched, row_laid, Draft, LateNumber, Refusal}
 use Rattle.rz_types_fields.specs.Passed.{outside}
 use Rattle.rz_types_fields.specs.Piece.{Piece}
 use Rattle.rz_types_fields.specs.declared.tree.Tree.{Tree}
@@ -52,16 +52,14 @@ module _ (known : Facts) (fault : Refusal) where
       by more (Ok next) was is =
           one_before drafts (Lays piece value) steps (within_bodies drafts next) (ap (λ (r : Result Draft Refusal). r >>= λ next. Ok (within_bodies drafts next)) was) (more next is)
   first_piece (Begins which body values ∷ steps) drafts is =
-      let next : Drafts = record { inner = enter which body values drafts.inner; around = drafts.inner ∷ drafts.around } in
+      let next : Drafts = record { inner = enter which body values drafts.inner; around = drafts.inner ∷ drafts.around; ends = drafts.ends } in
       one_before drafts (Begins which body values) steps next refl (first_piece steps next is)
   first_piece (Ends which body ∷ steps) drafts is =
-      let next : Drafts = ended which body drafts.inner drafts.around in one_before drafts (Ends which body) steps next refl (first_piece steps next is)
-  first_piece (Opens ∷ steps) drafts is =
-      let next : Drafts = record { inner = with_places [] drafts.inner; around = drafts.inner ∷ drafts.around } in one_before drafts Opens steps next refl (first_piece steps next is)
-  first_piece (Closes ∷ steps) drafts is =
-      let next : Drafts = closed drafts.inner drafts.around in one_before drafts Closes steps next refl (first_piece steps next is)
-  first_piece (EndsRows row count ∷ steps) drafts is =
-      let next : Drafts = within_bodies drafts (behind_rows row count drafts.inner) in one_before drafts (EndsRows row count) steps next refl (first_piece steps next is)
+      let next : Drafts = ended which body drafts.inner drafts.around drafts.ends in one_before drafts (Ends which body) steps next refl (first_piece steps next is)
+  first_piece (BeginsRows ∷ steps) drafts is =
+      let next : Drafts = record { inner = drafts.inner; around = drafts.around; ends = [] ∷ drafts.ends } in one_before drafts BeginsRows steps next refl (first_piece steps next is)
+  first_piece (EndsRows row ∷ steps) drafts is =
+      let next : Drafts = rows_ended row drafts.inner drafts.around drafts.ends in one_before drafts (EndsRows row) steps next refl (first_piece steps next is)
 
   piece_first : (drafts : Drafts) (front : List Step) (piece : Piece) (value : Option Tree) (behind : List Step) (there : Drafts)
       → steps_drafted known drafts front ≡ Ok there → lay known there.inner piece value ≡ Err fault
@@ -142,14 +140,14 @@ module _ (known : Facts) (body : PlainBody) (row : List Tree) (fault : Refusal) 
   refused_number draft was is =
       let it : FirstNumber known draft.numbers draft.bits fault = first_number known fault draft.numbers draft.bits is in
       record {
-        drafts = record { inner = draft; around = [] };
+        drafts = record { inner = draft; around = []; ends = [] };
         before = it.before;
         one = it.one;
         others = it.others;
         bits = it.there;
         drafted = row_drafted known body row ∙ ap alone was;
         numbers = it.are;
-        of_piece = number_of_piece known body row (record { inner = draft; around = [] }) it.before it.one it.others (row_drafted known body row ∙ ap alone was) it.are;
+        of_piece = number_of_piece known body row (record { inner = draft; around = []; ends = [] }) it.before it.one it.others (row_drafted known body row ∙ ap alone was) it.are;
         filled = it.filled;
         refused = it.refused;
         at = stands it.one.piece (late_bits known outside it.one it.there) fault (late_at_its_piece known it.one it.there) it.refused;
@@ -184,7 +182,7 @@ module _ (known : Facts) (body : PlainBody) (row : List Tree) (fault : Refusal) 
 
       by : (found : Result Draft Refusal) → alone found ≡ Ok it.drafts → (found >>= behind_draft known) ≡ Err fault
       by (Ok draft) is =
-          let same : record { inner = draft; around = [] } ≡ it.drafts = cc in
+          let same : record { inner = draft; around = []; ends = [] } ≡ it.drafts = cc in
           ap (λ (drafts : Drafts). behind_draft known drafts.inner) same
           ∙ ap (λ (r : Result (List Bool) Refusal). r >>= λ bits. Ok (bytes_of (filled 8 bits))) unfilled
       by (Err other) is = absurd cc

@@ -7,10 +7,10 @@ use Rattle.rz_bits.specs.BitBuf.{zeros}
 use Rattle.rz_expr.specs.Environment.{Environment}
 use Rattle.rz_expr.specs.Term.{Term}
 use Rattle.rz_laws.proofs.Counts.{front_counts}
-use Rattle.rz_laws.specs.Flat.{closed, ended, flat_row, nothing_drafted, step_drafted, steps_drafted, within_bodies, Begins, Closes, Drafts, Ends, EndsRows, Lays, Opens, Step}
+use Rattle.rz_laws.specs.Flat.{ended, flat_row, nothing_drafted, rows_ended, step_drafted, steps_drafted, within_bodies, Begins, BeginsRows, Drafts, Ends, EndsRows, Lays, Step}
 use Rattle.rz_laws.specs.RefusedAt.{IsOfPiece}
 use Rattle.rz_types_fields.specs.Field.{PlainBody}
-use Rattle.rz_types_fields.specs.Laid.{behind_rows, closing, enter, grown, late_at, later, lay, now, piece_form, too_long, with_form, with_places, Draft, Form, LateNumber, Refusal}
+use Rattle.rz_types_fields.specs.Laid.{closing, enter, grown, late_at, later, lay, now, piece_form, too_long, with_form, Draft, Form, LateNumber, Refusal}
 use Rattle.rz_types_fields.specs.RowLabels.{RowOf}
 use Rattle.rz_types_fields.specs.Piece.{Piece}
 use Rattle.rz_types_fields.specs.Spells.{most_bits}
@@ -97,14 +97,14 @@ module _ (So : LateNumber → Type 0) where
     each_closed which body own [] is = tt
     each_closed which body own (one ∷ others) is = (ends which body own one is.0, each_closed which body own others is.1)
 
-    ended_drafted : (which : Option RowOf) (body : PlainBody) (inner : Draft) (around : List Draft) → Each inner.numbers → Around around → Drafted (ended which body inner around)
-    ended_drafted which body inner [] is also = (is, tt)
-    ended_drafted which body inner (outer ∷ others) is also =
+    ended_drafted : (which : Option RowOf) (body : PlainBody) (inner : Draft) (around : List Draft) (rows : List (List Environment)) → Each inner.numbers → Around around → Drafted (ended which body inner around rows)
+    ended_drafted which body inner [] rows is also = (is, tt)
+    ended_drafted which body inner (outer ∷ others) rows is also =
         (each_and outer.numbers (map (closing which body inner.known) inner.numbers) also.0 (each_closed which body inner.known inner.numbers is), also.1)
 
-    closed_drafted : (inner : Draft) (around : List Draft) → Each inner.numbers → Around around → Drafted (closed inner around)
-    closed_drafted inner [] is also = (is, tt)
-    closed_drafted inner (outer ∷ others) is also = (is, also.1)
+    rows_drafted : (row : PlainBody) (inner : Draft) (around : List Draft) (rows : List (List Environment)) → Each inner.numbers → Around around → Drafted (rows_ended row inner around rows)
+    rows_drafted row inner around [] is also = (is, also)
+    rows_drafted row inner around (nearest ∷ others) is also = (is, also)
 
     module _ (known : Facts) where
       -- what is drafted after a piece has such late numbers too
@@ -148,20 +148,17 @@ module _ (So : LateNumber → Type 0) where
                 at = refl;
               })))
       steps_left (Begins which body values ∷ steps) drafts is left =
-          let next : Drafts = record { inner = enter which body values drafts.inner; around = drafts.inner ∷ drafts.around } in
+          let next : Drafts = record { inner = enter which body values drafts.inner; around = drafts.inner ∷ drafts.around; ends = drafts.ends } in
           steps_left steps next (tt, is) (λ one it. left one (later_step known drafts (Begins which body values) steps next one refl it))
       steps_left (Ends which body ∷ steps) drafts is left =
-          steps_left steps (ended which body drafts.inner drafts.around) (ended_drafted which body drafts.inner drafts.around is.0 is.1)
-          (λ one it. left one (later_step known drafts (Ends which body) steps (ended which body drafts.inner drafts.around) one refl it))
-      steps_left (Opens ∷ steps) drafts is left =
-          let next : Drafts = record { inner = with_places [] drafts.inner; around = drafts.inner ∷ drafts.around } in
-          steps_left steps next (is.0, is) (λ one it. left one (later_step known drafts Opens steps next one refl it))
-      steps_left (Closes ∷ steps) drafts is left =
-          steps_left steps (closed drafts.inner drafts.around) (closed_drafted drafts.inner drafts.around is.0 is.1)
-          (λ one it. left one (later_step known drafts Closes steps (closed drafts.inner drafts.around) one refl it))
-      steps_left (EndsRows row count ∷ steps) drafts is left =
-          let next : Drafts = within_bodies drafts (behind_rows row count drafts.inner) in
-          steps_left steps next (is.0, is.1) (λ one it. left one (later_step known drafts (EndsRows row count) steps next one refl it))
+          let next : Drafts = ended which body drafts.inner drafts.around drafts.ends in
+          steps_left steps next (ended_drafted which body drafts.inner drafts.around drafts.ends is.0 is.1) (λ one it. left one (later_step known drafts (Ends which body) steps next one refl it))
+      steps_left (BeginsRows ∷ steps) drafts is left =
+          let next : Drafts = record { inner = drafts.inner; around = drafts.around; ends = [] ∷ drafts.ends } in
+          steps_left steps next (is.0, is.1) (λ one it. left one (later_step known drafts BeginsRows steps next one refl it))
+      steps_left (EndsRows row ∷ steps) drafts is left =
+          let next : Drafts = rows_ended row drafts.inner drafts.around drafts.ends in
+          steps_left steps next (rows_drafted row drafts.inner drafts.around drafts.ends is.0 is.1) (λ one it. left one (later_step known drafts (EndsRows row) steps next one refl it))
 
 module _ (known : Facts) (body : PlainBody) (row : List Tree) where
   abbrev Of_piece : LateNumber → Type 0

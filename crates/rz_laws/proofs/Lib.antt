@@ -13,7 +13,10 @@ pub mod First
 pub mod Where
 pub mod Counts
 pub mod Left
-pub mod LateNumbers
+pub mod Goes
+pub mod Leaving
+pub mod Lying
+pub mod WithoutValue
 pub mod Chains
 pub mod Inverse
 pub mod Listed

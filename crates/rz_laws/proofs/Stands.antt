@@ -1,8 +1,7 @@
 -- A draft at a place of a row that is spelled, and what it shows.
-use Rattle.std.proofs.Common.{◌≡◌, ℕ, ◌+◌, ℤ, pos, negsuc, Bool, true, false, ◌&&◌, ◌||◌, not, List, [], ◌∷◌, length, Option, Some, None, Result, Ok, Err, refl, sym, ap, ◌∙◌, subst, arith}
-use Rattle.std.specs.Prelude.{if◌then◌else◌, int_le, int_lt, nat_abs, nat_lt}
+use Rattle.std.proofs.Common.{◌≡◌, ℕ, zero, suc, ◌<◌, ◌+◌, ℤ, pos, negsuc, Bool, true, false, not, List, [], ◌∷◌, length, Option, Some, None, Result, Ok, Err, refl, sym, ap, ◌∙◌, subst, arith}
+use Rattle.std.specs.Prelude.{if◌then◌else◌, option_and_then, slice_get, nat_abs, nat_lt}
 use Rattle.std.specs.Option.{is_some}
-use Rattle.std.proofs.lemmas.Bool.Decides.{nat_tests}
 use Rattle.rz_core.proofs.Tests.{true_false}
 use Rattle.rz_core.specs.Stop.{◌>>=◌}
 use Rattle.rz_core.specs.declared.facts.Facts.{Facts}
@@ -14,13 +13,14 @@ use Rattle.rz_types_fields.specs.Front.{names_inside, stated_in}
 use Rattle.rz_types_fields.specs.Laid.{draft_sight, entered, grown, late_at, later, lay, now, piece_form, placed, too_long, with_form, Draft, Form, Refusal}
 use Rattle.rz_types_fields.specs.Passed.{declares, has_label, Names}
 use Rattle.rz_types_fields.specs.Piece.{Piece}
-use Rattle.rz_types_fields.specs.RowLabels.{also_rows, row_number, row_value, RowOf}
+use Rattle.rz_types_fields.specs.RowLabels.{also_rows, row_number, rows_give, RowOf}
 use Rattle.rz_types_fields.specs.Sees.{bits_before, hit, sees, Late}
 use Rattle.rz_types_fields.specs.Spells.{most_bits}
 use Rattle.rz_types_fields.specs.declared.tree.Tree.{Tree}
 use Rattle.rz_layout.proofs.Fitting.{fits_met, piece_alone, placed_none, Fits, SamePlaces}
 use Rattle.rz_layout.proofs.Labels.{counted_other, entered_none, label_key, no_row, stated_other, MetKnown}
 use Rattle.rz_layout.proofs.Masks.{hidden_bits}
+use Rattle.rz_layout.proofs.Placing.{row_in_rows}
 use Rattle.rz_layout.proofs.Sees.{IsRowIn}
 
 -- Labels in rows have places in each row, and in no others.
@@ -65,41 +65,38 @@ entered_in_rows which body values outer in_rows label number value is = by (decl
         )
         in_rows is
 
-less_not : (a b : ℤ) → int_le b a ≡ true → int_lt a b ≡ false
-less_not (pos a) (pos b) is = grind (arith, nat_tests, is)
-less_not (pos a) (negsuc b) is = refl
-less_not (negsuc a) (pos b) is = absurd (true_false (sym is))
-less_not (negsuc a) (negsuc b) is = grind (arith, nat_tests, is)
+got_less : (ends : List Environment) (n : ℕ) (own : Environment) → slice_get ends n ≡ Some own → n < length ends
+got_less [] n own is = absurd cc
+got_less (one ∷ ends) zero own is = omega arith
+got_less (one ∷ ends) (suc n) own is = let less = got_less ends n own is in omega (arith, less)
 
-both_are : (a b : Bool) → (a && b) ≡ true → (a ≡ true) × (b ≡ true)
-both_are true b is = (refl, is)
-both_are false b is = absurd (true_false (sym is))
-
-one_of_rows : (count : ℕ) (number value : ℤ) (o : Option ℤ) → (if int_le (pos 1) number && int_le number (pos count) then o else None) ≡ Some value → IsRowIn (pos count) number
-one_of_rows count number value o is = by (int_le (pos 1) number && int_le number (pos count)) refl
+ended_in_rows : (ends : List Environment) (label : List ℕ) (number value : ℤ) → rows_give ends (place_in label number) ≡ Some value → IsRowIn (pos (length ends)) number
+ended_in_rows ends label (negsuc n) value is = none_some (rows_give ends (place_in label (negsuc n))) value refl is
+ended_in_rows ends label (pos zero) value is = none_some (rows_give ends (place_in label (pos zero))) value refl is
+ended_in_rows ends label (pos (suc n)) value is = by (slice_get ends n) refl
   where
-    by : (test : Bool) → (int_le (pos 1) number && int_le number (pos count)) ≡ test → IsRowIn (pos count) number
-    by true so =
-        let each = both_are (int_le (pos 1) number) (int_le number (pos count)) so in
-        λ i. less_not number (pos 1) each.0 i || less_not (pos count) number each.1 i
-    by false so = none_some (if int_le (pos 1) number && int_le number (pos count) then o else None) value (ap (λ (test : Bool). if test then o else None) so) is
+    by : (found : Option Environment) → slice_get ends n ≡ found → IsRowIn (pos (length ends)) (pos (suc n))
+    by None none = none_some (option_and_then (λ own. own.give (place_of label)) (slice_get ends n)) value (ap (option_and_then (λ (own : Environment). own.give (place_of label))) none) is
+    by (Some own) some =
+        let next : 1 + n ≡ suc n = omega arith in
+        subst (λ (k : ℕ). IsRowIn (pos (length ends)) (pos k)) next (row_in_rows (length ends) n (got_less ends n own some))
 
-pub behind_in_rows : (row : PlainBody) (count : ℕ) (places : List ℤ) (names : Environment) → InRows names → InRows (also_rows row count places names)
-behind_in_rows row count places names in_rows label number value is = by (has_label row label) refl
+pub behind_in_rows : (row : PlainBody) (ends : List Environment) (names : Environment) → InRows names → InRows (also_rows row ends names)
+behind_in_rows row ends names in_rows label number value is = by (has_label row label) refl
   where
     after : Environment
-    after = also_rows row count places names
+    after = also_rows row ends names
 
     by : (test : Bool) → has_label row label ≡ test → (rows : ℤ) × (after.give (rows_of label) ≡ Some rows) × IsRowIn rows number
     by true own = (
-      pos count,
-      ap (λ (test : Bool). if test then Some (pos count) else names.give (rows_of label)) own,
-      one_of_rows count number value _ (sym (ap (λ (test : Bool). if test then row_value row count places (place_in label number) else names.give (place_in label number)) own) ∙ is),
+      pos (length ends),
+      ap (λ (test : Bool). if test then Some (pos (length ends)) else names.give (rows_of label)) own,
+      ended_in_rows ends label number value (sym (ap (λ (test : Bool). if test then rows_give ends (place_in label number) else names.give (place_in label number)) own) ∙ is),
     )
     by false none =
         same_rows after names label number value (
-          ap (λ (test : Bool). if test then row_value row count places (place_in label number) else names.give (place_in label number)) none,
-          ap (λ (test : Bool). if test then Some (pos count) else names.give (rows_of label)) none,
+          ap (λ (test : Bool). if test then rows_give ends (place_in label number) else names.give (place_in label number)) none,
+          ap (λ (test : Bool). if test then Some (pos (length ends)) else names.give (rows_of label)) none,
         )
         in_rows is
 

@@ -1,25 +1,25 @@
 -- The pieces of a row in one list, and how they are drafted one after the other. (MPW Rez.)
-use Rattle.std.specs.Prelude.{ℕ, ◌+◌, if◌then◌else◌, List, [], ◌∷◌, ◌++◌, length, Option, None, Ok}
+use Rattle.std.specs.Prelude.{ℕ, ◌+◌, if◌then◌else◌, List, [], ◌∷◌, ◌++◌, Option, Some, None, Ok}
 use Rattle.std.specs.declared.result.Result.{Result}
 use Rattle.rz_core.specs.Stop.{◌>>=◌}
 use Rattle.rz_core.specs.declared.facts.Facts.{Facts}
+use Rattle.rz_expr.specs.Environment.{Environment}
 use Rattle.rz_types_fields.specs.Field.{case_and, field_and, no_cases, no_fields, takes_value, Align, Array, Fill, Label, Number, PlainBody, PlainCases, PlainField, Points, Switch, Text}
-use Rattle.rz_types_fields.specs.Laid.{behind_rows, enter, first_value, lay, leave, line_in, nothing_laid, other_values, rows_in, takes_one, with_places, Draft, Refusal}
+use Rattle.rz_types_fields.specs.Laid.{behind_rows, enter, first_value, lay, leave, line_in, nothing_laid, other_values, rows_in, takes_one, Draft, Refusal}
 use Rattle.rz_types_fields.specs.Piece.{pieces_of, Piece}
 use Rattle.rz_types_fields.specs.RowLabels.{row_of, RowOf}
 use Rattle.rz_types_fields.specs.Spells.{is_case, values_for}
 use Rattle.rz_types_fields.specs.declared.tree.Tree.{Tree}
 
 -- one step through a row: a piece with its value or none; the front of a body with its values, or its end, between which it has
--- names of its own; the front or the end of an array or of a case, between which labels have their places apart; or the end of
--- all rows of an array, after which the labels in them have places by the numbers of the rows
+-- names of its own; or the front of the rows of an array, or their end, after which the labels in them have places by the numbers
+-- of the rows
 pub data Step : Type 0 where
   Lays : (piece : Piece) (value : Option Tree) → Step
   Begins : (which : Option RowOf) (body : PlainBody) (values : List Tree) → Step
   Ends : (which : Option RowOf) (body : PlainBody) → Step
-  Opens : Step
-  Closes : Step
-  EndsRows : (row : PlainBody) (count : ℕ) → Step
+  BeginsRows : Step
+  EndsRows : (row : PlainBody) → Step
 
 -- The list.
 
@@ -32,9 +32,9 @@ flat_pieces (piece ∷ pieces) values = Lays piece (first_value (takes_one piece
 abbrev pub between : Option RowOf → PlainBody → List Tree → List Step → List Step
 between which body values steps = Begins which body values ∷ (steps ++ Ends which body ∷ [])
 
--- those of an array or of a case
-abbrev pub opened : List Step → List Step
-opened steps = Opens ∷ (steps ++ Closes ∷ [])
+-- those of an array
+abbrev pub all_rows : PlainBody → List Step → List Step
+all_rows row steps = BeginsRows ∷ (steps ++ EndsRows row ∷ [])
 
 -- the steps of rows, one row after the other, of which the first has this number
 abbrev pub flat_rows : (ℕ → List Tree → List Step) → ℕ → List (List Tree) → List Step
@@ -51,13 +51,13 @@ abbrev mutual
   flat_field (Align unit) value = flat_pieces (pieces_of (Align unit)) (values_for (Align unit) value)
   flat_field (Label name) value = flat_pieces (pieces_of (Label name)) (values_for (Label name) value)
   flat_field (Array name count row) value =
-      opened (flat_rows (λ number line. between (row_of name number) row line (flat row line)) 1 (rows_in value) ++ EndsRows row (length (rows_in value)) ∷ [])
+      all_rows row (flat_rows (λ number line. between (row_of name number) row line (flat row line)) 1 (rows_in value))
   flat_field (Switch cases) value = flat_case cases value
 
   pub flat_case : PlainCases → Option Tree → List Step
   flat_case no_cases value = []
   flat_case (case_and name row others) value =
-      if is_case name value then opened (between None row (line_in value) (flat row (line_in value))) else flat_case others value
+      if is_case name value then between None row (line_in value) (flat row (line_in value)) else flat_case others value
 
   -- the pieces of the fields of a body, each field with the next value where it takes one
   pub flat : PlainBody → List Tree → List Step
@@ -75,46 +75,52 @@ pieces_in [] = 0
 pieces_in (Lays piece value ∷ steps) = pieces_in steps + 1
 pieces_in (Begins which body values ∷ steps) = pieces_in steps
 pieces_in (Ends which body ∷ steps) = pieces_in steps
-pieces_in (Opens ∷ steps) = pieces_in steps
-pieces_in (Closes ∷ steps) = pieces_in steps
-pieces_in (EndsRows row count ∷ steps) = pieces_in steps
+pieces_in (BeginsRows ∷ steps) = pieces_in steps
+pieces_in (EndsRows row ∷ steps) = pieces_in steps
 
 -- The drafts.
 
--- the draft of the innermost body, and the drafts of the bodies, the arrays and the cases around it as they were at its front and
--- at theirs, the nearest first
+-- the draft of the innermost body, the drafts of the bodies around it as they were at its front and at theirs, the nearest first,
+-- and what names had at the end of each row so far of the arrays that haven't ended, those of the nearest first
 pub record Drafts : Type 0 where
   pub inner : Draft
   pub around : List Draft
+  pub ends : List (List Environment)
 
 abbrev pub nothing_drafted : Drafts
-nothing_drafted = record { inner = nothing_laid; around = [] }
+nothing_drafted = record { inner = nothing_laid; around = []; ends = [] }
 
 -- so much of the innermost body, with the same bodies around it
 abbrev pub within_bodies : Drafts → Draft → Drafts
-within_bodies drafts inner = record { inner = inner; around = drafts.around }
+within_bodies drafts inner = record { inner = inner; around = drafts.around; ends = drafts.ends }
 
 -- with no body around it
 abbrev pub alone : Result Draft Refusal → Result Drafts Refusal
-alone laid = laid >>= λ draft. Ok (record { inner = draft; around = [] })
+alone laid = laid >>= λ draft. Ok (record { inner = draft; around = []; ends = [] })
+
+-- a row of the nearest array ends with these names
+abbrev pub and_end : Option RowOf → Environment → List (List Environment) → List (List Environment)
+and_end None own ends = ends
+and_end (Some row) own [] = []
+and_end (Some row) own (nearest ∷ others) = (nearest ++ own ∷ []) ∷ others
 
 -- the body around goes on after what is laid of the one within it
-abbrev pub ended : Option RowOf → PlainBody → Draft → List Draft → Drafts
-ended which body inner [] = record { inner = inner; around = [] }
-ended which body inner (outer ∷ others) = record { inner = leave which body outer inner; around = others }
+abbrev pub ended : Option RowOf → PlainBody → Draft → List Draft → List (List Environment) → Drafts
+ended which body inner [] ends = record { inner = inner; around = []; ends = ends }
+ended which body inner (outer ∷ others) ends = record { inner = leave which body outer inner; around = others; ends = and_end which inner.known ends }
 
--- after an array or a case the places of labels are those before it
-abbrev pub closed : Draft → List Draft → Drafts
-closed inner [] = record { inner = inner; around = [] }
-closed inner (outer ∷ others) = record { inner = with_places outer.places inner; around = others }
+-- after its rows an array ends
+abbrev pub rows_ended : PlainBody → Draft → List Draft → List (List Environment) → Drafts
+rows_ended row inner around [] = record { inner = inner; around = around; ends = [] }
+rows_ended row inner around (nearest ∷ others) = record { inner = behind_rows row (record { draft = inner; ends = nearest }); around = around; ends = others }
 
 abbrev pub step_drafted : Facts → Drafts → Step → Result Drafts Refusal
 step_drafted known drafts (Lays piece value) = lay known drafts.inner piece value >>= λ next. Ok (within_bodies drafts next)
-step_drafted known drafts (Begins which body values) = Ok (record { inner = enter which body values drafts.inner; around = drafts.inner ∷ drafts.around })
-step_drafted known drafts (Ends which body) = Ok (ended which body drafts.inner drafts.around)
-step_drafted known drafts Opens = Ok (record { inner = with_places [] drafts.inner; around = drafts.inner ∷ drafts.around })
-step_drafted known drafts Closes = Ok (closed drafts.inner drafts.around)
-step_drafted known drafts (EndsRows row count) = Ok (within_bodies drafts (behind_rows row count drafts.inner))
+step_drafted known drafts (Begins which body values) =
+    Ok (record { inner = enter which body values drafts.inner; around = drafts.inner ∷ drafts.around; ends = drafts.ends })
+step_drafted known drafts (Ends which body) = Ok (ended which body drafts.inner drafts.around drafts.ends)
+step_drafted known drafts BeginsRows = Ok (record { inner = drafts.inner; around = drafts.around; ends = [] ∷ drafts.ends })
+step_drafted known drafts (EndsRows row) = Ok (rows_ended row drafts.inner drafts.around drafts.ends)
 
 -- steps one after the other, or the refusal of the first piece that isn't laid
 abbrev pub steps_drafted : Facts → Drafts → List Step → Result Drafts Refusal

@@ -1,7 +1,7 @@
 pub mod Kept
 pub mod Flat
-pub mod LateNumbers
 pub mod RefusedAt
+pub mod RefusedNumber
 pub mod Inverse
 pub mod Placed
 pub mod Shown

@@ -2,10 +2,11 @@
 //! what they are about doesn't stand on them. `fork`: an admitted fork has its resources type by type, and the fork of
 //! a list is that of the list as it is admitted again. `forms`: what is written in a form is read as what the form
 //! carries. `layout`: where compiling refuses a row: its pieces in one list, and the first that isn't laid, or else the
-//! first late number that has no bits. `unlay`: the bytes of a resource tell a row under a template that can be read
-//! exactly if the row compiles to these bytes and is plain. `catalog`: two catalogues for different resources put in
-//! place one after the other, and entries in another order. `catalog_fork`: the fork that is written of the changed
-//! resources is admitted as these, and has the old catalogue with the new texts.
+//! first late number that has no bits; that one has no value in range, and all pieces before it stand. `unlay`: the
+//! bytes of a resource tell a row under a template that can be read exactly if the row compiles to these bytes and is
+//! plain. `catalog`: two catalogues for different resources put in place one after the other, and entries in another
+//! order. `catalog_fork`: the fork that is written of the changed resources is admitted as these, and has the old
+//! catalogue with the new texts.
 //! It rests on the crates whose words it speaks: `rz_core`, `rz_fork`, `rz_bridge`, `rz_hqx`, `rz_bridge_files`,
 //! `rz_bits`, `rz_expr`, `rz_types_fields`, `rz_types`, `rz_layout`, `rz_words`, `rz_unlay`, `rz_types_table`,
 //! `rz_catalog_text` and `rz_catalog`.

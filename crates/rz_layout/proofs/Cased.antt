@@ -8,7 +8,7 @@ use Rattle.rz_layout.specs.Sound.{AreSound, IsCaseSound}
 use Rattle.rz_types_fields.specs.declared.field.Case.{Case}
 use Rattle.rz_types_fields.specs.declared.field.Field.{Field}
 use Rattle.rz_types_fields.specs.declared.field.Field.TheViews.{out-Case}
-use Rattle.rz_types_fields.specs.Laid.{apart, case_laid, line_in, row_laid, Draft, Refusal}
+use Rattle.rz_types_fields.specs.Laid.{case_laid, line_in, row_laid, Draft, Refusal}
 use Rattle.rz_types_fields.specs.Spells.{choice_in}
 use Rattle.rz_types_fields.specs.declared.tree.Tree.{Tree}
 use Rattle.rz_types.specs.Cases.{case_named}
@@ -17,7 +17,7 @@ use Rattle.rz_types.proofs.Cased.{by_case}
 
 module _ (known : Facts) (draft : Draft) (value : Option Tree) where
   abbrev pub laid_of : PlainCase → Result Draft Refusal
-  laid_of one = apart (λ inner. row_laid known None one.row inner (line_in value)) draft
+  laid_of one = row_laid known None one.row draft (line_in value)
 
   laid_is : (cases : PlainCases) → case_laid known draft cases value ≡ option_map_or laid_of (case_named (choice_in value) cases) (Ok draft)
   laid_is = by_case (choice_in value) (λ cases. case_laid known draft cases value) laid_of (Ok draft) refl (λ own row others. refl)

@@ -1,5 +1,5 @@
 -- What is spelled is laid so: fields, rows, cases and bodies, and then the late numbers.
-use Rattle.std.proofs.Common.{◌≡◌, ℕ, zero, suc, ◌+◌, ◌<◌, ℤ, pos, Bool, true, false, ◌||◌, not, List, [], ◌∷◌, ◌++◌, length, take, drop, map, replicate, Option, Some, None, Result, Ok, refl, sym, ap, subst, ◌∙◌, arith}
+use Rattle.std.proofs.Common.{◌≡◌, ℕ, zero, suc, ◌+◌, ◌<◌, ℤ, Bool, true, false, ◌||◌, not, List, [], ◌∷◌, ◌++◌, length, take, drop, map, replicate, Option, Some, None, Result, Ok, refl, sym, ap, subst, ◌∙◌, arith}
 use Rattle.std.specs.Prelude.{if◌then◌else◌, slice_index}
 use Rattle.std.specs.List.{AllByRecursion}
 use Rattle.std.specs.Option.{is_none, is_some, option_to_list}
@@ -19,21 +19,21 @@ use Rattle.rz_types_fields.specs.declared.tree.Tree.{Tree}
 use Rattle.rz_types_fields.specs.declared.tree.Tree.TheVariants as trees
 use Rattle.rz_types_fields.specs.Field.{case_and, field_and, no_cases, no_fields, takes_value, Align, Array, Fill, Label, Number, PlainBody, PlainCases, PlainField, Points, Switch, Text}
 use Rattle.rz_types_fields.specs.Front.{names_inside}
-use Rattle.rz_types_fields.specs.Laid.{apart, array_laid, body_laid, case_laid, closing, counted, enter, entered, field_laid, fill, first_value, in_order, laid, lay, leave, line_in, nothing_laid, other_values, outside_of, pieces_laid, row_laid, rows_apart, rows_in, rows_laid, takes_one, then_laid, with_places, Draft, LateNumber, Refusal}
-use Rattle.rz_types_fields.specs.Passed.{at_field, at_front, behind, behind_piece, declares, gives_key, gives_rows, nothing_passed, outside, Names, Passed}
+use Rattle.rz_types_fields.specs.Laid.{all_laid, and_row, body_laid, case_laid, closing, counted, each_laid, enter, entered, field_laid, fill, first_value, in_order, laid, lay, leave, line_in, nothing_laid, other_values, outside_of, pieces_laid, row_ended, row_laid, rows_in, rows_laid, takes_one, then_laid, AllRows, Draft, Ended, LateNumber, Refusal}
+use Rattle.rz_types_fields.specs.Passed.{at_field, at_front, behind, behind_piece, declares, gives_key, gives_rows, has_label, nothing_passed, outside, Names, Passed}
 use Rattle.rz_types_fields.specs.Piece.{fixed_integer, free_integer, integers, pieces_of, Filler, OneNumber, OneText, Piece, Place, Zeros}
 use Rattle.rz_types_fields.specs.Row.{By}
-use Rattle.rz_types_fields.specs.RowLabels.{is_row, label_places, row_of, RowOf}
-use Rattle.rz_types_fields.proofs.RowPlaces.{no_rows_have, places_more, row_has, rows_have, FieldStands, PlacesAre, RowsHave}
+use Rattle.rz_types_fields.specs.RowLabels.{is_row, row_of, RowOf}
 use Rattle.rz_types_fields.specs.Sees.{sees, Late}
 use Rattle.rz_types_fields.specs.Shape.{numbers_of}
 use Rattle.rz_types_fields.specs.Spells.{anyhow, is_case, put, values_for, AreBytes, BodySpells, CaseSpells, FieldSpells, InOrder, Inside, IsCounted, IsGrouped, IsNumber, PieceSpells, PiecesSpell, RowsSpell, Spells, Within}
 use Rattle.rz_types_fields.specs.Text.{PlainPart}
 use Rattle.rz_layout.proofs.Counts.{own_is, AreCounted, FieldCounted}
-use Rattle.rz_layout.proofs.Fitting.{fits_places, goes_apart, goes_behind, goes_both, goes_done, goes_met, met_piece, piece_goes, piece_places, Fits, Goes, HoldsIn, SamePlaces}
+use Rattle.rz_layout.proofs.Fitting.{goes_behind, goes_both, goes_done, goes_met, met_piece, piece_goes, Fits, Goes, HoldsIn, RowsGo, SamePlaces}
+use Rattle.rz_layout.proofs.EachRow.{row_drafted, row_end}
 use Rattle.rz_layout.proofs.Later.{is_later}
 use Rattle.rz_layout.proofs.Masks.{masked}
-use Rattle.rz_layout.proofs.Labels.{all_met, around_early, behind_met, entered_none, entered_row, inside_later, label_key, met_all, met_behind, met_entered, met_front, no_row, none_later, own_later, piece_met, place_label, row_is_around, MetKnown}
+use Rattle.rz_layout.proofs.Labels.{all_met, around_early, behind_met, entered_none, entered_row, inside_later, label_declared, label_key, met_all, met_behind, met_entered, met_front, no_row, none_later, own_later, piece_met, place_label, row_is_around, MetKnown}
 use Rattle.rz_layout.proofs.Sees.{every, every_early, is_in_row, not_true, Alike, IsRowIn}
 use Rattle.rz_layout.proofs.Texts.{good}
 use Rattle.rz_layout.proofs.Trees.{line_is, rows_are}
@@ -89,13 +89,6 @@ unplaced_same (Zeros count) passed none in_rows name = refl
 unplaced_same (Filler unit) passed none in_rows name = refl
 unplaced_same (Place own) passed none in_rows name = absurd (true_false none)
 
-pub no_places : (piece : Piece) (at : ℕ) → is_place piece ≡ false → piece_places piece at ≡ []
-no_places (OneNumber number) at none = refl
-no_places (OneText text) at none = refl
-no_places (Zeros count) at none = refl
-no_places (Filler unit) at none = refl
-no_places (Place own) at none = absurd (true_false none)
-
 free_unplaced : (n : ℕ) → Unplaced (replicate n free_integer)
 free_unplaced zero = tt
 free_unplaced (suc n) = (refl, free_unplaced n)
@@ -142,45 +135,44 @@ module _ (known : Facts) (all : List Bool) where
 
   -- one with its value or none, and the others after it
   then_goes : (names : Environment) (met one_met : Names) (takes : Bool) (value : Option Tree) (rest values : List Tree) → values ≡ put value rest → is_some value ≡ takes
-      → (one : Option Tree → Result Draft Refusal) (others : Draft → List Tree → Result Draft Refusal) (at : ℕ) (late : Late) (mid : ℕ) (late_mid : Late) (after : ℕ) (late_after : Late) (draft : Draft) (places behind : List ℤ) → length late ≡ at
-      → (first : Goes known all names one_met at late mid late_mid draft places (one value)) → Goes known all names met mid late_mid after late_after first.next behind (others first.next rest)
-      → Goes known all names met at late after late_after draft (places ++ behind) (then_laid takes one others values)
-  then_goes names met one_met takes value rest values are is_taken one others at late mid late_mid after late_after draft places behind marks first more =
+      → (one : Option Tree → Result Draft Refusal) (others : Draft → List Tree → Result Draft Refusal) (at : ℕ) (late : Late) (mid : ℕ) (late_mid : Late) (after : ℕ) (late_after : Late) (draft : Draft) → length late ≡ at
+      → (first : Goes known all names one_met at late mid late_mid draft (one value)) → Goes known all names met mid late_mid after late_after first.next (others first.next rest)
+      → Goes known all names met at late after late_after draft (then_laid takes one others values)
+  then_goes names met one_met takes value rest values are is_taken one others at late mid late_mid after late_after draft marks first more =
       let is_first : first_value takes values ≡ value = ap (first_value takes) are ∙ first_is takes value rest is_taken in
       let is_rest : other_values takes values ≡ rest = ap (other_values takes) are ∙ others_are takes value rest is_taken in
-      subst (λ (v : Option Tree). Goes known all names met at late after late_after draft (places ++ behind) (one v >>= λ next. others next (other_values takes values))) (sym is_first)
-      (subst (λ (vs : List Tree). Goes known all names met at late after late_after draft (places ++ behind) (one value >>= λ next. others next vs)) (sym is_rest)
-      (goes_both known all names one_met met at late mid late_mid after late_after draft places behind (one value) (λ next. others next rest) marks first more))
+      subst (λ (v : Option Tree). Goes known all names met at late after late_after draft (one v >>= λ next. others next (other_values takes values))) (sym is_first)
+      (subst (λ (vs : List Tree). Goes known all names met at late after late_after draft (one value >>= λ next. others next vs)) (sym is_rest)
+      (goes_both known all names one_met met at late mid late_mid after late_after draft (one value) (λ next. others next rest) marks first more))
 
   pieces_goes : (names : Environment) (passed : Passed) (pieces : List Piece) → Unplaced pieces → (values : List Tree) (at after : ℕ) (late late_after : Late)
       → InOrder (PieceSpells anyhow known all names) passed pieces values at late after late_after
       → (draft : Draft) → Fits known all names passed.met at late draft → MetKnown passed.met draft.known
-      → Goes known all names passed.met at late after late_after draft [] (in_order takes_one (lay known) draft pieces values)
+      → Goes known all names passed.met at late after late_after draft (in_order takes_one (lay known) draft pieces values)
   pieces_goes names passed [] none values at after late late_after it draft fits met_known = goes_done known all names passed.met at late after late_after draft it.1 it.2 fits met_known
   pieces_goes names passed (piece ∷ pieces) none values at after late late_after (value, rest, mid, late_mid, are, one, others) draft fits met_known =
       let next_met = (behind_piece piece passed).met in
       let first = goes_met known all names (met_piece piece passed.met) next_met
-      (places_then (met_piece piece passed.met) passed.met next_met (unplaced_same piece passed none.0) (same_behind piece passed)) at late mid late_mid draft [] (lay known draft piece value)
-      (subst (λ (places : List ℤ). Goes known all names (met_piece piece passed.met) at late mid late_mid draft places (lay known draft piece value)) (no_places piece at none.0)
-      (piece_goes known all names passed at late draft fits met_known piece value mid late_mid one)) in
-      let more = goes_met known all names next_met passed.met (places_back passed.met next_met (same_behind piece passed)) mid late_mid after late_after first.next [] (in_order takes_one (lay known) first.next pieces rest)
+      (places_then (met_piece piece passed.met) passed.met next_met (unplaced_same piece passed none.0) (same_behind piece passed)) at late mid late_mid draft (lay known draft piece value)
+      (piece_goes known all names passed at late draft fits met_known piece value mid late_mid one) in
+      let more = goes_met known all names next_met passed.met (places_back passed.met next_met (same_behind piece passed)) mid late_mid after late_after first.next (in_order takes_one (lay known) first.next pieces rest)
       (pieces_goes names (behind_piece piece passed) pieces none.1 rest mid after late_mid late_after others first.next first.fits first.met_known) in
       then_goes names passed.met next_met (takes_one piece) value rest values are (piece_taken names passed piece value at mid late late_mid one) (lay known draft piece)
-      (λ next values. in_order takes_one (lay known) next pieces values) at late mid late_mid after late_after draft [] [] fits.marks first more
+      (λ next values. in_order takes_one (lay known) next pieces values) at late mid late_mid after late_after draft fits.marks first more
 
   pieces_go : (names : Environment) (passed : Passed) (field : PlainField) → Unplaced (pieces_of field) → (value : Option Tree) (at after : ℕ) (late late_after : Late)
       → PiecesSpell anyhow known all field names passed value at late after late_after → (draft : Draft) → Fits known all names passed.met at late draft → MetKnown passed.met draft.known
-      → Goes known all names passed.met at late after late_after draft [] (pieces_laid known draft field value)
+      → Goes known all names passed.met at late after late_after draft (pieces_laid known draft field value)
   pieces_go names passed field none value at after late late_after it draft fits met_known =
       pieces_goes names passed (pieces_of field) none (values_for field value) at after late late_after it.1 draft fits met_known
 
   label_goes : (names : Environment) (passed : Passed) (name : Word) (value : Option Tree) (at after : ℕ) (late late_after : Late)
       → PiecesSpell anyhow known all (Label name) names passed value at late after late_after → (draft : Draft) → Fits known all names passed.met at late draft → MetKnown passed.met draft.known
-      → Goes known all names (met_behind (Label name) passed.met) at late after late_after draft (pos at ∷ []) (pieces_laid known draft (Label name) value)
+      → Goes known all names (met_behind (Label name) passed.met) at late after late_after draft (pieces_laid known draft (Label name) value)
   label_goes names passed name value at after late late_after (grouped, (own, rest, mid, late_mid, are, one, end)) draft fits met_known =
       let first = piece_goes known all names passed at late draft fits met_known (Place name) own mid late_mid one in
       then_goes names (met_piece (Place name) passed.met) (met_piece (Place name) passed.met) false own rest (option_to_list value) are (piece_taken names passed (Place name) own at mid late late_mid one) (lay known draft (Place name))
-      (λ next values. Ok next) at late mid late_mid after late_after draft (pos at ∷ []) [] fits.marks first
+      (λ next values. Ok next) at late mid late_mid after late_after draft fits.marks first
       (goes_done known all names (met_piece (Place name) passed.met) mid late_mid after late_after first.next end.1 end.2 first.fits first.met_known)
 
   -- A single piece takes the value that there is.
@@ -250,11 +242,10 @@ module _ (known : Facts) (all : List Bool) where
 
   -- What a body spells is laid.
 
-  -- after a body its labels have these places more
   abbrev BodyGoes : PlainBody → Type 0
   BodyGoes body = (passed : Passed) (own : Environment) (values : List Tree) (at after : ℕ) (late late_after : Late)
       → BodySpells anyhow known all body own passed values at late after late_after → (draft : Draft) → Fits known all own passed.met at late draft → MetKnown passed.met draft.known
-      → (places : List ℤ) × PlacesAre own body places × Goes known all own (met_all body passed.met) at late after late_after draft places (body_laid known draft body values)
+      → Goes known all own (met_all body passed.met) at late after late_after draft (body_laid known draft body values)
 
   pub entered_fits : (row : PlainBody) (which : Option RowOf) (names own : Environment) (met : Names) (line : List Tree) (at : ℕ) (late : Late) (draft : Draft) → Within row which names own → AreCounted row line own
       → Fits known all names met at late draft → Fits known all own (met_front row met) at late (enter which row line draft)
@@ -325,106 +316,106 @@ module _ (known : Facts) (all : List Bool) where
           ∙ alike.places label rows number refl (sym (within.give (rows_of label) none (no_row which (rows_of label) refl)) ∙ is) inside
           ∙ sym (within.give key also at_row)
 
+  -- a row goes, and at its end a label in it has the place that is spelled
+  record RowGoes (row : PlainBody) (which : Option RowOf) (names own : Environment) (met : Names) (line : List Tree) (at : ℕ) (late : Late) (after : ℕ) (late_after : Late) (draft : Draft) : Type 0 where
+    one : Ended
+    is : row_ended known which row draft line ≡ Ok one
+    labels : (label : List ℕ) → has_label row label ≡ true → own.give (place_of label) ≡ one.own.give (place_of label)
+    goes : Goes known all names met at late after late_after draft (Ok one.draft)
+
   inside_goes : (row : PlainBody) → BodyGoes row → (passed : Passed) (which : Option RowOf) (names own : Environment) (line : List Tree) (at after : ℕ) (late late_after : Late)
       → Within row which names own → BodySpells anyhow known all row own (at_front row passed) line at late after late_after
       → (draft : Draft) → Fits known all names passed.met at late draft → MetKnown passed.met draft.known
-      → (places : List ℤ) × PlacesAre own row places × Goes known all names passed.met at late after late_after draft places (row_laid known which row draft line)
+      → RowGoes row which names own passed.met line at late after late_after draft
   inside_goes row goes passed which names own line at after late late_after within spells draft fits met_known =
-      let found = goes (at_front row passed) own line at after late late_after spells (enter which row line draft)
+      let inner = goes (at_front row passed) own line at after late late_after spells (enter which row line draft)
       (entered_fits row which names own passed.met line at late draft within (body_counted own (at_front row passed) row line at after late late_after spells) fits)
       (met_entered which row line passed.met draft.known met_known) in
-      let inner = found.2 in
-      let change : LateNumber → LateNumber = closing which row inner.next.known in (
-        found.0,
-        found.1,
-        record {
+      let change : LateNumber → LateNumber = closing which row inner.next.known in
+      record {
+        one = row_end which row draft inner.next;
+        is = ap (λ (r : Result Draft Refusal). r >>= λ next. good (row_end which row draft next)) inner.is;
+        labels = λ label is. sym (inner.fits.names_are.names (place_of label) refl (none_later row (met_front row passed.met) (place_of label) (label_declared row label is)));
+        goes = record {
           next = leave which row draft inner.next;
-          is = ap (λ (r : Result Draft Refusal). r >>= λ next. good (leave which row draft next)) inner.is;
+          is = refl;
           fits = record { bits = inner.fits.bits; len = inner.fits.len; late_is = inner.fits.late_is; marks = inner.fits.marks; within = inner.fits.within; names_are = fits.names_are };
           met_known = met_known;
           more = inner.more;
           more_is = inner.more_is;
           numbers = map change inner.numbers;
           numbers_are = ap (λ (n : List LateNumber). draft.numbers ++ map change n) inner.numbers_are;
-          places_are = inner.places_are;
           tracks = tracks-map (HoldsIn known all own) (HoldsIn known all names) change (λ one. refl) (λ one. refl)
               (λ one holds others alike.
               let it = holds (outside_of which row inner.next.known others) (outside_alike row which names own (met_front row passed.met) after late_after inner.next within inner.fits others alike) in
               record { bits = it.bits; value = it.value; there = it.there; width = it.width })
               at inner.numbers inner.more inner.tracks;
-        },
-      )
+        };
+      }
+
+  row_goes : (row : PlainBody) (which : Option RowOf) (names own : Environment) (met : Names) (line : List Tree) (at : ℕ) (late : Late) (after : ℕ) (late_after : Late) (draft : Draft)
+      → RowGoes row which names own met line at late after late_after draft → Goes known all names met at late after late_after draft (row_laid known which row draft line)
+  row_goes row which names own met line at late after late_after draft it = subst (Goes known all names met at late after late_after draft) (sym (ap row_drafted it.is)) it.goes
 
   rows_goes : (name : Option Word) (row : PlainBody) → BodyGoes row → (passed : Passed) (names : Environment) (number : ℕ) (rows : List (List Tree)) (at after : ℕ) (late late_after : Late)
       → RowsSpell (λ number line. Inside row (row_of name number) names (λ own. BodySpells anyhow known all row own (at_front row passed) line)) number rows at late after late_after
       → (draft : Draft) → Fits known all names passed.met at late draft → MetKnown passed.met draft.known
-      → (places : List ℤ) × RowsHave row names number (length rows) places
-      × Goes known all names passed.met at late after late_after draft places (rows_laid (λ number. row_laid known (row_of name number) row) number draft rows)
-  rows_goes name row goes passed names number [] at after late late_after it draft fits met_known =
-      ([], no_rows_have row names number, goes_done known all names passed.met at late after late_after draft it.0 it.1 fits met_known)
+      → RowsGo known all row names passed.met at late after late_after draft number (length rows) (rows_laid (λ number. row_ended known (row_of name number) row) number draft rows)
+  rows_goes name row goes passed names number [] at after late late_after it draft fits met_known = record {
+    rows = record { draft = draft; ends = [] };
+    is = refl;
+    many = refl;
+    ends = tt;
+    goes = goes_done known all names passed.met at late after late_after draft it.0 it.1 fits met_known;
+  }
   rows_goes name row goes passed names number (line ∷ rows) at after late late_after (mid, late_mid, (own, within, spells), others) draft fits met_known =
+      let lay = λ (number : ℕ). row_ended known (row_of name number) row in
       let found = inside_goes row goes passed (row_of name number) names own line at mid late late_mid within spells draft fits met_known in
-      let first = found.2 in
-      let more = rows_goes name row goes passed names (number + 1) rows mid after late_mid late_after others first.next first.fits first.met_known in (
-        found.0 ++ more.0,
-        rows_have row names number (length rows) found.0 more.0 (row_has row name names own number found.0 found.1 within.places) more.1,
-        goes_both known all names passed.met passed.met at late mid late_mid after late_after draft found.0 more.0 (row_laid known (row_of name number) row draft line)
-            (λ next. rows_laid (λ number. row_laid known (row_of name number) row) (number + 1) next rows) fits.marks first more.2,
-      )
+      let first = found.goes in
+      let more = rows_goes name row goes passed names (number + 1) rows mid after late_mid late_after others first.next first.fits first.met_known in
+      let after_first : ((Ok found.one.draft) >>= λ next. rows_laid lay (number + 1) next rows) ≡ rows_laid lay (number + 1) first.next rows =
+      ap (λ (r : Result Draft Refusal). r >>= λ next. rows_laid lay (number + 1) next rows) first.is in
+      record {
+        rows = and_row found.one more.rows;
+        is = ap (λ (r : Result Ended Refusal). r >>= λ one. rows_laid lay (number + 1) one.draft rows >>= λ others. Ok (and_row one others)) found.is
+            ∙ ap (λ (r : Result AllRows Refusal). r >>= λ others. good (and_row found.one others)) (after_first ∙ more.is);
+        many = ap suc more.many;
+        ends = ((λ label is. within.places label is ∙ found.labels label is), more.ends);
+        goes = goes_both known all names passed.met passed.met at late mid late_mid after late_after draft (Ok found.one.draft) (λ next. Ok more.rows.draft) fits.marks first more.goes;
+      }
 
   abbrev FieldGoes : PlainField → Type 0
   FieldGoes field = (passed : Passed) (names : Environment) (value : Option Tree) (at after : ℕ) (late late_after : Late)
       → FieldSpells anyhow known all field names passed value at late after late_after → (draft : Draft) → Fits known all names passed.met at late draft → MetKnown passed.met draft.known
-      → Goes known all names (met_behind field passed.met) at late after late_after draft (label_places field at) (field_laid known draft field value)
+      → Goes known all names (met_behind field passed.met) at late after late_after draft (field_laid known draft field value)
 
   abbrev CasesGo : PlainCases → Type 0
   CasesGo cases = (passed : Passed) (names : Environment) (value : Option Tree) (at after : ℕ) (late late_after : Late)
       → CaseSpells anyhow known all cases names passed value at late after late_after → (draft : Draft) → Fits known all names passed.met at late draft → MetKnown passed.met draft.known
-      → Goes known all names passed.met at late after late_after draft [] (case_laid known draft cases value)
+      → Goes known all names passed.met at late after late_after draft (case_laid known draft cases value)
 
   case_goes : (row : PlainBody) → BodyGoes row → (passed : Passed) (names : Environment) (name : Word) (value : Option Tree) (at after : ℕ) (late late_after : Late)
       → (line : List Tree) × (value ≡ Some (trees.Choice name line)) × Inside row None names (λ own. BodySpells anyhow known all row own (at_front row passed) line) at late after late_after
       → (draft : Draft) → Fits known all names passed.met at late draft → MetKnown passed.met draft.known
-      → Goes known all names passed.met at late after late_after draft [] (apart (λ inner. row_laid known None row inner (line_in value)) draft)
+      → Goes known all names passed.met at late after late_after draft (row_laid known None row draft (line_in value))
   case_goes row goes passed names name value at after late late_after (line, is, (own, within, spells)) draft fits met_known =
-      let found = inside_goes row goes passed None names own line at after late late_after within spells (with_places [] draft) (fits_places known all names passed.met at late [] draft fits) met_known in
-      subst (λ (l : List Tree). Goes known all names passed.met at late after late_after draft [] (apart (λ inner. row_laid known None row inner l) draft)) (sym (ap line_in is ∙ line_is name line))
-      (goes_apart known all names passed.met at late after late_after draft found.0 (λ inner. row_laid known None row inner line) found.2)
+      subst (λ (l : List Tree). Goes known all names passed.met at late after late_after draft (row_laid known None row draft l)) (sym (ap line_in is ∙ line_is name line))
+      (row_goes row None names own passed.met line at late after late_after draft (inside_goes row goes passed None names own line at after late late_after within spells draft fits met_known))
 
   by_case : (names : Environment) (met : Names) (This Other : Type 0) (this other : Result Draft Refusal) (at : ℕ) (late : Late) (after : ℕ) (late_after : Late) (draft : Draft)
-      → (This → Goes known all names met at late after late_after draft [] this) → (Other → Goes known all names met at late after late_after draft [] other)
-      → (test : Bool) → By test This Other → Goes known all names met at late after late_after draft [] (if test then this else other)
+      → (This → Goes known all names met at late after late_after draft this) → (Other → Goes known all names met at late after late_after draft other)
+      → (test : Bool) → By test This Other → Goes known all names met at late after late_after draft (if test then this else other)
   by_case names met This Other this other at late after late_after draft one more true it = one it
   by_case names met This Other this other at late after late_after draft one more false it = more it
 
   array_goes : (name : Option Word) (count : Option ℤ) (row : PlainBody) → BodyGoes row → FieldGoes (Array name count row)
   array_goes name count row goes passed names value at after late late_after (rows, is, stated, counts, are, spells) draft fits met_known =
-      let front = with_places [] draft in
       let next_met : Names = λ key. gives_rows row key || passed.met key in
-      let found = rows_goes name row goes passed names 1 rows at after late late_after spells front (fits_places known all names passed.met at late [] draft fits) met_known in
-      let laid : Result Draft Refusal = rows_laid (λ number. row_laid known (row_of name number) row) 1 front rows in
-      goes_met known all names next_met (met_behind (Array name count row) passed.met) (array_same name count row passed.met) at late after late_after draft [] (rows_apart known name row (rows_in value) draft)
-      (subst (λ (lines : List (List Tree)). Goes known all names next_met at late after late_after draft [] (rows_apart known name row lines draft))
+      let found = rows_goes name row goes passed names 1 rows at after late late_after spells draft fits met_known in
+      goes_met known all names next_met (met_behind (Array name count row) passed.met) (array_same name count row passed.met) at late after late_after draft (all_laid known name row (rows_in value) draft)
+      (subst (λ (lines : List (List Tree)). Goes known all names next_met at late after late_after draft (all_laid known name row lines draft))
       (sym (ap rows_in is ∙ rows_are rows))
-      (goes_apart known all names next_met at late after late_after draft found.0 (array_laid (λ number. row_laid known (row_of name number) row) row rows)
-      (goes_behind known all names passed.met at late after late_after front found.0 row (length rows) laid are refl found.1 found.2)))
-
-  -- where a label stands
-
-  label_stands : (names : Environment) (passed : Passed) (name : Word) (value : Option Tree) (at after : ℕ) (late late_after : Late) → PiecesSpell anyhow known all (Label name) names passed value at late after late_after
-      → FieldStands (Label name) names at
-  label_stands names passed name value at after late late_after (grouped, (own, rest, mid, late_mid, are, one, end)) = one.stored.1
-
-  pub field_stands : (names : Environment) (passed : Passed) (field : PlainField) (value : Option Tree) (at after : ℕ) (late late_after : Late) → FieldSpells anyhow known all field names passed value at late after late_after
-      → FieldStands field names at
-  field_stands names passed (Number number) value at after late late_after it = tt
-  field_stands names passed (Text text) value at after late late_after it = tt
-  field_stands names passed (Points points) value at after late late_after it = tt
-  field_stands names passed (Fill unit count) value at after late late_after it = tt
-  field_stands names passed (Align unit) value at after late late_after it = tt
-  field_stands names passed (Label name) value at after late late_after it = label_stands names passed name value at after late late_after it
-  field_stands names passed (Array name count row) value at after late late_after it = tt
-  field_stands names passed (Switch cases) value at after late late_after it = tt
+      (goes_behind known all row names passed.met at late after late_after draft (length rows) (each_laid known name row rows draft) are found))
 
   mutual
     field_goes : (field : PlainField) → FieldGoes field
@@ -442,35 +433,32 @@ module _ (known : Facts) (all : List Bool) where
     cases_go (case_and name row others) passed names value at after late late_after it draft fits met_known =
         by_case names passed.met ((line : List Tree) × (value ≡ Some (trees.Choice name line)) × Inside row None names (λ own. BodySpells anyhow known all row own (at_front row passed) line) at late after late_after)
         (CaseSpells anyhow known all others names passed value at late after late_after)
-        (apart (λ inner. row_laid known None row inner (line_in value)) draft) (case_laid known draft others value) at late after late_after draft
+        (row_laid known None row draft (line_in value)) (case_laid known draft others value) at late after late_after draft
         (λ one. case_goes row (body_goes row) passed names name value at after late late_after one draft fits met_known)
         (λ other. cases_go others passed names value at after late late_after other draft fits met_known)
         (is_case name value) it
 
     body_goes : (body : PlainBody) → BodyGoes body
-    body_goes no_fields passed own values at after late late_after it draft fits met_known = ([], refl, goes_done known all own passed.met at late after late_after draft it.1 it.2 fits met_known)
+    body_goes no_fields passed own values at after late late_after it draft fits met_known = goes_done known all own passed.met at late after late_after draft it.1 it.2 fits met_known
     body_goes (field_and field fields) passed own values at after late late_after (value, rest, mid, late_mid, are, one, others) draft fits met_known =
         let here = at_field (field_and field fields) passed in
         let next_met = (behind field here).met in
         let same : SamePlaces (met_behind field passed.met) next_met = λ in_rows name. ap (λ (met : Names). met (label_key in_rows name)) (sym (behind_met field here)) in
-        let places = label_places field at in
-        let first = goes_met known all own (met_behind field passed.met) next_met same at late mid late_mid draft places (field_laid known draft field value)
+        let first = goes_met known all own (met_behind field passed.met) next_met same at late mid late_mid draft (field_laid known draft field value)
         (field_goes field here own value at mid late late_mid one draft fits met_known) in
-        let found = body_goes fields (behind field here) own rest mid after late_mid late_after others first.next first.fits first.met_known in
+        let others_go = body_goes fields (behind field here) own rest mid after late_mid late_after others first.next first.fits first.met_known in
         let more = goes_met known all own (met_all fields next_met) (met_all fields (met_behind field passed.met)) (met_all_same fields next_met (met_behind field passed.met) (places_back (met_behind field passed.met) next_met same))
-        mid late_mid after late_after first.next found.0 (body_laid known first.next fields rest) found.2 in (
-          places ++ found.0,
-          places_more own field fields at found.0 (field_stands own here field value at mid late late_mid one) found.1,
-          then_goes own (met_all fields (met_behind field passed.met)) next_met (takes_value field) value rest values are (field_taken own here field value at mid late late_mid one) (field_laid known draft field)
-              (λ next values. body_laid known next fields values) at late mid late_mid after late_after draft places found.0 fits.marks first more,
-        )
+        mid late_mid after late_after first.next (body_laid known first.next fields rest) others_go in
+        then_goes own (met_all fields (met_behind field passed.met)) next_met (takes_value field) value rest values are (field_taken own here field value at mid late late_mid one) (field_laid known draft field)
+        (λ next values. body_laid known next fields values) at late mid late_mid after late_after draft fits.marks first more
 
 module _ (read : (bytes : List ℕ) → ((k : ℕ) → slice_index bytes k < 256) → bytes_of (bits_of bytes) ≡ bytes) where
   pub complete : (known : Facts) (body : PlainBody) (row : List Tree) (bytes : List ℕ) → Spells known body row bytes → laid known body row ≡ Ok bytes
   complete known body row bytes it =
       let all = bits_of bytes in
-      let goes = (inside_goes known all body (body_goes known all body) nothing_passed None outside it.names row 0 it.end [] it.late it.own it.fields nothing_laid
-      (record { bits = refl; len = refl; late_is = refl; marks = refl; within = omega arith; names_are = record { names = λ key single now. refl; places = λ label rows number was is inside. refl } }) (λ in_rows name. refl)).2 in
+      let goes = row_goes known all body None outside it.names nothing_passed.met row 0 [] it.end it.late nothing_laid
+      (inside_goes known all body (body_goes known all body) nothing_passed None outside it.names row 0 it.end [] it.late it.own it.fields nothing_laid
+      (record { bits = refl; len = refl; late_is = refl; marks = refl; within = omega arith; names_are = record { names = λ key single now. refl; places = λ label rows number was is inside. refl } }) (λ in_rows name. refl)) in
       let front : List Bool = take it.end all in
       let size : length goes.more ≡ length front = sym (ap length goes.more_is) ∙ goes.fits.marks ∙ sym (length-take-le it.end all it.within) in
       let second : fill known outside goes.next.numbers goes.next.bits ≡ Ok front =

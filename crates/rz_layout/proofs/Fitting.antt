@@ -21,7 +21,7 @@ use Rattle.rz_types.proofs.Texts.{Keeps}
 use Rattle.rz_types_fields.proofs.SameNames.{key_is}
 use Rattle.rz_types_fields.specs.declared.field.NumForm.{NumForm}
 use Rattle.rz_types_fields.specs.declared.tree.Tree.{Tree}
-use Rattle.rz_types_fields.specs.Laid.{and_place, apart, behind_rows, draft_sight, fixed_form, grown, late_at, late_bits, later, lay, met_in, now, number_form, number_in, piece_form, placed, ranged, reads_late, refusal, too_long, unless, valued, value_refusal, with_form, with_places, with_room, Draft, Form, LateNumber, Refusal}
+use Rattle.rz_types_fields.specs.Laid.{behind_rows, draft_sight, fixed_form, grown, late_at, late_bits, later, lay, met_in, now, number_form, number_in, piece_form, placed, ranged, reads_late, refusal, too_long, unless, valued, value_refusal, with_form, with_room, AllRows, Draft, Form, LateNumber, Refusal}
 use Rattle.rz_types_fields.specs.Passed.{gives_rows, stands_at, Names, Passed}
 use Rattle.rz_types_fields.specs.Piece.{terms_of_text, Filler, OneNumber, OneText, Piece, Place, Zeros}
 use Rattle.rz_types_fields.specs.Range.{fits_number}
@@ -32,8 +32,7 @@ use Rattle.rz_layout.proofs.Filled.{length_number}
 use Rattle.rz_layout.proofs.Later.{is_later}
 use Rattle.rz_layout.proofs.Masks.{hidden_bits, length-marks, masked, masked-append, masked_all, masked_none, take-plus}
 use Rattle.rz_layout.proofs.Labels.{label_given, label_key, label_none, met_more, met_rows, names_known, MetKnown}
-use Rattle.rz_layout.proofs.Placing.{alike_rows}
-use Rattle.rz_types_fields.proofs.RowPlaces.{RowsHave}
+use Rattle.rz_layout.proofs.Placing.{alike_rows, EndsAre}
 use Rattle.rz_types_fields.specs.Field.{PlainBody}
 use Rattle.rz_layout.proofs.Trees.{number_is}
 use Rattle.rz_layout.proofs.Sees.{every, hidden, is_in_row, nothing_later, value_same, Alike, Hides}
@@ -87,18 +86,6 @@ piece_alone (OneText text) key other = refl
 piece_alone (Zeros count) key other = refl
 piece_alone (Filler unit) key other = refl
 piece_alone (Place own) key other = label_alone own key other
-
--- the place that it adds to those of labels
-abbrev pub piece_places : Piece → ℕ → List ℤ
-piece_places (Place name) at = pos at ∷ []
-piece_places piece at = []
-
-pub and_place_is : (piece : Piece) (at : ℕ) (places : List ℤ) → and_place piece at places ≡ places ++ piece_places piece at
-and_place_is (OneNumber number) at places = sym (append-nil places)
-and_place_is (OneText text) at places = sym (append-nil places)
-and_place_is (Zeros count) at places = sym (append-nil places)
-and_place_is (Filler unit) at places = sym (append-nil places)
-and_place_is (Place name) at places = refl
 
 pub later_piece : (piece : Piece) (met : Names) (key : Key) → piece_is piece key ≡ false → is_later (met_piece piece met) key ≡ is_later met key
 later_piece piece met (place_of name) none = ap (λ (test : Bool). not (test || met (place_of name))) none
@@ -168,8 +155,8 @@ module _ (known : Facts) (all : List Bool) where
   abbrev pub HoldsIn : Environment → LateNumber → Type 0
   HoldsIn names one = (own : Environment) → Alike every own names → Holds known all own one
 
-  -- a step of the first pass to a draft that fits again, after which the labels of the body have these places more
-  pub record Goes (names : Environment) (met : Names) (at : ℕ) (late : Late) (after : ℕ) (late_after : Late) (draft : Draft) (places : List ℤ) (result : Result Draft Refusal) : Type 0 where
+  -- a step of the first pass to a draft that fits again
+  pub record Goes (names : Environment) (met : Names) (at : ℕ) (late : Late) (after : ℕ) (late_after : Late) (draft : Draft) (result : Result Draft Refusal) : Type 0 where
     pub next : Draft
     pub is : result ≡ Ok next
     pub fits : Fits names met after late_after next
@@ -178,7 +165,6 @@ module _ (known : Facts) (all : List Bool) where
     pub more_is : late_after ≡ late ++ more
     pub numbers : List LateNumber
     pub numbers_are : next.numbers ≡ draft.numbers ++ numbers
-    pub places_are : next.places ≡ draft.places ++ places
     pub tracks : Tracks (HoldsIn names) at numbers more
 
   pub fits_met : (names : Environment) (one other : Names) → SamePlaces one other → (at : ℕ) (late : Late) (draft : Draft) → Fits names one at late draft → Fits names other at late draft
@@ -191,9 +177,9 @@ module _ (known : Facts) (all : List Bool) where
     names_are = alike_same one other same draft.known names fits.names_are;
   }
 
-  pub goes_met : (names : Environment) (one other : Names) → SamePlaces one other → (at : ℕ) (late : Late) (after : ℕ) (late_after : Late) (draft : Draft) (places : List ℤ) (result : Result Draft Refusal)
-      → Goes names one at late after late_after draft places result → Goes names other at late after late_after draft places result
-  goes_met names one other same at late after late_after draft places result it = record {
+  pub goes_met : (names : Environment) (one other : Names) → SamePlaces one other → (at : ℕ) (late : Late) (after : ℕ) (late_after : Late) (draft : Draft) (result : Result Draft Refusal)
+      → Goes names one at late after late_after draft result → Goes names other at late after late_after draft result
+  goes_met names one other same at late after late_after draft result it = record {
     next = it.next;
     is = it.is;
     fits = fits_met names one other same after late_after it.next it.fits;
@@ -202,7 +188,6 @@ module _ (known : Facts) (all : List Bool) where
     more_is = it.more_is;
     numbers = it.numbers;
     numbers_are = it.numbers_are;
-    places_are = it.places_are;
     tracks = it.tracks;
   }
 
@@ -363,14 +348,11 @@ module _ (known : Facts) (all : List Bool) where
     labels (Place name) value own it key is = sym (ap names.give (key_is (place_key name.bytes) key is)) ∙ it.1
 
     pub piece_goes : (piece : Piece) (value : Option Tree) (after : ℕ) (late_after : Late) → PieceSpells anyhow known all names passed piece value at late after late_after
-        → Goes names (met_piece piece passed.met) at late after late_after draft (piece_places piece at) (lay known draft piece value)
+        → Goes names (met_piece piece passed.met) at late after late_after draft (lay known draft piece value)
     piece_goes piece value after late_after it = by (is_late_piece passed.met late piece sight) refl (formed piece value it.bits it.stored it.early)
       where
         own : List Bool
         own = it.bits
-
-        places_are : and_place piece (length draft.bits) draft.places ≡ draft.places ++ piece_places piece at
-        places_are = and_place_is piece (length draft.bits) draft.places ∙ ap (λ (n : ℕ). draft.places ++ piece_places piece n) fits.len
 
         room : length draft.bits + length own ≤ most_bits
         room = let a = fits.len in let b = it.ends in let c = it.short in omega (arith, a, b, c)
@@ -383,7 +365,7 @@ module _ (known : Facts) (all : List Bool) where
             (grown_fits names passed.met at late draft fits piece own test numbers it.there (labels piece value own it.stored)))
 
         by : (test : Bool) → is_late_piece passed.met late piece sight ≡ test → Formed names draft (piece_form known draft piece value) test own
-            → Goes names (met_piece piece passed.met) at late after late_after draft (piece_places piece at) (lay known draft piece value)
+            → Goes names (met_piece piece passed.met) at late after late_after draft (lay known draft piece value)
         by test is (inl so) = record {
           next = grown piece draft own false [];
           is = ap (λ (r : Result Form Refusal). r >>= with_form draft piece) so.1 ∙ room_ok draft (length own) (grown piece draft own false []) room;
@@ -393,7 +375,6 @@ module _ (known : Facts) (all : List Bool) where
           more_is = it.marked ∙ ap (λ (c : Bool). late ++ replicate (length own) c) (is ∙ so.0);
           numbers = [];
           numbers_are = refl;
-          places_are = places_are;
           tracks = ap (λ (n : ℕ). replicate n false) (sym (length-marks (length own) false));
         }
         by test is (inr so) =
@@ -410,7 +391,6 @@ module _ (known : Facts) (all : List Bool) where
               more_is = it.marked ∙ ap (λ (c : Bool). late ++ replicate (length own) c) (is ∙ so.0) ∙ ap (λ (n : ℕ). late ++ replicate n true) form.size;
               numbers = one ∷ [];
               numbers_are = refl;
-              places_are = places_are;
               tracks = (
                 0,
                 [],
@@ -429,7 +409,7 @@ module _ (known : Facts) (all : List Bool) where
   -- One after the other.
 
   pub goes_done : (names : Environment) (met : Names) (at : ℕ) (late : Late) (after : ℕ) (late_after : Late) (draft : Draft) → after ≡ at → late_after ≡ late → Fits names met at late draft → MetKnown met draft.known
-      → Goes names met at late after late_after draft [] (Ok draft)
+      → Goes names met at late after late_after draft (Ok draft)
   goes_done names met at late after late_after draft same also fits met_known = record {
     next = draft;
     is = refl;
@@ -439,14 +419,13 @@ module _ (known : Facts) (all : List Bool) where
     more_is = also ∙ sym (append-nil late);
     numbers = [];
     numbers_are = sym (append-nil draft.numbers);
-    places_are = sym (append-nil draft.places);
     tracks = refl;
   }
 
-  pub goes_both : (names : Environment) (one two : Names) (at : ℕ) (late : Late) (mid : ℕ) (late_mid : Late) (after : ℕ) (late_after : Late) (draft : Draft) (places behind : List ℤ) (result : Result Draft Refusal)
-      → (others : Draft → Result Draft Refusal) → length late ≡ at → (first : Goes names one at late mid late_mid draft places result) → Goes names two mid late_mid after late_after first.next behind (others first.next)
-      → Goes names two at late after late_after draft (places ++ behind) (result >>= others)
-  goes_both names one two at late mid late_mid after late_after draft places behind result others marks first more = record {
+  pub goes_both : (names : Environment) (one two : Names) (at : ℕ) (late : Late) (mid : ℕ) (late_mid : Late) (after : ℕ) (late_after : Late) (draft : Draft) (result : Result Draft Refusal)
+      → (others : Draft → Result Draft Refusal) → length late ≡ at → (first : Goes names one at late mid late_mid draft result) → Goes names two mid late_mid after late_after first.next (others first.next)
+      → Goes names two at late after late_after draft (result >>= others)
+  goes_both names one two at late mid late_mid after late_after draft result others marks first more = record {
     next = more.next;
     is = ap (λ (r : Result Draft Refusal). r >>= others) first.is ∙ more.is;
     fits = more.fits;
@@ -455,53 +434,43 @@ module _ (known : Facts) (all : List Bool) where
     more_is = more.more_is ∙ ap (λ (m : Late). m ++ more.more) first.more_is ∙ append_assoc late first.more more.more;
     numbers = first.numbers ++ more.numbers;
     numbers_are = more.numbers_are ∙ ap (λ (n : List LateNumber). n ++ more.numbers) first.numbers_are ∙ append_assoc draft.numbers first.numbers more.numbers;
-    places_are = more.places_are ∙ ap (λ (p : List ℤ). p ++ behind) first.places_are ∙ append_assoc draft.places places behind;
     tracks = tracks-append (HoldsIn names) at first.numbers more.numbers first.more more.more first.tracks
         (subst (λ (k : ℕ). Tracks (HoldsIn names) k more.numbers more.more)
         (let a = first.fits.marks in let b = ap length first.more_is in let c = length-append late first.more in omega (arith, a, b, c, marks)) more.tracks);
   }
 
-  -- With places of its own, and after all rows of an array.
+  -- After all rows of an array.
 
-  pub fits_places : (names : Environment) (met : Names) (at : ℕ) (late : Late) (places : List ℤ) (draft : Draft) → Fits names met at late draft → Fits names met at late (with_places places draft)
-  fits_places names met at late places draft fits = record { bits = fits.bits; len = fits.len; late_is = fits.late_is; marks = fits.marks; within = fits.within; names_are = fits.names_are }
+  -- rows that go, of which the first has this number
+  pub record RowsGo (row : PlainBody) (names : Environment) (met : Names) (at : ℕ) (late : Late) (after : ℕ) (late_after : Late) (draft : Draft) (number count : ℕ) (result : Result AllRows Refusal) : Type 0 where
+    pub rows : AllRows
+    pub is : result ≡ Ok rows
+    pub many : length rows.ends ≡ count
+    pub ends : EndsAre row names number rows.ends
+    pub goes : Goes names met at late after late_after draft (Ok rows.draft)
 
-  pub goes_apart : (names : Environment) (met : Names) (at : ℕ) (late : Late) (after : ℕ) (late_after : Late) (draft : Draft) (places : List ℤ) (lay : Draft → Result Draft Refusal)
-      → Goes names met at late after late_after (with_places [] draft) places (lay (with_places [] draft)) → Goes names met at late after late_after draft [] (apart lay draft)
-  goes_apart names met at late after late_after draft places lay it = record {
-    next = with_places draft.places it.next;
-    is = ap (λ (r : Result Draft Refusal). r >>= λ next. Ok (with_places draft.places next)) it.is;
-    fits = fits_places names met after late_after draft.places it.next it.fits;
-    met_known = it.met_known;
-    more = it.more;
-    more_is = it.more_is;
-    numbers = it.numbers;
-    numbers_are = it.numbers_are;
-    places_are = sym (append-nil draft.places);
-    tracks = it.tracks;
-  }
-
-  pub goes_behind : (names : Environment) (met : Names) (at : ℕ) (late : Late) (after : ℕ) (late_after : Late) (draft : Draft) (places : List ℤ) (row : PlainBody) (count : ℕ) (result : Result Draft Refusal)
-      → AreRows row count names → draft.places ≡ [] → RowsHave row names 1 count places → Goes names met at late after late_after draft places result
-      → Goes names (λ key. gives_rows row key || met key) at late after late_after draft places (result >>= λ next. Ok (behind_rows row count next))
-  goes_behind names met at late after late_after draft places row count result are none have it =
-      let same : places ≡ it.next.places = ap (λ (p : List ℤ). p ++ places) (sym none) ∙ sym it.places_are in
+  pub goes_behind : (row : PlainBody) (names : Environment) (met : Names) (at : ℕ) (late : Late) (after : ℕ) (late_after : Late) (draft : Draft) (count : ℕ) (result : Result AllRows Refusal)
+      → AreRows row count names → RowsGo row names met at late after late_after draft 1 count result
+      → Goes names (λ key. gives_rows row key || met key) at late after late_after draft (result >>= λ rows. Ok (behind_rows row rows))
+  goes_behind row names met at late after late_after draft count result are found =
+      let it = found.goes in
+      let ends = found.rows.ends in
       record {
-        next = behind_rows row count it.next;
-        is = ap (λ (r : Result Draft Refusal). r >>= λ next. Ok (behind_rows row count next)) it.is;
+        next = behind_rows row (record { draft = it.next; ends = ends });
+        is = ap (λ (r : Result AllRows Refusal). r >>= λ rows. Ok (behind_rows row rows)) found.is
+            ∙ ap (λ (r : Result Draft Refusal). r >>= λ next. Ok (behind_rows row (record { draft = next; ends = ends }))) it.is;
         fits = record {
           bits = it.fits.bits;
           len = it.fits.len;
           late_is = it.fits.late_is;
           marks = it.fits.marks;
           within = it.fits.within;
-          names_are = alike_rows row count it.next.places met it.next.known names are (subst (RowsHave row names 1 count) same have) it.fits.names_are;
+          names_are = alike_rows row ends met it.next.known names (subst (λ (n : ℕ). AreRows row n names) (sym found.many) are) found.ends it.fits.names_are;
         };
-        met_known = met_rows row count it.next.places met it.next.known it.met_known;
+        met_known = met_rows row ends met it.next.known it.met_known;
         more = it.more;
         more_is = it.more_is;
         numbers = it.numbers;
         numbers_are = it.numbers_are;
-        places_are = it.places_are;
         tracks = it.tracks;
       }

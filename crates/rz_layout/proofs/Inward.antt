@@ -1,5 +1,5 @@
 -- The names of a body that is laid, by those around it.
-use Rattle.std.proofs.Common.{◌≡◌, ℕ, ℤ, Bool, true, false, ◌||◌, not, List, Option, Some, None, refl, sym, ap, ◌∙◌}
+use Rattle.std.proofs.Common.{◌≡◌, ℕ, ℤ, Bool, true, false, ◌||◌, not, List, Option, Some, refl, sym, ap, ◌∙◌}
 use Rattle.std.specs.Prelude.{if◌then◌else◌}
 use Rattle.rz_core.specs.declared.facts.Facts.{Facts}
 use Rattle.rz_expr.specs.Environment.{count_of, place_in, place_of, rows_of, Environment, Key}
@@ -15,12 +15,8 @@ use Rattle.rz_layout.proofs.Adding.{Adds, FitsAll}
 use Rattle.rz_layout.proofs.Counts.{counted_are, counted_moves, AreApart, AreCounted}
 use Rattle.rz_layout.proofs.Labels.{around_no_place, counts_no_place, entered_none, entered_row, gives_places, inside_later, label_declared, later_all, met_all, met_front, no_row, row_is_around, undeclared}
 use Rattle.rz_layout.proofs.Later.{is_later}
+use Rattle.rz_layout.proofs.Placing.{place_moves}
 use Rattle.rz_layout.proofs.Sees.{is_in_row, not_false, IsRowIn}
-
--- the place that a row has outside, by the names in it
-place_moves : (which : Option RowOf) (label : List ℕ) (names one other : Environment) → one.give (place_of label) ≡ other.give (place_of label) → HasPlace which label names one → HasPlace which label names other
-place_moves None label names one other same has = tt
-place_moves (Some row) label names one other same has = has ∙ same
 
 module _ (known : Facts) where
   module _ (row : PlainBody) (apart : AreApart row) (which : Option RowOf) (passed : Passed) (line : List Tree) (draft inner : Draft) (a : Adds (gives_places row) (enter which row line draft) inner)

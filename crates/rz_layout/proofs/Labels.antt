@@ -251,13 +251,13 @@ pub met_field : (field : PlainField) (met : Names) (known : Environment) → Met
 met_field field met known is in_rows name = ap (λ (test : Bool). test || met (label_key in_rows name)) (place_label field in_rows name) ∙ is in_rows name
 
 -- after all rows of an array
-pub met_rows : (row : PlainBody) (count : ℕ) (places : List ℤ) (met : Names) (known : Environment) → MetKnown met known → MetKnown (λ key. gives_rows row key || met key) (also_rows row count places known)
-met_rows row count places met known is false name = is false name
-met_rows row count places met known is true name = by (has_label row name) refl
+pub met_rows : (row : PlainBody) (ends : List Environment) (met : Names) (known : Environment) → MetKnown met known → MetKnown (λ key. gives_rows row key || met key) (also_rows row ends known)
+met_rows row ends met known is false name = is false name
+met_rows row ends met known is true name = by (has_label row name) refl
   where
-    by : (test : Bool) → has_label row name ≡ test → (has_label row name || met (rows_of name)) ≡ is_some (if has_label row name then Some (pos count) else known.give (rows_of name))
-    by true own = ap (λ (c : Bool). c || met (rows_of name)) own ∙ sym (ap (λ (c : Bool). is_some (if c then Some (pos count) else known.give (rows_of name))) own)
-    by false own = ap (λ (c : Bool). c || met (rows_of name)) own ∙ is true name ∙ sym (ap (λ (c : Bool). is_some (if c then Some (pos count) else known.give (rows_of name))) own)
+    by : (test : Bool) → has_label row name ≡ test → (has_label row name || met (rows_of name)) ≡ is_some (if has_label row name then Some (pos (length ends)) else known.give (rows_of name))
+    by true own = ap (λ (c : Bool). c || met (rows_of name)) own ∙ sym (ap (λ (c : Bool). is_some (if c then Some (pos (length ends)) else known.give (rows_of name))) own)
+    by false own = ap (λ (c : Bool). c || met (rows_of name)) own ∙ is true name ∙ sym (ap (λ (c : Bool). is_some (if c then Some (pos (length ends)) else known.give (rows_of name))) own)
 
 -- Entering a body.
 

@@ -26,7 +26,9 @@ pub mod Complete
 pub mod Fed
 pub mod Adding
 pub mod Coming
-pub mod OwnPlaces
+pub mod EachRow
+pub mod LabelsStand
+pub mod Placed
 pub mod Unmet
 pub mod Inward
 pub mod Sound

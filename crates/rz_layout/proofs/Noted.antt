@@ -5,7 +5,7 @@ use Rattle.std.specs.Option.{is_some}
 use Rattle.std.proofs.lemmas.Bool.{ltb-false}
 use Rattle.std.proofs.Math.Seq.{drop-append_seam, take-append_seam}
 use Rattle.std.proofs.lemmas.List.{append_assoc, append-nil}
-use Rattle.rz_core.specs.Stop.{◌>>=◌, Gives, fault_seen, left}
+use Rattle.rz_core.specs.Stop.{◌>>=◌, Gives, Meets, fault_seen, left}
 use Rattle.rz_core.specs.declared.facts.Facts.{Facts}
 use Rattle.rz_core.specs.declared.stop.Stop.{Stop}
 use Rattle.rz_core.specs.declared.stop.Stop.TheVariants.{NoMemory, Refused}
@@ -18,16 +18,19 @@ use Rattle.rz_expr.specs.Environment.{Environment, Key}
 use Rattle.rz_types_fields.specs.Sees.{marked}
 use Rattle.rz_layout.specs.Laid.{draft_of, has_name, has_names, is_in_named, kept_late, IsEntered, IsLeft, IsNotedBy, IsShort}
 use Rattle.rz_layout.specs.Late.{behind_notes, closed_by, numbers_in}
+use Rattle.rz_layout.specs.Places.{IsRowLaid}
 use Rattle.rz_layout.specs.declared.laid.Laid.{Laid}
 use Rattle.rz_layout.specs.declared.late.Late.{Late as HeldLate}
+use Rattle.rz_layout.proofs.EachRow.{row_drafted, row_end}
 use Rattle.rz_types_fields.proofs.Bodies.{body_next}
 use Rattle.rz_types_fields.proofs.RowKeys.{no_labels}
 use Rattle.rz_types_fields.specs.Field.{field_and, no_fields, plain_body, plain_field, takes_value, Align, Array, Fill, Label, Number, Points, Switch, Text, PlainBody, PlainField}
 use Rattle.rz_types_fields.specs.Front.{stated_in, value_inside}
 use Rattle.rz_types_fields.specs.Known.{known, noted, noting, which_of, IsFront}
-use Rattle.rz_types_fields.specs.RowLabels.{is_row, labels_count, numbers_row, row_number, RowOf}
+use Rattle.rz_types_fields.specs.RowLabels.{is_row, numbers_row, row_number, RowOf}
+use Rattle.rz_types_fields.specs.FlatRows.{labels_count}
 use Rattle.rz_types_fields.specs.declared.names.InRow.{InRow}
-use Rattle.rz_types_fields.specs.Laid.{body_laid, closing, counted, enter, entered, field_laid, first_value, leave, most_kept, other_values, outside_of, placed, row_laid, with_field, Draft, LateNumber, Refusal}
+use Rattle.rz_types_fields.specs.Laid.{body_laid, closing, counted, enter, entered, field_laid, first_value, leave, most_kept, other_values, outside_of, placed, row_ended, row_laid, with_field, Draft, Ended, LateNumber, Refusal}
 use Rattle.rz_types_fields.specs.Passed.{declares, gives_key, outside, stands_at, Names}
 use Rattle.rz_core.specs.declared.resource.Word.{Word}
 use Rattle.rz_types_fields.proofs.Fronts.{noted_append}
@@ -81,9 +84,6 @@ pub note_placed : (name : Bor Word) (old new : List Note) (place : ℤ) (at : �
 note_placed name old new place at is same =
     ap known is ∙ known_more old (Placed name place)
     ∙ (λ i. record { give = λ key. if stands_at name.now.bytes key then Some (same i) else (known old).give key })
-
-pub place_pushed : (old new : List ℤ) (place : ℤ) (at : ℕ) → new ≡ old ++ place ∷ [] → place ≡ pos at → new ≡ old ++ pos at ∷ []
-place_pushed old new place at is same = is ∙ ap (λ (z : ℤ). old ++ z ∷ []) same
 
 -- What the fields of a body give, its first ones and each of them.
 
@@ -256,12 +256,9 @@ module _ (place : Option RowOf) (body : PlainBody) (old front more : List Note)
   all_kept true is numbers = all_closed numbers
   all_kept false is numbers = none_closed place body is (known (old ++ own)) numbers
 
-abbrev given : Draft → Result Draft Refusal
-given draft = Ok draft
-
 -- what was laid before a body, at its front, after its fields, and after its end
 module _ (facts : Facts) (fields : Bor (List Field)) (which : Option InRow) (row : List Tree) (before start after new : Laid) (same_piece : start.piece ≡ before.piece)
-    (same_bits : start.bits ≡ before.bits) (same_marks : start.marks ≡ before.marks) (same_places : start.places.items ≡ before.places.items)
+    (same_bits : start.bits ≡ before.bits) (same_marks : start.marks ≡ before.marks)
     (known_is : known start.notes.items ≡ entered (which_of which) (plain_body fields.now) row (known before.notes.items)) (none : start.late ≡ []) where
   enter_is : enter (which_of which) (plain_body fields.now) row (draft_of before) ≡ draft_of start
   enter_is = λ i. record {
@@ -270,19 +267,25 @@ module _ (facts : Facts) (fields : Bor (List Field)) (which : Option InRow) (row
     late = marked (length (sym same_bits i)) (sym same_marks i);
     known = sym known_is i;
     numbers = sym (ap numbers_in none) i;
-    places = sym same_places i;
   }
 
-  abbrev ended : Draft → Result Draft Refusal
-  ended next = Ok (leave (which_of which) (plain_body fields.now) (draft_of before) next)
+  abbrev end_of : Draft → Ended
+  end_of next = row_end (which_of which) (plain_body fields.now) (draft_of before) next
 
-  abbrev whole : Draft → Result Draft Refusal
-  whole draft = body_laid facts draft (plain_body fields.now) row >>= ended
+  ended_of : (body : Result Draft Refusal) → body_laid facts (draft_of start) (plain_body fields.now) row ≡ body
+      → row_ended facts (which_of which) (plain_body fields.now) (draft_of before) row ≡ (body >>= λ next. Ok (end_of next))
+  ended_of body is =
+      ap (λ (draft : Draft). body_laid facts draft (plain_body fields.now) row >>= λ next. Ok (end_of next)) enter_is ∙ ap (λ (r : Result Draft Refusal). r >>= λ next. Ok (end_of next)) is
+
+  pub row_refused : (stop : Stop LayFault) (draft : Draft) (old : List ℤ) → Gives (body_laid facts (draft_of start) (plain_body fields.now) row) (fault_seen refusal_of (left (draft_of after) (Err stop)))
+      → Meets (fault_seen {X = List ℤ} refusal_of (Err stop)) (IsRowLaid (row_ended facts (which_of which) (plain_body fields.now) (draft_of before) row) (plain_body fields.now) draft old)
+  row_refused NoMemory draft old laid = tt
+  row_refused (Refused fault) draft old laid = ended_of (Err (refusal_of fault)) laid
 
   pub body_refused : (stop : Stop LayFault) (other : Draft) → Gives (body_laid facts (draft_of start) (plain_body fields.now) row) (fault_seen refusal_of (left (draft_of after) (Err stop)))
       → Gives (row_laid facts (which_of which) (plain_body fields.now) (draft_of before) row) (fault_seen refusal_of (left other (Err stop)))
   body_refused NoMemory other laid = tt
-  body_refused (Refused fault) other laid = ap whole enter_is ∙ ap (λ (r : Result Draft Refusal). r >>= ended) laid
+  body_refused (Refused fault) other laid = ap row_drafted (ended_of (Err (refusal_of fault)) laid)
 
   module _ (outer : List HeldLate) (within : IsEntered (which_of which) (plain_body fields.now) before.notes.items start.notes.items)
       (grew : IsNotedBy (declares (plain_body fields.now)) start.notes.items after.notes.items) (is_outer : outer ≡ before.late)
@@ -331,12 +334,16 @@ module _ (facts : Facts) (fields : Bor (List Field)) (which : Option InRow) (row
       late = marked (length (sym is.bits i)) (sym is.marks i);
       known = known (sym notes_back i);
       numbers = numbers_left i;
-      places = sym is.places i;
     }
+
+    -- what names have at the end of the body is what is noted there
+    pub ended_is : body_laid facts (draft_of start) (plain_body fields.now) row ≡ Ok (draft_of after)
+        → row_ended facts (which_of which) (plain_body fields.now) (draft_of before) row ≡ Ok (record { draft = draft_of new; own = known after.notes.items })
+    ended_is laid = ended_of (Ok (draft_of after)) laid ∙ ap (λ (draft : Draft). Ok (record { draft = draft; own = known after.notes.items })) left_is
 
     pub body_is : body_laid facts (draft_of start) (plain_body fields.now) row ≡ Ok (draft_of after)
         → row_laid facts (which_of which) (plain_body fields.now) (draft_of before) row ≡ Ok (draft_of new)
-    body_is laid = ap whole enter_is ∙ ap (λ (r : Result Draft Refusal). r >>= ended) laid ∙ ap given left_is
+    body_is laid = ap row_drafted (ended_is laid)
 
 pub short_left : (which : Option RowOf) (row : PlainBody) (outer : List HeldLate) (around : ℕ) (after new : Laid) → IsLeft which row outer around after new → IsShort after → IsShort new
 short_left which row outer around after new is short = record {

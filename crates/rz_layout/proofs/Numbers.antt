@@ -1,10 +1,7 @@
 -- The faults of rows.
-use Rattle.std.proofs.Common.{◌≡◌, ℕ, zero, suc, ◌+◌, ◌-◌, ◌*◌, ◌<◌, ◌≤◌, ℤ, pos, negsuc, Bool, true, false, ◌&&◌, ◌||◌, List, [], ◌∷◌, get_or, length, Option, Some, None, Result, Ok, Err, refl, sym, ap, subst, ◌∙◌, arith}
-use Rattle.std.specs.Prelude.{if◌then◌else◌, int_le, nat_lt, nat_abs, slice_get}
+use Rattle.std.proofs.Common.{◌≡◌, ℕ, zero, suc, ◌+◌, ◌<◌, ℤ, pos, negsuc, Bool, true, false, ◌||◌, List, [], ◌∷◌, length, Option, Some, None, Result, Ok, Err, refl, sym, ap, subst, ◌∙◌, arith}
+use Rattle.std.specs.Prelude.{if◌then◌else◌, int_le, nat_lt, nat_abs, option_and_then, slice_get}
 use Rattle.std.proofs.lemmas.Bool.Decides.{nat_tests}
-use Rattle.std.proofs.lemmas.List.{length-append}
-use Rattle.std.proofs.lemmas.Option.{slice_get-get_or}
-use Rattle.std.proofs.Math.Nat.{mul-le-mul_right}
 use Rattle.std.specs.List.{list_any, AllByRecursion}
 use Rattle.std.specs.Option.{is_some, option_to_list}
 use Rattle.rz_core.proofs.Tests.{by_test, or_false, true_false}
@@ -21,10 +18,10 @@ use Rattle.rz_types_fields.proofs.RowKeys.{undeclared as around_undeclared}
 use Rattle.rz_types_fields.specs.declared.field.NumForm.{NumForm}
 use Rattle.rz_types_fields.specs.declared.tree.Tree.{Tree}
 use Rattle.rz_types_fields.specs.Field.{case_and, field_and, no_cases, no_fields, takes_value, Align, Array, Fill, Label, Number, PlainBody, PlainCases, PlainField, Points, Switch, Text}
-use Rattle.rz_types_fields.specs.Laid.{apart, behind_rows, body_laid, case_laid, closing, draft_sight, early, enter, field_laid, fill, first_value, fixed_form, grown, in_order, laid, late_at, late_bits, later, lay, leave, line_in, met_in, nothing_laid, now, number_form, other_values, patched, piece_form, pieces_laid, placed, ranged, reads_late, row_laid, rows_in, rows_laid, takes_one, text_laid, too_long, value_refusal, valued, with_form, with_places, with_room, Draft, Form, LateNumber, Refusal}
+use Rattle.rz_types_fields.specs.Laid.{behind_rows, body_laid, case_laid, closing, draft_sight, early, enter, field_laid, fill, first_value, fixed_form, grown, in_order, laid, late_at, late_bits, later, lay, line_in, met_in, nothing_laid, now, number_form, other_values, patched, piece_form, pieces_laid, placed, ranged, reads_late, row_ended, row_laid, rows_in, rows_laid, takes_one, text_laid, too_long, value_refusal, valued, with_form, with_room, AllRows, Draft, Form, LateNumber, Refusal}
 use Rattle.rz_types_fields.specs.Passed.{declares, gives_rows, has_label, outside}
-use Rattle.rz_types_fields.specs.RowLabels.{also_rows, is_row, label_index, labels_count, row_number, row_of, row_value, RowOf}
-use Rattle.rz_types_fields.proofs.RowPlaces.{index_short, places_length}
+use Rattle.rz_types_fields.specs.RowLabels.{also_rows, is_row, row_number, row_of, rows_give, RowOf}
+use Rattle.rz_layout.specs.Places.{AreStanding}
 use Rattle.rz_types_fields.specs.Piece.{integers, pieces_of, points_terms, terms_of_text, Filler, OneNumber, OneText, Piece, Place, Zeros}
 use Rattle.rz_types_fields.specs.Sees.{names_later, sees}
 use Rattle.rz_types_fields.specs.Spells.{is_case, most_bits, values_for}
@@ -33,13 +30,11 @@ use Rattle.rz_types.specs.Names.{FillsRows, GivesCounts, GivesNumbers, GivesOwn,
 use Rattle.rz_types.specs.Readable.{all_known}
 use Rattle.rz_types.specs.Rules.{unknown_in, unknown_name}
 use Rattle.rz_types.specs.Walk.{and_names, around_names, names_of, no_names, Own}
-use Rattle.rz_layout.proofs.Apart.{body_apart}
-use Rattle.rz_layout.proofs.Counts.{AreApart}
-use Rattle.rz_layout.proofs.OwnPlaces.{body_behind}
+use Rattle.rz_layout.proofs.EachRow.{drafted, row_drafted, row_end, rows_drafted}
+use Rattle.rz_layout.proofs.LabelsStand.{ends_stand, standing_label}
 use Rattle.rz_layout.proofs.Sees.{is_in_row}
 use Rattle.rz_layout.proofs.Unmet.{rows_given}
-use Rattle.rz_layout.proofs.Texts.{good}
-use Rattle.rz_layout.proofs.Filled.{chained, same_ok, Each}
+use Rattle.rz_layout.proofs.Filled.{Each}
 use Rattle.rz_layout.proofs.Fitting.{piece_alone, piece_is, placed_is, placed_none}
 use Rattle.rz_layout.proofs.Giving.{case_scope, closing_given, each_append, each_mapped, entered_counts, entered_fills, entered_numbers, entered_some, is_valued, or_left, outside_fills, outside_numbers, outside_own, row_scope, some_value, IsEnded, IsGiven, IsScope}
 use Rattle.rz_layout.proofs.Labels.{entered_row, gives_place, gives_places, is_around, label_key, places_labels, row_is_around}
@@ -48,32 +43,21 @@ use Rattle.rz_layout.proofs.Faults.{each_named, point_pieces, ranged_known, text
 
 -- Places in rows.
 
-placed_more : (front own labels rows inner outer next : ℕ) → inner ≡ outer → inner ≡ front + own → own ≡ labels → next ≡ outer + rows * labels → next ≡ front + suc rows * labels
-placed_more front own labels rows inner outer next a b c d = grind (arith, a, b, c, d)
-
 some_same : (one other : ℤ) → ◌≡◌ {A = Option ℤ} (Some one) (Some other) → one ≡ other
 some_same one other is = cc is
 
-index_within : (j count labels index : ℕ) → j < count → index < labels → j * labels + index < count * labels
-index_within j count labels index row label =
-    let more : suc j * labels ≤ count * labels = mul-le-mul_right labels row in
-    let one : suc j * labels ≡ j * labels + labels = grind (arith) in
-    omega (arith, more, one, label)
+end_place : (row : PlainBody) (ends : List Environment) → AllByRecursion (λ own. AreStanding own row) ends → (label : List ℕ) → has_label row label ≡ true → (j : ℕ) → j < length ends
+    → (place : ℤ) × (option_and_then (λ own. own.give (place_of label)) (slice_get ends j) ≡ Some place)
+end_place row [] stand label own j less = absurd (omega (arith, less))
+end_place row (end ∷ ends) stand label own zero less = standing_label row end label stand.0 own
+end_place row (end ∷ ends) stand label own (suc j) less = end_place row ends stand.1 label own j (omega (arith, less))
 
 -- a label in rows has a place in each of them
-place_given : (row : PlainBody) (count : ℕ) (places : List ℤ) (label : List ℕ) (number : ℤ) → length places ≡ count * labels_count row → has_label row label ≡ true → int_le (pos 1) number ≡ true → int_le number (pos count) ≡ true
-    → (place : ℤ) × (row_value row count places (place_in label number) ≡ Some place)
-place_given row count places label (negsuc n) long own low high = absurd (true_false (sym low))
-place_given row count places label (pos zero) long own low high = absurd (true_false (sym low))
-place_given row count places label (pos (suc j)) long own low high =
-    let k = labels_count row in
-    let i = label_index row label in
-    let less : j < count = grind (arith, nat_tests, high) in
-    let within : j * k + i < length places = subst (λ (n : ℕ). j * k + i < n) (sym long) (index_within j count k i less (index_short row label own)) in
-    let index : suc j - 1 ≡ j = omega (arith) in (
-      get_or places (j * k + i) (pos 0),
-      (λ n. if low n && high n then slice_get places ((suc j - 1) * k + i) else None) ∙ ap (λ (n : ℕ). slice_get places (n * k + i)) index ∙ slice_get-get_or places (j * k + i) (pos 0) within,
-    )
+place_given : (row : PlainBody) (ends : List Environment) → AllByRecursion (λ own. AreStanding own row) ends → (label : List ℕ) (number : ℤ) → has_label row label ≡ true → int_le (pos 1) number ≡ true
+    → int_le number (pos (length ends)) ≡ true → (place : ℤ) × (rows_give ends (place_in label number) ≡ Some place)
+place_given row ends stand label (negsuc n) own low high = absurd (true_false (sym low))
+place_given row ends stand label (pos zero) own low high = absurd (true_false (sym low))
+place_given row ends stand label (pos (suc j)) own low high = let less : j < length ends = grind (arith, nat_tests, high) in end_place row ends stand label own j less
 
 around_single : (key : Key) → is_around key ≡ true → is_in_row key ≡ false
 around_single (place_of name) is = refl
@@ -263,7 +247,7 @@ module _ (values : (scope : Own) (sight : Sight) (term : Term) → GivesNumbers 
       numbered key at_row = it.grows key (around_single key (row_is_around which key at_row)) (ap is_some (entered_row which row line draft.known key at_row) ∙ has_number which key at_row)
 
   leave_tells : (scope inner : Own) (which : Option RowOf) (row : PlainBody) → IsScope scope inner which row → (line : List Tree) (draft : Draft) → Ready scope draft → (result : Result Draft Refusal)
-      → Tells inner (gives_places row) (enter which row line draft) result → Tells scope (λ key. false) draft (result >>= λ next. Ok (leave which row draft next))
+      → Tells inner (gives_places row) (enter which row line draft) result → Tells scope (λ key. false) draft (row_drafted (result >>= λ next. Ok (row_end which row draft next)))
   leave_tells scope inner which row is line draft ready (Ok next) it = record {
     grows = λ key single has. has;
     given = λ in_rows name is. absurd (true_false (sym is));
@@ -286,69 +270,48 @@ module _ (values : (scope : Own) (sight : Sight) (term : Term) → GivesNumbers 
       }) line)
 
   rows_tell : (scope inner : Own) (name : Option Word) (row : PlainBody) → ((number : ℕ) → IsScope scope inner (row_of name number) row) → BodyTells inner row → (number : ℕ) (draft : Draft) → Ready scope draft → (rows : List (List Tree))
-      → Tells scope (λ key. false) draft (rows_laid (λ number. row_laid known (row_of name number) row) number draft rows)
+      → Tells scope (λ key. false) draft (drafted (rows_laid (λ number. row_ended known (row_of name number) row) number draft rows))
   rows_tell scope inner name row is tells number draft ready [] = done_tells scope draft ready
   rows_tell scope inner name row is tells number draft ready (line ∷ rows) =
-      then_tells scope (λ key. false) (λ key. false) draft (row_laid known (row_of name number) row draft line) (λ next. rows_laid (λ number. row_laid known (row_of name number) row) (number + 1) next rows) ready
-      (inside_tells scope inner (row_of name number) row (is number) tells draft ready line) (λ next more. rows_tell scope inner name row is tells (number + 1) next more rows)
-
-  -- so many rows have so many places of labels
-  rows_placed : (name : Option Word) (row : PlainBody) → AreApart row → (number : ℕ) (rows : List (List Tree)) (draft next : Draft) → rows_laid (λ number. row_laid known (row_of name number) row) number draft rows ≡ Ok next
-      → length next.places ≡ length draft.places + length rows * labels_count row
-  rows_placed name row apart number [] draft next is = ap (λ (d : Draft). length d.places) (sym (same_ok draft next is)) ∙ grind (arith)
-  rows_placed name row apart number (line ∷ rows) draft next is =
-      let which = row_of name number in
-      let outer = chained (row_laid known which row draft line) (λ mid. rows_laid (λ number. row_laid known (row_of name number) row) (number + 1) mid rows) next is in
-      let inner = chained (body_laid known (enter which row line draft) row line) (λ mid. good (leave which row draft mid)) outer.value outer.is in
-      let found = body_behind known row apart line (enter which row line draft) inner.value inner.is in
-      let a : length inner.value.places ≡ length outer.value.places = ap (λ (d : Draft). length d.places) (same_ok (leave which row draft inner.value) outer.value inner.leads) in
-      let b = ap length found.places_are ∙ length-append draft.places found.places in
-      let c = places_length inner.value.known row found.places found.are in
-      let d = rows_placed name row apart (number + 1) rows outer.value next outer.leads in
-      placed_more (length draft.places) (length found.places) (labels_count row) (length rows) (length inner.value.places) (length outer.value.places) (length next.places) a b c d
+      let lay = λ (number : ℕ). row_ended known (row_of name number) row in
+      subst (Tells scope (λ key. false) draft) (sym (rows_drafted (lay number draft line) (λ next. rows_laid lay (number + 1) next rows)))
+      (then_tells scope (λ key. false) (λ key. false) draft (row_laid known (row_of name number) row draft line) (λ next. drafted (rows_laid lay (number + 1) next rows)) ready
+      (inside_tells scope inner (row_of name number) row (is number) tells draft ready line) (λ next more. rows_tell scope inner name row is tells (number + 1) next more rows))
 
   -- after an array the labels in its rows have places in each of them
-  behind_fills : (row : PlainBody) (count : ℕ) (places : List ℤ) (names : Environment) → length places ≡ count * labels_count row → FillsRows names → FillsRows (also_rows row count places names)
-  behind_fills row count places names long fills = record { give = λ label rows number has low high. by label rows number has low high (has_label row label) refl }
+  behind_fills : (row : PlainBody) (ends : List Environment) (names : Environment) → AllByRecursion (λ own. AreStanding own row) ends → FillsRows names → FillsRows (also_rows row ends names)
+  behind_fills row ends names stand fills = record { give = λ label rows number has low high. by label rows number has low high (has_label row label) refl }
     where
-      by : (label : List ℕ) (rows number : ℤ) → (if has_label row label then Some (pos count) else names.give (rows_of label)) ≡ Some rows → int_le (pos 1) number ≡ true → int_le number rows ≡ true
-          → (test : Bool) → has_label row label ≡ test → (place : ℤ) × ((if has_label row label then row_value row count places (place_in label number) else names.give (place_in label number)) ≡ Some place)
+      by : (label : List ℕ) (rows number : ℤ) → (if has_label row label then Some (pos (length ends)) else names.give (rows_of label)) ≡ Some rows → int_le (pos 1) number ≡ true → int_le number rows ≡ true
+          → (test : Bool) → has_label row label ≡ test → (place : ℤ) × ((if has_label row label then rows_give ends (place_in label number) else names.give (place_in label number)) ≡ Some place)
       by label rows number has low high true own =
-          let same : pos count ≡ rows = some_same (pos count) rows (sym (ap (λ (test : Bool). if test then Some (pos count) else names.give (rows_of label)) own) ∙ has) in
-          let there = place_given row count places label number long own low (subst (λ (r : ℤ). int_le number r ≡ true) (sym same) high) in
-          (there.0, ap (λ (test : Bool). if test then row_value row count places (place_in label number) else names.give (place_in label number)) own ∙ there.1)
+          let same : pos (length ends) ≡ rows = some_same (pos (length ends)) rows (sym (ap (λ (test : Bool). if test then Some (pos (length ends)) else names.give (rows_of label)) own) ∙ has) in
+          let there = place_given row ends stand label number own low (subst (λ (r : ℤ). int_le number r ≡ true) (sym same) high) in
+          (there.0, ap (λ (test : Bool). if test then rows_give ends (place_in label number) else names.give (place_in label number)) own ∙ there.1)
       by label rows number has low high false own =
-          let there = fills.give label rows number (sym (ap (λ (test : Bool). if test then Some (pos count) else names.give (rows_of label)) own) ∙ has) low high in
-          (there.0, ap (λ (test : Bool). if test then row_value row count places (place_in label number) else names.give (place_in label number)) own ∙ there.1)
+          let there = fills.give label rows number (sym (ap (λ (test : Bool). if test then Some (pos (length ends)) else names.give (rows_of label)) own) ∙ has) low high in
+          (there.0, ap (λ (test : Bool). if test then rows_give ends (place_in label number) else names.give (place_in label number)) own ∙ there.1)
 
-  behind_grows : (row : PlainBody) (count : ℕ) (places : List ℤ) (names : Environment) (key : Key) → is_in_row key ≡ false → is_some (names.give key) ≡ true → is_some ((also_rows row count places names).give key) ≡ true
-  behind_grows row count places names (place_of name) single has = has
-  behind_grows row count places names (count_of name) single has = has
-  behind_grows row count places names (rows_of name) single has = by (has_label row name)
+  behind_grows : (row : PlainBody) (ends : List Environment) (names : Environment) (key : Key) → is_in_row key ≡ false → is_some (names.give key) ≡ true → is_some ((also_rows row ends names).give key) ≡ true
+  behind_grows row ends names (place_of name) single has = has
+  behind_grows row ends names (count_of name) single has = has
+  behind_grows row ends names (rows_of name) single has = by (has_label row name)
     where
-      by : (test : Bool) → is_some (if test then Some (pos count) else names.give (rows_of name)) ≡ true
+      by : (test : Bool) → is_some (if test then Some (pos (length ends)) else names.give (rows_of name)) ≡ true
       by true = refl
       by false = has
-  behind_grows row count places names (place_in name number) single has = absurd (true_false single)
-  behind_grows row count places names (row_in name) single has = has
+  behind_grows row ends names (place_in name number) single has = absurd (true_false single)
+  behind_grows row ends names (row_in name) single has = has
 
-  array_tells : (scope : Own) (row : PlainBody) (count : ℕ) (draft : Draft) (result : Result Draft Refusal) → ((next : Draft) → result ≡ Ok next → length next.places ≡ count * labels_count row)
-      → Tells scope (λ key. false) (with_places [] draft) result
-      → Tells scope (gives_rows row) draft ((result >>= λ next. Ok (behind_rows row count next)) >>= λ next. Ok (with_places draft.places next))
-  array_tells scope row count draft (Ok next) long it = record {
-    grows = λ key single has. behind_grows row count next.places next.known key single (it.grows key single has);
-    given = rows_given row count next.places next.known;
-    fills = behind_fills row count next.places next.known (long next refl) it.fills;
+  array_tells : (scope : Own) (row : PlainBody) (draft : Draft) (result : Result AllRows Refusal) → ((rows : AllRows) → result ≡ Ok rows → AllByRecursion (λ own. AreStanding own row) rows.ends)
+      → Tells scope (λ key. false) draft (drafted result) → Tells scope (gives_rows row) draft (result >>= λ rows. Ok (behind_rows row rows))
+  array_tells scope row draft (Ok rows) stand it = record {
+    grows = λ key single has. behind_grows row rows.ends rows.draft.known key single (it.grows key single has);
+    given = rows_given row rows.ends rows.draft.known;
+    fills = behind_fills row rows.ends rows.draft.known (stand rows refl) it.fills;
     numbers = it.numbers;
   }
-  array_tells scope row count draft (Err fault) long it = it
-
-  case_tells : (scope : Own) (draft : Draft) (result : Result Draft Refusal) → Tells scope (λ key. false) (with_places [] draft) result → Tells scope (λ key. false) draft (result >>= λ next. Ok (with_places draft.places next))
-  case_tells scope draft (Ok next) it = record { grows = it.grows; given = it.given; fills = it.fills; numbers = it.numbers }
-  case_tells scope draft (Err fault) it = it
-
-  apart_ready : (scope : Own) (draft : Draft) → Ready scope draft → Ready scope (with_places [] draft)
-  apart_ready scope draft ready = record { counts = ready.counts; around = ready.around; fills = ready.fills; numbers = ready.numbers }
+  array_tells scope row draft (Err fault) stand it = it
 
   either_tells : (scope : Own) (draft : Draft) (test : Bool) (this other : Result Draft Refusal) → Tells scope (λ key. false) draft this → Tells scope (λ key. false) draft other → Tells scope (λ key. false) draft (if test then this else other)
   either_tells scope draft true this other one more = one
@@ -367,21 +330,17 @@ module _ (values : (scope : Own) (sight : Sight) (term : Term) → GivesNumbers 
         (pieces_tell scope (Place name ∷ []) (tt, tt) draft ready (option_to_list value))
     field_tells scope (Array name count row) none kept draft ready value =
         let inner = and_names (and_names scope (around_names name)) (names_of row) in
-        let front = with_places [] draft in
-        let lay = λ (number : ℕ). row_laid known (row_of name number) row in
-        array_tells scope row (length (rows_in value)) draft (rows_laid lay 1 front (rows_in value))
-        (λ next is. rows_placed name row (body_apart inner row kept.1 kept.2) 1 (rows_in value) front next is ∙ grind (arith))
-        (rows_tell scope inner name row (λ number. row_scope scope name number row) (body_tells inner row kept.2) 1 front (apart_ready scope draft ready) (rows_in value))
+        let lay = λ (number : ℕ). row_ended known (row_of name number) row in
+        array_tells scope row draft (rows_laid lay 1 draft (rows_in value)) (λ rows is. ends_stand known name row 1 (rows_in value) draft rows is)
+        (rows_tell scope inner name row (λ number. row_scope scope name number row) (body_tells inner row kept.2) 1 draft ready (rows_in value))
     field_tells scope (Switch cases) none kept draft ready value = cases_tell scope cases kept.1 draft ready value
 
     cases_tell : (scope : Own) (cases : PlainCases) → AreCasesKept scope cases → CasesTell scope cases
     cases_tell scope no_cases kept draft ready value = done_tells scope draft ready
     cases_tell scope (case_and name row others) kept draft ready value =
         let inner = and_names scope (names_of row) in
-        let front = with_places [] draft in
-        either_tells scope draft (is_case name value) (apart (λ inner. row_laid known None row inner (line_in value)) draft) (case_laid known draft others value)
-        (case_tells scope draft (row_laid known None row front (line_in value))
-        (inside_tells scope inner None row (case_scope scope row) (body_tells inner row kept.1) front (apart_ready scope draft ready) (line_in value)))
+        either_tells scope draft (is_case name value) (row_laid known None row draft (line_in value)) (case_laid known draft others value)
+        (inside_tells scope inner None row (case_scope scope row) (body_tells inner row kept.1) draft ready (line_in value))
         (cases_tell scope others kept.2 draft ready value)
 
     body_tells : (scope : Own) (body : PlainBody) → AreKept scope body → BodyTells scope body

@@ -70,13 +70,13 @@ marks_behind bits more after marks short is =
 
 -- Bits that are laid.
 
-module _ (piece after_piece : ℕ) (bits more after marks : List Bool) (known : Environment) (numbers : List LateNumber) (places : List ℤ)
+module _ (piece after_piece : ℕ) (bits more after marks : List Bool) (known : Environment) (numbers : List LateNumber)
     (counted : after_piece ≡ one_more piece) (is : after ≡ bits ++ more) (short : length marks ≤ length bits) (count : ℕ) (size : length more ≡ count)
     (fits : length bits + count ≤ most_bits) where
   abbrev pub before : Draft
-  before = record { piece = piece; bits = bits; late = marked (length bits) marks; known = known; numbers = numbers; places = places }
+  before = record { piece = piece; bits = bits; late = marked (length bits) marks; known = known; numbers = numbers }
 
-  pub put_draft : with_bits before more ≡ Ok (record { piece = after_piece; bits = after; late = marked (length after) marks; known = known; numbers = numbers; places = places })
+  pub put_draft : with_bits before more ≡ Ok (record { piece = after_piece; bits = after; late = marked (length after) marks; known = known; numbers = numbers })
   put_draft =
       room_in before (length more) (grown (Zeros 0) before more false []) (subst (λ (n : ℕ). length bits + n ≤ most_bits) (sym size) fits)
       ∙ (λ i. Ok (record {
@@ -85,7 +85,6 @@ module _ (piece after_piece : ℕ) (bits more after marks : List Bool) (known : 
         late = marks_behind bits more after marks short is i;
         known = known;
         numbers = append-nil numbers i;
-        places = places;
       }))
 
 pub few_after : (bits more after : List Bool) (count : ℕ) → length more ≡ count → length bits + count ≤ most_bits → after ≡ bits ++ more → length after ≤ most_bits
@@ -134,18 +133,18 @@ pub width_is : (w : Width) (width : ℤ) → IsWidth width → of_z w width ≡ 
 width_is w (pos n) may = refl
 width_is w (negsuc n) may = absurd (let low = may.0 in omega (arith, ints, low))
 
-module _ (piece after_piece : ℕ) (bits marks middle after_marks after_bits : List Bool) (known : Environment) (numbers after_numbers : List LateNumber) (places : List ℤ) (form : NumForm) (width : ℤ) (term : Term)
+module _ (piece after_piece : ℕ) (bits marks middle after_marks after_bits : List Bool) (known : Environment) (numbers after_numbers : List LateNumber) (form : NumForm) (width : ℤ) (term : Term)
     (before one other : ℕ) (counted : after_piece ≡ one_more piece) (short : length marks ≤ length bits) (zero_marks : middle ≡ marks ++ zeros before) (same : before ≡ length bits - length marks)
     (ones : after_marks ≡ middle ++ replicate one true) (one_is : one ≡ nat_abs width) (is : after_bits ≡ bits ++ zeros other) (other_is : other ≡ nat_abs width)
     (fits : length bits + nat_abs width ≤ most_bits) where
   abbrev pub late_before : Draft
-  late_before = record { piece = piece; bits = bits; late = marked (length bits) marks; known = known; numbers = numbers; places = places }
+  late_before = record { piece = piece; bits = bits; late = marked (length bits) marks; known = known; numbers = numbers }
 
   all_bits : after_bits ≡ bits ++ zeros (nat_abs width)
   all_bits = is ∙ ap (λ (n : ℕ). bits ++ zeros n) other_is
 
   pub late_draft : after_numbers ≡ numbers ++ late_at late_before form width term ∷ []
-      → with_late late_before form width term ≡ Ok (record { piece = after_piece; bits = after_bits; late = marked (length after_bits) after_marks; known = known; numbers = after_numbers; places = places })
+      → with_late late_before form width term ≡ Ok (record { piece = after_piece; bits = after_bits; late = marked (length after_bits) after_marks; known = known; numbers = after_numbers })
   late_draft added =
       room_in late_before (nat_abs width) (grown (Zeros 0) late_before (zeros (nat_abs width)) true (late_at late_before form width term ∷ [])) fits
       ∙ (λ i. Ok (record {
@@ -155,5 +154,4 @@ module _ (piece after_piece : ℕ) (bits marks middle after_marks after_bits : L
             (ones ∙ ap (λ (n : ℕ). middle ++ replicate n true) one_is) all_bits i;
         known = known;
         numbers = sym added i;
-        places = places;
       }))

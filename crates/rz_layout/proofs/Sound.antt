@@ -1,10 +1,10 @@
 -- What is laid is spelled so.
-use Rattle.std.proofs.Common.{◌≡◌, inl, inr, ℕ, suc, ◌+◌, ◌<◌, ◌≤◌, ◌*◌, ◌%◌, ℤ, pos, Bool, true, false, ◌||◌, not, List, [], ◌∷◌, ◌++◌, length, take, map, Option, Some, None, Ok, refl, sym, ap, subst, ◌∙◌, arith}
+use Rattle.std.proofs.Common.{◌≡◌, inl, inr, ℕ, ◌+◌, ◌<◌, ◌≤◌, ◌*◌, ◌%◌, ℤ, pos, Bool, true, false, ◌||◌, not, List, [], ◌∷◌, ◌++◌, length, take, map, Option, Some, None, Ok, refl, sym, ap, subst, ◌∙◌, arith}
 use Rattle.std.specs.Prelude.{if◌then◌else◌, nat_abs, slice_index}
 use Rattle.std.specs.List.{AllByRecursion}
 use Rattle.std.specs.Str.{str_eq_ignore_ascii_case}
 use Rattle.std.specs.Option.{is_some, option_to_list}
-use Rattle.std.proofs.lemmas.List.{append_assoc, append-nil, length-append, take_at}
+use Rattle.std.proofs.lemmas.List.{length-append, take_at}
 use Rattle.rz_core.proofs.Tests.{true_false}
 use Rattle.rz_core.specs.Stop.{◌>>=◌}
 use Rattle.rz_core.specs.declared.facts.Facts.{Facts}
@@ -15,12 +15,12 @@ use Rattle.rz_expr.specs.Environment.{place_in, rows_of, Environment, Key}
 use Rattle.rz_types_fields.specs.declared.tree.Tree.{Tree}
 use Rattle.rz_types_fields.specs.declared.tree.Tree.TheVariants as trees
 use Rattle.rz_types_fields.specs.Field.{case_and, field_and, no_cases, no_fields, takes_value, Align, Array, Fill, Label, Number, PlainBody, PlainCases, PlainField, Points, Switch, Text}
-use Rattle.rz_types_fields.specs.Laid.{apart, array_laid, behind_rows, body_laid, case_laid, closing, enter, field_laid, fill, first_value, in_order, laid, lay, leave, line_in, nothing_laid, other_values, outside_of, pieces_laid, row_laid, rows_apart, rows_in, rows_laid, takes_one, with_places, Draft, LateNumber}
+use Rattle.rz_types_fields.specs.Laid.{all_laid, and_row, behind_rows, body_laid, case_laid, closing, enter, field_laid, fill, first_value, in_order, laid, lay, leave, line_in, nothing_laid, other_values, outside_of, pieces_laid, row_ended, row_laid, rows_in, rows_laid, takes_one, AllRows, Draft, Ended, LateNumber}
 use Rattle.rz_types_fields.specs.Passed.{at_field, at_front, behind, behind_piece, declares, gives_key, gives_rows, has_label, nothing_passed, outside, Names, Passed}
 use Rattle.rz_types_fields.specs.Piece.{pieces_of, Filler, OneNumber, OneText, Piece, Place, Zeros}
 use Rattle.rz_types_fields.specs.Row.{By, IsChoice, IsRow, IsStated, IsValue}
 use Rattle.rz_types_fields.specs.Spells.{anyhow, is_case, values_for, AreRows, BodySpells, CaseSpells, FieldSpells, HasPlace, InOrder, Inside, IsCounted, IsGroupedFor, PieceSpells, PiecesSpell, RowSpells, RowsSpell, Spells}
-use Rattle.rz_types_fields.specs.RowLabels.{also_rows, is_row, row_of, row_value, RowOf}
+use Rattle.rz_types_fields.specs.RowLabels.{also_rows, is_row, row_of, rows_give, RowOf}
 use Rattle.rz_types.specs.Rules.{case_names}
 use Rattle.rz_layout.proofs.Adding.{adds_marks, adds_none, alike_back, both_came, came_counted, came_is, came_labels, came_met, known_behind, then_came, Adds, Came, FitsAll, IsAny}
 use Rattle.rz_layout.proofs.Coming.{piece_came, Fresh}
@@ -33,8 +33,8 @@ use Rattle.rz_layout.proofs.Filled.{chained, each-map, fill_came, same_ok, Each}
 use Rattle.rz_layout.proofs.Fitting.{met_piece, piece_is, SamePlaces}
 use Rattle.rz_layout.proofs.Masks.{masked}
 use Rattle.rz_layout.proofs.Labels.{behind_met, gives_place, gives_places, label_key, met_all, met_behind, met_entered, met_field, MetKnown}
-use Rattle.rz_layout.proofs.OwnPlaces.{body_behind}
-use Rattle.rz_layout.proofs.Placing.{first_given, others_given, row_in_rows, row_place_is, RowsGiven}
+use Rattle.rz_layout.proofs.EachRow.{array_parts, ends_length, row_end, row_parts, rows_parts}
+use Rattle.rz_layout.proofs.Placing.{ends_by, row_in_rows, row_place_is, EndsAre}
 use Rattle.rz_layout.proofs.Texts.{good}
 use Rattle.rz_layout.proofs.Tracks.{tracks-map, Holds}
 use Rattle.rz_types_fields.specs.Spells.{anyhow, most_bits}
@@ -149,44 +149,27 @@ module _ (known : Facts) where
   abbrev RowsAre : Option Word → PlainBody → Passed → ℕ → List (List Tree) → List Bool → Environment → RowSpells
   RowsAre name row passed number rows all names = RowsSpell (λ number line. Inside row (row_of name number) names (λ own. BodySpells anyhow known all row own (at_front row passed) line)) number rows
 
-  -- rows that are laid add these places
-  record RowsCame (name : Option Word) (row : PlainBody) (passed : Passed) (number : ℕ) (rows : List (List Tree)) (draft next : Draft) : Type 0 where
-    places : List ℤ
-    places_are : next.places ≡ draft.places ++ places
-    came : Came known none passed.met (λ names. RowsGiven row names number (length rows) places) draft next (RowsAre name row passed number rows)
-
-  rows_came : (name : Option Word) (row : PlainBody) → AreApart row → BodyCame row → (passed : Passed) (number : ℕ) (rows : List (List Tree)) → AllByRecursion (IsRow row) rows → (draft next : Draft)
-      → length draft.late ≡ length draft.bits → length draft.bits ≤ most_bits → MetKnown passed.met draft.known → rows_laid (λ number. row_laid known (row_of name number) row) number draft rows ≡ Ok next
-      → RowsCame name row passed number rows draft next
-  rows_came name row apart came passed number [] are draft next marks short met_known is =
-      subst (λ (d : Draft). RowsCame name row passed number [] draft d) (same_ok draft next is) (record {
-        places = [];
-        places_are = sym (append-nil draft.places);
-        came = record { adds = adds_none draft short; spells = λ all names fits holds counted. (refl, refl) };
-      })
-  rows_came name row apart came passed number (line ∷ rows) are draft next marks short met_known is =
+  -- rows that are laid
+  rows_came : (name : Option Word) (row : PlainBody) → AreApart row → BodyCame row → (passed : Passed) (number : ℕ) (rows : List (List Tree)) → AllByRecursion (IsRow row) rows → (draft : Draft) (all : AllRows)
+      → length draft.late ≡ length draft.bits → length draft.bits ≤ most_bits → MetKnown passed.met draft.known → rows_laid (λ number. row_ended known (row_of name number) row) number draft rows ≡ Ok all
+      → Came known none passed.met (λ names. EndsAre row names number all.ends) draft all.draft (RowsAre name row passed number rows)
+  rows_came name row apart came passed number [] are draft all marks short met_known is =
+      subst (λ (laid : AllRows). Came known none passed.met (λ names. EndsAre row names number laid.ends) draft laid.draft (RowsAre name row passed number []))
+      (same_ok (record { draft = draft; ends = [] }) all is) (record { adds = adds_none draft short; spells = λ all names fits holds counted. (refl, refl) })
+  rows_came name row apart came passed number (line ∷ rows) are draft all marks short met_known is =
       let which = row_of name number in
-      let outer = chained (row_laid known which row draft line) (λ mid. rows_laid (λ number. row_laid known (row_of name number) row) (number + 1) mid rows) next is in
-      let inner = chained (body_laid known (enter which row line draft) row line) (λ mid. good (leave which row draft mid)) outer.value outer.is in
-      let mid = leave which row draft inner.value in
-      let same : outer.value ≡ mid = sym (same_ok mid outer.value inner.leads) in
-      let found = body_behind known row apart line (enter which row line draft) inner.value inner.is in
-      let first = inside_came row apart came passed which line are.0 draft inner.value marks short met_known inner.is in
-      let more = rows_came name row apart came passed (number + 1) rows are.1 mid next (adds_marks none draft mid first.adds marks) first.adds.short
-      (known_behind known none passed.met draft mid first.adds met_known) (sym (ap (λ (d : Draft). rows_laid (λ number. row_laid known (row_of name number) row) (number + 1) d rows) same) ∙ outer.leads) in
-      record {
-        places = found.places ++ more.places;
-        places_are = more.places_are ∙ ap (λ (p : List ℤ). p ++ more.places) found.places_are ∙ append_assoc draft.places found.places more.places;
-        came = came_counted known none passed.met (λ names. HavePlaces row which inner.value names × RowsGiven row names (number + 1) (length rows) more.places)
-            (λ names. RowsGiven row names number (suc (length rows)) (found.places ++ more.places)) draft next (RowsAre name row passed number (line ∷ rows))
-            (λ names given. (
-              first_given row names inner.value.known number (length rows) found.places more.places found.are given,
-              others_given row names inner.value.known number (length rows) found.places more.places found.are given,
-            ))
-            (both_came known none none passed.met passed.met (HavePlaces row which inner.value) (λ names. RowsGiven row names (number + 1) (length rows) more.places) draft mid next
-            (InsideIs row which passed line) (RowsAre name row passed (number + 1) rows) (RowsAre name row passed number (line ∷ rows)) marks
-            (λ all names one others. (length mid.bits, mid.late, one, others)) first more.came (λ key early. (refl, early)));
-      }
+      let parts = rows_parts (λ number. row_ended known (row_of name number) row) number draft line rows all is in
+      let one = row_parts known which row draft line parts.one parts.first in
+      let mid = leave which row draft one.inner in
+      let first = inside_came row apart came passed which line are.0 draft one.inner marks short met_known one.is in
+      let more = rows_came name row apart came passed (number + 1) rows are.1 mid parts.others (adds_marks none draft mid first.adds marks) first.adds.short
+      (known_behind known none passed.met draft mid first.adds met_known)
+      (ap (λ (e : Ended). rows_laid (λ number. row_ended known (row_of name number) row) (number + 1) e.draft rows) one.ended ∙ parts.more) in
+      let whole : and_row (row_end which row draft one.inner) parts.others ≡ all = ap (λ (e : Ended). and_row e parts.others) one.ended ∙ parts.whole in
+      subst (λ (laid : AllRows). Came known none passed.met (λ names. EndsAre row names number laid.ends) draft laid.draft (RowsAre name row passed number (line ∷ rows))) whole
+      (both_came known none none passed.met passed.met (HavePlaces row which one.inner) (λ names. EndsAre row names (number + 1) parts.others.ends) draft mid parts.others.draft
+      (InsideIs row which passed line) (RowsAre name row passed (number + 1) rows) (RowsAre name row passed number (line ∷ rows)) marks
+      (λ all names one others. (length mid.bits, mid.late, one, others)) first more (λ key early. (refl, early)))
 
   -- Fields.
 
@@ -200,12 +183,8 @@ module _ (known : Facts) where
       → MetKnown passed.met draft.known → case_laid known draft cases (Some v) ≡ Ok next
       → Came known none passed.met NoCount draft next (λ all names. CaseSpells anyhow known all cases names passed (Some v))
 
-  -- after all rows the array is as its rows, apart and with the places of the labels in them
-  abbrev array_next : PlainBody → ℕ → Draft → Draft → Draft
-  array_next row count draft mid = with_places draft.places (behind_rows row count mid)
-
-  abbrev array_adds : (row : PlainBody) (count : ℕ) (draft mid : Draft) → Adds none (with_places [] draft) mid → Adds (gives_rows row) draft (array_next row count draft mid)
-  array_adds row count draft mid a = record {
+  abbrev array_adds : (row : PlainBody) (draft : Draft) (rows : AllRows) → Adds none draft rows.draft → Adds (gives_rows row) draft (behind_rows row rows)
+  array_adds row draft rows a = record {
     bits = a.bits;
     marks = a.marks;
     bits_are = a.bits_are;
@@ -216,103 +195,75 @@ module _ (known : Facts) where
     numbers_are = a.numbers_are;
     tracks = a.tracks;
     short = a.short;
-    names_are = λ key is. ap (λ (test : Bool). if test then row_value row count mid.places key else mid.known.give key) is ∙ a.names_are key refl;
-    given = rows_given row count mid.places mid.known;
+    names_are = λ key is. ap (λ (test : Bool). if test then rows_give rows.ends key else rows.draft.known.give key) is ∙ a.names_are key refl;
+    given = rows_given row rows.ends rows.draft.known;
   }
 
-  module _ (row : PlainBody) (count : ℕ) (passed : Passed) (draft mid : Draft) (fresh : Fresh (gives_rows row) passed.met) (all : List Bool) (names : Environment)
-      (fits : FitsAll known all names (λ key. gives_rows row key || passed.met key) (array_next row count draft mid)) where
-    rows_fit : FitsAll known all names passed.met mid
+  module _ (row : PlainBody) (passed : Passed) (rows : AllRows) (fresh : Fresh (gives_rows row) passed.met) (all : List Bool) (names : Environment)
+      (fits : FitsAll known all names (λ key. gives_rows row key || passed.met key) (behind_rows row rows)) where
+    rows_fit : FitsAll known all names passed.met rows.draft
     rows_fit = record {
       bits = fits.bits;
       len = refl;
       late_is = refl;
       marks = fits.marks;
       within = fits.within;
-      names_are = alike_back known (gives_rows row) passed.met (λ key. gives_rows row key || passed.met key) mid.known (also_rows row count mid.places mid.known) names
-          (λ key is. ap (λ (test : Bool). if test then row_value row count mid.places key else mid.known.give key) is) (still_rows known row passed.met fresh) fits.names_are;
+      names_are = alike_back known (gives_rows row) passed.met (λ key. gives_rows row key || passed.met key) rows.draft.known (also_rows row rows.ends rows.draft.known) names
+          (λ key is. ap (λ (test : Bool). if test then rows_give rows.ends key else rows.draft.known.give key) is) (still_rows known row passed.met fresh) fits.names_are;
     }
 
-    rows_are_given : AreRows row count names
+    rows_are_given : AreRows row (length rows.ends) names
     rows_are_given = record {
       give = λ label is. sym (fits.names_are.names (rows_of label) refl (ap (λ (test : Bool). not (test || passed.met (rows_of label))) is))
-          ∙ ap (λ (test : Bool). if test then Some (pos count) else mid.known.give (rows_of label)) is;
+          ∙ ap (λ (test : Bool). if test then Some (pos (length rows.ends)) else rows.draft.known.give (rows_of label)) is;
     }
 
-    places_given : RowsGiven row names 1 count mid.places
-    places_given = record {
-      give = λ label j is less.
-          let key : Key = place_in label (pos (1 + j)) in
-          sym (fits.names_are.places label (pos count) (pos (1 + j)) (ap (λ (test : Bool). test || passed.met (rows_of label)) is) (rows_are_given.give label is) (row_in_rows count j less))
-          ∙ ap (λ (test : Bool). if test then row_value row count mid.places key else mid.known.give key) is ∙ row_place_is row count j mid.places label less;
-    }
+    ends_given : EndsAre row names 1 rows.ends
+    ends_given = ends_by row names 1 rows.ends (λ label j is less.
+        let key : Key = place_in label (pos (1 + j)) in
+        sym (fits.names_are.places label (pos (length rows.ends)) (pos (1 + j)) (ap (λ (test : Bool). test || passed.met (rows_of label)) is) (rows_are_given.give label is) (row_in_rows (length rows.ends) j less))
+        ∙ ap (λ (test : Bool). if test then rows_give rows.ends key else rows.draft.known.give key) is ∙ row_place_is rows.ends label j)
 
-  rows_array : (name : Option Word) (count : Option ℤ) (row : PlainBody) (passed : Passed) (value : Option Tree) (rows : List (List Tree)) → value ≡ Some (trees.Rows rows) → IsStated count (length rows) → (draft mid : Draft)
-      → Fresh (gives_rows row) passed.met → RowsCame name row passed 1 rows (with_places [] draft) mid
-      → Came known (gives_rows row) (λ key. gives_rows row key || passed.met key) (FieldCounted (Array name count row) value) draft (array_next row (length rows) draft mid)
+  rows_array : (name : Option Word) (count : Option ℤ) (row : PlainBody) (passed : Passed) (value : Option Tree) (lines : List (List Tree)) → value ≡ Some (trees.Rows lines) → IsStated count (length lines) → (draft : Draft) (rows : AllRows)
+      → length rows.ends ≡ length lines → Fresh (gives_rows row) passed.met → Came known none passed.met (λ names. EndsAre row names 1 rows.ends) draft rows.draft (RowsAre name row passed 1 lines)
+      → Came known (gives_rows row) (λ key. gives_rows row key || passed.met key) (FieldCounted (Array name count row) value) draft (behind_rows row rows)
       (λ all names. FieldSpells anyhow known all (Array name count row) names passed value)
-  rows_array name count row passed value rows whole stated draft mid fresh it = record {
-    adds = array_adds row (length rows) draft mid it.came.adds;
+  rows_array name count row passed value lines whole stated draft rows many fresh it = record {
+    adds = array_adds row draft rows it.adds;
     spells = λ all names fits holds counted. (
-      rows,
+      lines,
       whole,
       stated,
-      subst (λ (rs : List (List Tree)). IsCounted name (length rs) names) (ap rows_in whole ∙ rows_are rows) counted,
-      rows_are_given row (length rows) passed draft mid fresh all names fits,
-      it.came.spells all names (rows_fit row (length rows) passed draft mid fresh all names fits) holds
-          (subst (RowsGiven row names 1 (length rows)) it.places_are (places_given row (length rows) passed draft mid fresh all names fits)),
+      subst (λ (rs : List (List Tree)). IsCounted name (length rs) names) (ap rows_in whole ∙ rows_are lines) counted,
+      subst (λ (n : ℕ). AreRows row n names) many (rows_are_given row passed rows fresh all names fits),
+      it.spells all names (rows_fit row passed rows fresh all names fits) holds (ends_given row passed rows fresh all names fits),
     );
   }
 
   array_came : (name : Option Word) (count : Option ℤ) (row : PlainBody) → AreApart row → BodyCame row → FieldCame (Array name count row)
-  array_came name count row apart came passed value (v, (rows, is_rows, stated, are), some) draft next fresh marks short met_known is =
-      let whole : value ≡ Some (trees.Rows rows) = some ∙ ap (λ (t : Tree). Some t) is_rows in
-      let lines : rows_in value ≡ rows = ap rows_in whole ∙ rows_are rows in
-      let front = with_places [] draft in
-      let outer = chained (array_laid (λ number. row_laid known (row_of name number) row) row rows front) (λ mid. good (with_places draft.places mid)) next
-      (sym (ap (λ (ls : List (List Tree)). rows_apart known name row ls draft) lines) ∙ is) in
-      let inner = chained (rows_laid (λ number. row_laid known (row_of name number) row) 1 front rows) (λ mid. good (behind_rows row (length rows) mid)) outer.value outer.is in
-      let mid = inner.value in
-      let same : array_next row (length rows) draft mid ≡ next = ap (with_places draft.places) (same_ok (behind_rows row (length rows) mid) outer.value inner.leads) ∙ same_ok (with_places draft.places outer.value) next outer.leads in
+  array_came name count row apart came passed value (v, (lines, is_rows, stated, are), some) draft next fresh marks short met_known is =
+      let whole : value ≡ Some (trees.Rows lines) = some ∙ ap (λ (t : Tree). Some t) is_rows in
+      let lay = λ (number : ℕ). row_ended known (row_of name number) row in
+      let parts = array_parts lay row lines draft next (sym (ap (λ (ls : List (List Tree)). all_laid known name row ls draft) (ap rows_in whole ∙ rows_are lines)) ∙ is) in
       came_met known (gives_rows row) (λ key. gives_rows row key || passed.met key) (met_behind (Array name count row) passed.met) (FieldCounted (Array name count row) value) draft next
       (λ all names. FieldSpells anyhow known all (Array name count row) names passed value) (array_same name count row passed.met)
-      (subst (λ (d : Draft). Came known (gives_rows row) (λ key. gives_rows row key || passed.met key) (FieldCounted (Array name count row) value) draft d (λ all names. FieldSpells anyhow known all (Array name count row) names passed value)) same
-      (rows_array name count row passed value rows whole stated draft mid fresh (rows_came name row apart came passed 1 rows are front mid marks short met_known inner.is)))
+      (subst (λ (d : Draft). Came known (gives_rows row) (λ key. gives_rows row key || passed.met key) (FieldCounted (Array name count row) value) draft d (λ all names. FieldSpells anyhow known all (Array name count row) names passed value))
+      parts.behind
+      (rows_array name count row passed value lines whole stated draft parts.rows (ends_length lay 1 draft lines parts.rows parts.is) fresh
+      (rows_came name row apart came passed 1 lines are draft parts.rows marks short met_known parts.is)))
 
   abbrev CaseIs : Word → PlainBody → PlainCases → Passed → Option Tree → List Bool → Environment → RowSpells
   CaseIs name row others passed value all names = CaseSpells anyhow known all (case_and name row others) names passed value
 
-  fits_back : (all : List Bool) (names : Environment) (met : Names) (places : List ℤ) (draft : Draft) → FitsAll known all names met (with_places places draft) → FitsAll known all names met draft
-  fits_back all names met places draft fits = record { bits = fits.bits; len = fits.len; late_is = fits.late_is; marks = fits.marks; within = fits.within; names_are = fits.names_are }
-
-  -- the fields of a case that is chosen
-  case_inside : (row : PlainBody) → AreApart row → BodyCame row → (passed : Passed) (line : List Tree) → IsRow row line → (draft next : Draft) → length draft.late ≡ length draft.bits → length draft.bits ≤ most_bits
-      → MetKnown passed.met draft.known → apart (λ inner. row_laid known None row inner line) draft ≡ Ok next → Came known none passed.met NoCount draft next (InsideIs row None passed line)
-  case_inside row own came passed line is_row draft next marks short met_known is =
-      let front = with_places [] draft in
-      let outer = chained (row_laid known None row front line) (λ mid. good (with_places draft.places mid)) next is in
-      let inner = chained (body_laid known (enter None row line front) row line) (λ mid. good (leave None row front mid)) outer.value outer.is in
-      let same : with_places draft.places (leave None row front inner.value) ≡ next =
-      ap (with_places draft.places) (same_ok (leave None row front inner.value) outer.value inner.leads) ∙ same_ok (with_places draft.places outer.value) next outer.leads in
-      let it = inside_came row own came passed None line is_row front inner.value marks short met_known inner.is in
-      subst (λ (d : Draft). Came known none passed.met NoCount draft d (InsideIs row None passed line)) same (record {
-        adds = record {
-          bits = it.adds.bits;
-          marks = it.adds.marks;
-          bits_are = it.adds.bits_are;
-          marks_are = it.adds.marks_are;
-          same = it.adds.same;
-          is_zero = it.adds.is_zero;
-          numbers = it.adds.numbers;
-          numbers_are = it.adds.numbers_are;
-          tracks = it.adds.tracks;
-          short = it.adds.short;
-          names_are = λ key is. refl;
-          given = λ in_rows name is. absurd (true_false (sym is));
-        };
-        spells = λ all names fits holds counted.
-            it.spells all names (fits_back all names passed.met draft.places (leave None row front inner.value) fits) holds (λ label is. tt);
-      })
+  -- a row by itself
+  row_came : (row : PlainBody) → AreApart row → BodyCame row → (passed : Passed) (line : List Tree) → IsRow row line → (draft next : Draft) → length draft.late ≡ length draft.bits → length draft.bits ≤ most_bits
+      → MetKnown passed.met draft.known → row_laid known None row draft line ≡ Ok next → Came known none passed.met NoCount draft next (InsideIs row None passed line)
+  row_came row own came passed line is_row draft next marks short met_known is =
+      let outer = chained (row_ended known None row draft line) (λ one. good one.draft) next is in
+      let one = row_parts known None row draft line outer.value outer.is in
+      subst (λ (d : Draft). Came known none passed.met NoCount draft d (InsideIs row None passed line)) (ap (λ (e : Ended). e.draft) one.ended ∙ same_ok outer.value.draft next outer.leads)
+      (came_counted known none passed.met (HavePlaces row None one.inner) NoCount draft (leave None row draft one.inner) (InsideIs row None passed line) (λ names counted label is. tt)
+      (inside_came row own came passed None line is_row draft one.inner marks short met_known one.is))
 
   -- a case that is chosen, and one that isn't
   case_came : (name : Word) (row : PlainBody) (others : PlainCases) → AreApart row → BodyCame row → (passed : Passed) (v : Tree) → (line : List Tree) × (v ≡ trees.Choice name line) × IsRow row line → (draft next : Draft)
@@ -321,9 +272,9 @@ module _ (known : Facts) where
   case_came name row others own came passed v (line, is_choice, is_row) draft next marks short met_known is =
       let some : Some v ≡ Some (trees.Choice name line) = ap (λ (t : Tree). Some t) is_choice in
       let chosen : is_case name (Some v) ≡ true = ap (is_case name) some ∙ choice_chosen name line in
-      let so : apart (λ inner. row_laid known None row inner line) draft ≡ Ok next =
-      sym (ap (λ (l : List Tree). apart (λ inner. row_laid known None row inner l) draft) (ap line_in some ∙ line_is name line))
-      ∙ sym (ap (λ (test : Bool). if test then apart (λ inner. row_laid known None row inner (line_in (Some v))) draft else case_laid known draft others (Some v)) chosen)
+      let so : row_laid known None row draft line ≡ Ok next =
+      sym (ap (row_laid known None row draft) (ap line_in some ∙ line_is name line))
+      ∙ sym (ap (λ (test : Bool). if test then row_laid known None row draft (line_in (Some v)) else case_laid known draft others (Some v)) chosen)
       ∙ is in
       came_is known none passed.met NoCount draft next (InsideIs row None passed line) (CaseIs name row others passed (Some v))
       (λ all names counted it. subst (λ (test : Bool). By test
@@ -331,7 +282,7 @@ module _ (known : Facts) where
       × Inside row None names (λ own. BodySpells anyhow known all row own (at_front row passed) line) (length draft.bits) draft.late (length next.bits) next.late)
       (CaseSpells anyhow known all others names passed (Some v) (length draft.bits) draft.late (length next.bits) next.late))
       (sym chosen) (line, some, it))
-      (case_inside row own came passed line is_row draft next marks short met_known so)
+      (row_came row own came passed line is_row draft next marks short met_known so)
 
   others_came : (name : Word) (row : PlainBody) (others : PlainCases) → AllByRecursion (λ later. str_eq_ignore_ascii_case name.bytes later.bytes ≡ false) (case_names others) → CasesCame others → (passed : Passed) (v : Tree) → IsChoice others v → (draft next : Draft)
       → length draft.late ≡ length draft.bits → length draft.bits ≤ most_bits → MetKnown passed.met draft.known → case_laid known draft (case_and name row others) (Some v) ≡ Ok next
@@ -339,7 +290,7 @@ module _ (known : Facts) where
   others_came name row others differ came passed v is_choice draft next marks short met_known is =
       let other : is_case name (Some v) ≡ false = choice_differs name others differ v is_choice in
       let so : case_laid known draft others (Some v) ≡ Ok next =
-      sym (ap (λ (test : Bool). if test then apart (λ inner. row_laid known None row inner (line_in (Some v))) draft else case_laid known draft others (Some v)) other) ∙ is in
+      sym (ap (λ (test : Bool). if test then row_laid known None row draft (line_in (Some v)) else case_laid known draft others (Some v)) other) ∙ is in
       came_is known none passed.met NoCount draft next (λ all names. CaseSpells anyhow known all others names passed (Some v)) (CaseIs name row others passed (Some v))
       (λ all names counted it. subst (λ (test : Bool). By test
       ((line : List Tree) × (Some v ≡ Some (trees.Choice name line))
@@ -421,11 +372,7 @@ module _ (written : (bits : List Bool) → length bits % 8 ≡ 0 → bits_of (by
       let bytes_are : bytes_of (filled 8 own) ≡ bytes = same_ok _ bytes two.leads in
       let all = bits_of bytes in
       let all_is : all ≡ own ++ more = ap bits_of (sym bytes_are) ∙ written (filled 8 own) (multiple 8 own (omega (arith))) in
-      let inner = chained (body_laid known (enter None body row nothing_laid) body row) (λ mid. good (leave None body nothing_laid mid)) draft one.is in
-      let same : leave None body nothing_laid inner.value ≡ draft = same_ok (leave None body nothing_laid inner.value) draft inner.leads in
-      let c : Came known (λ key. false) nothing_passed.met (λ names. (label : List ℕ) → has_label body label ≡ true → Unit {0}) nothing_laid draft (λ all names. Inside body None names (λ own. BodySpells anyhow known all body own (at_front body nothing_passed) row)) =
-      subst (λ (d : Draft). Came known (λ key. false) nothing_passed.met (λ names. (label : List ℕ) → has_label body label ≡ true → Unit {0}) nothing_laid d (λ all names. Inside body None names (λ own. BodySpells anyhow known all body own (at_front body nothing_passed) row))) same
-      (inside_came known body apart (body_came known body apart) nothing_passed None row are nothing_laid inner.value refl (omega (arith)) (λ in_rows name. refl) inner.is) in
+      let c = row_came known body apart (body_came known body apart) nothing_passed row are nothing_laid draft refl (omega (arith)) (λ in_rows name. refl) one.is in
       let size : length c.adds.marks ≡ length draft.bits = c.adds.same ∙ ap length (sym c.adds.bits_are) in
       let second = fill_came known IsAny own more outside c.adds.numbers c.adds.marks [] draft.bits 0 refl size c.adds.tracks
       (ap (λ (n : List LateNumber). fill known outside n draft.bits) (sym c.adds.numbers_are) ∙ two.is) in
@@ -443,7 +390,7 @@ module _ (written : (bits : List Bool) → length bits % 8 ≡ 0 → bits_of (by
         within = within;
         names_are = record { names = λ key single early. c.adds.names_are key refl; places = λ label rows number was has inside. c.adds.names_are (place_in label number) refl };
       } in
-      let it = c.spells all outside fits (subst (λ (a : List Bool). Each (Holds known a outside) c.adds.numbers) (sym all_is) second.holds) (λ label is. tt) in
+      let it = c.spells all outside fits (subst (λ (a : List Bool). Each (Holds known a outside) c.adds.numbers) (sym all_is) second.holds) tt in
       record {
         names = it.0;
         own = it.1;

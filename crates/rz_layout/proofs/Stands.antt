@@ -15,8 +15,9 @@ use Rattle.rz_layout.specs.Sound.{AreSound, IsCaseSound, IsSound, IsWidth}
 use Rattle.rz_types_fields.specs.declared.field.NumForm.{NumForm}
 use Rattle.rz_types_fields.specs.declared.tree.Tree.{Tree}
 use Rattle.rz_types_fields.specs.Field.{case_and, field_and, no_cases, no_fields, takes_value, Align, Array, Fill, Label, Number, PlainBody, PlainCases, PlainField, Points, Switch, Text}
-use Rattle.rz_types_fields.specs.Laid.{apart, array_laid, behind_rows, body_laid, case_laid, closing, draft_sight, enter, field_laid, first_value, fixed_form, grown, in_order, late_at, later, lay, leave, line_in, met_in, nothing_laid, now, number_form, other_values, piece_form, ranged, reads_late, row_laid, rows_in, rows_laid, takes_one, text_laid, too_long, value_refusal, with_form, with_places, with_room, Draft, Form, LateNumber, Refusal}
+use Rattle.rz_types_fields.specs.Laid.{array_laid, body_laid, case_laid, closing, draft_sight, enter, field_laid, first_value, fixed_form, grown, in_order, late_at, later, lay, line_in, met_in, nothing_laid, now, number_form, other_values, piece_form, ranged, reads_late, row_ended, row_laid, rows_in, rows_laid, takes_one, text_laid, too_long, value_refusal, with_form, with_room, AllRows, Draft, Ended, Form, LateNumber, Refusal}
 use Rattle.rz_types_fields.specs.RowLabels.{row_of, RowOf}
+use Rattle.rz_layout.proofs.EachRow.{array_parts, row_parts, rows_parts}
 use Rattle.rz_core.specs.declared.resource.Word.{Word}
 use Rattle.rz_types_fields.specs.Piece.{fixed_integer, free_integer, integers, pieces_of, Filler, OneNumber, OneText, Piece, Place, Zeros}
 use Rattle.rz_types_fields.specs.Sees.{names_later}
@@ -168,41 +169,42 @@ points_sound rect (Some terms) = fixed_sounds terms
 abbrev BodyKeeps : Facts → PlainBody → Type 0
 BodyKeeps facts body = (draft : Draft) (values : List Tree) (next : Draft) → AreSound body values → body_laid facts draft body values ≡ Ok next → Keeps draft next
 
+ended_keeps : (facts : Facts) (which : Option RowOf) (row : PlainBody) → BodyKeeps facts row → (draft : Draft) (line : List Tree) (one : Ended) → AreSound row line
+    → row_ended facts which row draft line ≡ Ok one → Keeps draft one.draft
+ended_keeps facts which row each draft line one sound is =
+    let it = row_parts facts which row draft line one is in
+    let kept = each (enter which row line draft) line it.inner sound it.is in
+    subst (λ (e : Ended). Keeps draft e.draft) it.ended (record {
+      more = kept.more;
+      within = λ are. within_both (length it.inner.bits) draft.numbers (map (closing which row it.inner.known) it.inner.numbers)
+          (within_more (length draft.bits) (length it.inner.bits) kept.more draft.numbers are)
+          (within_closing (length it.inner.bits) which row it.inner.known it.inner.numbers (kept.within tt));
+    })
+
 inside_keeps : (facts : Facts) (which : Option RowOf) (row : PlainBody) → BodyKeeps facts row → (draft : Draft) (line : List Tree) (next : Draft) → AreSound row line
     → row_laid facts which row draft line ≡ Ok next → Keeps draft next
 inside_keeps facts which row each draft line next sound is =
-    let step = then_ok (body_laid facts (enter which row line draft) row line) (λ mid. Ok (leave which row draft mid)) next is in
-    let kept = each (enter which row line draft) line step.0 sound step.1.0 in
-    subst (Keeps draft) (same_ok (leave which row draft step.0) next step.1.1) (record {
-      more = kept.more;
-      within = λ are. within_both (length step.0.bits) draft.numbers (map (closing which row step.0.known) step.0.numbers)
-          (within_more (length draft.bits) (length step.0.bits) kept.more draft.numbers are)
-          (within_closing (length step.0.bits) which row step.0.known step.0.numbers (kept.within tt));
-    })
+    let step = then_ok (row_ended facts which row draft line) (λ one. Ok one.draft) next is in
+    subst (Keeps draft) (same_ok step.0.draft next step.1.1) (ended_keeps facts which row each draft line step.0 sound step.1.0)
 
-abbrev row_at : Facts → Option Word → PlainBody → ℕ → Draft → List Tree → Result Draft Refusal
-row_at facts name row number draft line = row_laid facts (row_of name number) row draft line
+abbrev row_at : Facts → Option Word → PlainBody → ℕ → Draft → List Tree → Result Ended Refusal
+row_at facts name row number draft line = row_ended facts (row_of name number) row draft line
 
-rows_keep : (facts : Facts) (name : Option Word) (row : PlainBody) → BodyKeeps facts row → (rows : List (List Tree)) (number : ℕ) (draft next : Draft) → AllByRecursion (AreSound row) rows
-    → rows_laid (row_at facts name row) number draft rows ≡ Ok next → Keeps draft next
-rows_keep facts name row each [] number draft next sound is = keeps_itself draft next (same_ok draft next is)
-rows_keep facts name row each (line ∷ rows) number draft next sound is =
-    let step = then_ok (row_at facts name row number draft line) (λ mid. rows_laid (row_at facts name row) (number + 1) mid rows) next is in
-    keeps_both draft step.0 next (inside_keeps facts (row_of name number) row each draft line step.0 sound.0 step.1.0)
-    (rows_keep facts name row each rows (number + 1) step.0 next sound.1 step.1.1)
-
-apart_keeps : (lay : Draft → Result Draft Refusal) → ((draft next : Draft) → lay draft ≡ Ok next → Keeps draft next) → (draft next : Draft) → apart lay draft ≡ Ok next → Keeps draft next
-apart_keeps lay keeps draft next is =
-    let step = then_ok (lay (with_places [] draft)) (λ mid. Ok (with_places draft.places mid)) next is in
-    let kept = keeps (with_places [] draft) step.0 step.1.0 in
-    subst (Keeps draft) (same_ok (with_places draft.places step.0) next step.1.1) (record { more = kept.more; within = kept.within })
+rows_keep : (facts : Facts) (name : Option Word) (row : PlainBody) → BodyKeeps facts row → (rows : List (List Tree)) (number : ℕ) (draft : Draft) (all : AllRows) → AllByRecursion (AreSound row) rows
+    → rows_laid (row_at facts name row) number draft rows ≡ Ok all → Keeps draft all.draft
+rows_keep facts name row each [] number draft all sound is = keeps_itself draft all.draft (ap (λ (rows : AllRows). rows.draft) (same_ok (record { draft = draft; ends = [] }) all is))
+rows_keep facts name row each (line ∷ rows) number draft all sound is =
+    let it = rows_parts (row_at facts name row) number draft line rows all is in
+    subst (λ (all : AllRows). Keeps draft all.draft) it.whole
+    (keeps_both draft it.one.draft it.others.draft (ended_keeps facts (row_of name number) row each draft line it.one sound.0 it.first)
+    (rows_keep facts name row each rows (number + 1) it.one.draft it.others sound.1 it.more))
 
 array_keeps : (facts : Facts) (name : Option Word) (row : PlainBody) → BodyKeeps facts row → (rows : List (List Tree)) → AllByRecursion (AreSound row) rows → (draft next : Draft)
     → array_laid (row_at facts name row) row rows draft ≡ Ok next → Keeps draft next
 array_keeps facts name row each rows sound draft next is =
-    let step = then_ok (rows_laid (row_at facts name row) 1 draft rows) (λ mid. Ok (behind_rows row (length rows) mid)) next is in
-    let kept = rows_keep facts name row each rows 1 draft step.0 sound step.1.0 in
-    subst (Keeps draft) (same_ok (behind_rows row (length rows) step.0) next step.1.1) (record { more = kept.more; within = kept.within })
+    let it = array_parts (row_at facts name row) row rows draft next is in
+    let kept = rows_keep facts name row each rows 1 draft it.rows sound it.is in
+    subst (Keeps draft) it.behind (record { more = kept.more; within = kept.within })
 
 either_keeps : (test : Bool) (this other : Result Draft Refusal) (draft next : Draft) → (test ≡ true → this ≡ Ok next → Keeps draft next) → (other ≡ Ok next → Keeps draft next)
     → (if test then this else other) ≡ Ok next → Keeps draft next
@@ -219,15 +221,14 @@ mutual
   field_keeps facts (Align unit) draft value next sound is = pieces_keep facts (pieces_of (Align unit)) (tt, tt) draft (values_for (Align unit) value) next is
   field_keeps facts (Label name) draft value next sound is = pieces_keep facts (pieces_of (Label name)) (tt, tt) draft (values_for (Label name) value) next is
   field_keeps facts (Array name count row) draft value next sound is =
-      apart_keeps (array_laid (row_at facts name row) row (rows_in value)) (array_keeps facts name row (body_keeps facts row) (rows_in value) sound) draft next is
+      array_keeps facts name row (body_keeps facts row) (rows_in value) sound draft next is
   field_keeps facts (Switch cases) draft value next sound is = cases_keep facts cases draft value next sound.1 is
 
   cases_keep : (facts : Facts) (cases : PlainCases) (draft : Draft) (value : Option Tree) (next : Draft) → IsCaseSound cases value → case_laid facts draft cases value ≡ Ok next → Keeps draft next
   cases_keep facts no_cases draft value next sound is = keeps_itself draft next (same_ok draft next is)
   cases_keep facts (case_and name row others) draft value next sound is =
-      either_keeps (is_case name value) (apart (λ inner. row_laid facts None row inner (line_in value)) draft) (case_laid facts draft others value) draft next
-      (λ chosen. apart_keeps (λ inner. row_laid facts None row inner (line_in value))
-      (λ inner behind. inside_keeps facts None row (body_keeps facts row) inner (line_in value) behind (sound.0 chosen)) draft next)
+      either_keeps (is_case name value) (row_laid facts None row draft (line_in value)) (case_laid facts draft others value) draft next
+      (λ chosen. inside_keeps facts None row (body_keeps facts row) draft (line_in value) next (sound.0 chosen))
       (cases_keep facts others draft value next sound.1) is
 
   body_keeps : (facts : Facts) (body : PlainBody) → BodyKeeps facts body

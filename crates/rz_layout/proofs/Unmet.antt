@@ -1,12 +1,11 @@
 -- Labels that weren't met before a field or a body.
-use Rattle.std.proofs.Common.{◌≡◌, ℕ, ℤ, pos, Bool, true, false, ◌&&◌, ◌||◌, not, List, Some, refl, sym, ap, ◌∙◌}
+use Rattle.std.proofs.Common.{◌≡◌, ℕ, pos, Bool, true, false, ◌&&◌, ◌||◌, not, List, length, Some, refl, sym, ap, ◌∙◌}
 use Rattle.std.specs.Prelude.{if◌then◌else◌}
 use Rattle.std.specs.Option.{is_some}
 use Rattle.rz_core.proofs.Tests.{true_false}
 use Rattle.rz_core.specs.declared.facts.Facts.{Facts}
 use Rattle.rz_expr.specs.Environment.{count_of, place_in, place_of, row_in, rows_of, Environment, Key}
 use Rattle.rz_types_fields.specs.Field.{field_and, PlainBody, PlainField}
-use Rattle.rz_types_fields.specs.Laid.{apart}
 use Rattle.rz_types_fields.specs.Passed.{declares, gives_key, gives_rows, has_label, Names}
 use Rattle.rz_types_fields.specs.RowLabels.{also_rows}
 use Rattle.rz_layout.proofs.Adding.{Still}
@@ -50,7 +49,7 @@ still_rows known row met fresh (place_in name number) early = rows_still row met
 still_rows known row met fresh (row_in name) early = (refl, refl)
 
 -- what is given after all rows
-pub rows_given : (row : PlainBody) (count : ℕ) (places : List ℤ) (names : Environment) (in_rows : Bool) (name : List ℕ) → gives_rows row (label_key in_rows name) ≡ true
-    → is_some ((also_rows row count places names).give (label_key in_rows name)) ≡ true
-rows_given row count places names false name is = absurd (true_false (sym is))
-rows_given row count places names true name is = ap (λ (test : Bool). is_some (if test then Some (pos count) else names.give (rows_of name))) is
+pub rows_given : (row : PlainBody) (ends : List Environment) (names : Environment) (in_rows : Bool) (name : List ℕ) → gives_rows row (label_key in_rows name) ≡ true
+    → is_some ((also_rows row ends names).give (label_key in_rows name)) ≡ true
+rows_given row ends names false name is = absurd (true_false (sym is))
+rows_given row ends names true name is = ap (λ (test : Bool). is_some (if test then Some (pos (length ends)) else names.give (rows_of name))) is

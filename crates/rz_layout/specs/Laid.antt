@@ -26,7 +26,8 @@ use Rattle.rz_types_fields.specs.Laid.{bytes_given, bytes_laid, grown, late_at, 
 use Rattle.rz_types_fields.specs.Passed.{declares, stands_at, Names}
 use Rattle.rz_types_fields.specs.Piece.{Place, Zeros}
 use Rattle.rz_layout.specs.declared.late.Late.{Late as HeldLate}
-use Rattle.rz_types_fields.specs.RowLabels.{labels_count, RowOf}
+use Rattle.rz_types_fields.specs.FlatRows.{labels_count}
+use Rattle.rz_types_fields.specs.RowLabels.{RowOf}
 use Rattle.rz_types_fields.specs.Sees.{marked}
 use Rattle.rz_types_fields.specs.Spells.{most_bits}
 use Rattle.rz_types_fields.specs.Field.{field_and, no_fields, Array, Label, PlainBody, PlainField, PlainText}
@@ -38,7 +39,6 @@ draft_of laid = record {
   late = marked (length laid.bits) laid.marks;
   known = known laid.notes.items;
   numbers = numbers_in laid.late;
-  places = laid.places.items;
 }
 
 -- no more bits than a resource may have, marks of no more bits than there are, and pieces that can be counted
@@ -146,7 +146,6 @@ pub record IsLeft (which : Option RowOf) (body : PlainBody) (outer : List HeldLa
   pub piece : new.piece ≡ old.piece
   pub bits : new.bits ≡ old.bits
   pub marks : new.marks ≡ old.marks
-  pub places : new.places.items ≡ old.places.items
   pub notes : new.notes.items ≡ take around old.notes.items
   pub late : numbers_in new.late ≡ numbers_in outer ++ kept_late (is_in_named which || has_names body) (drop around old.notes.items) (numbers_in old.late)
 

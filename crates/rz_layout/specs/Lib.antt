@@ -1,6 +1,7 @@
 pub mod Fault
 pub mod Late
 pub mod Laid
+pub mod Places
 pub mod Seen
 pub mod Sound
 pub mod Text

@@ -1,16 +1,16 @@
 //! Rows laid as bytes, field by field, with arrays and switches. What is answered is in `specs/Compiled`.
 
-ghost use Rattle.std.specs.Prelude.{IfOk, ◌≡◌, length, option_map, true, List, ℕ, [], None};
+ghost use Rattle.std.specs.Prelude.{IfOk, ◌≡◌, length, option_map, true, List, ℕ, [], None, Some};
 ghost use Rattle.rz_layout.specs.Fault.{refusal_of};
 ghost use Rattle.std.specs.declared.result.Result.{Result as Answer};
 ghost use Rattle.rz_layout.specs.Compiled.{is_compile_fault, IsCompiled};
 ghost use Rattle.rz_layout.specs.Laid.{draft_of, IsNotedBy, IsShort};
+ghost use Rattle.rz_layout.specs.Places.{items_of, AreRowsLaid, IsRowLaid};
 ghost use Rattle.rz_layout.specs.Sound.{AreSound, IsCaseSound, IsSound};
-ghost use Rattle.rz_core.specs.Stop.{OnFault, Gives, Meets, fault_seen, left};
+ghost use Rattle.rz_core.specs.Stop.{OnFault, Gives, Meets, fault_seen, left, seen};
 ghost use Rattle.std.specs.List.{AllByRecursion};
 ghost use Rattle.rz_types_fields.specs.Known.{which_of};
-ghost use Rattle.rz_types_fields.specs.Laid.{apart, body_laid, case_laid, field_laid, laid, row_laid, rows_apart, rows_laid, Refusal};
-ghost use Rattle.rz_types_fields.specs.RowLabels.{row_of};
+ghost use Rattle.rz_types_fields.specs.Laid.{all_laid, body_laid, case_laid, each_laid, field_laid, laid, row_ended, row_laid, Refusal};
 ghost use Rattle.rz_types_fields.specs.Passed.{declares, gives_key, gives_rows};
 ghost use Rattle.rz_types_fields.specs.Row.{IsRow};
 ghost use Rattle.rz_types_fields.specs.Field.{plain_body, plain_cases, plain_field};
@@ -23,6 +23,7 @@ use crate::fill::fill;
 use crate::laid::Laid;
 use crate::names::{enter, leave};
 use crate::number::lay_number;
+use crate::places::push_places;
 use crate::points::lay_points;
 use crate::text::lay_text;
 use rz_bits::{
@@ -115,10 +116,8 @@ fn compile_fields(
         piece: _,
         marks,
         mut notes,
-        places,
     } = laid;
     drop(marks);
-    drop(places);
     let none = BitBuf::new(alloc);
     let filled = fill(late, facts, &mut notes, &none, &mut bits);
     drop(none);
@@ -227,17 +226,15 @@ fn lay_array<'a>(
 ) -> Result<(), Stop<LayFault>>
     requires sound { AllByRecursion (AreSound (plain_body array.now.row)) rows.now }
     requires short { IsShort laid.old }
-    ensures laid { Gives (rows_apart facts.now array.now.name (plain_body array.now.row) rows.now (draft_of laid.old)) (fault_seen refusal_of (left (draft_of laid.new) result)) }
+    ensures laid { Gives (all_laid facts.now array.now.name (plain_body array.now.row) rows.now (draft_of laid.old)) (fault_seen refusal_of (left (draft_of laid.new) result)) }
     ensures short { IfOk result (λ _. IsShort laid.new) }
     ensures notes { IfOk result (λ _. IsNotedBy (gives_rows (plain_body array.now.row)) laid.old.notes.items laid.new.notes.items) }
 {
     let fields = array.row.as_slice();
-    let outer = mem::replace(&mut laid.places, Vec::new(alloc));
-    match lay_rows(alloc, &array.name, fields, rows, facts, laid) {
-        Ok(()) => {}
+    let places = match lay_rows(alloc, &array.name, fields, rows, facts, laid) {
+        Ok(places) => places,
         Err(stop) => return Err(stop),
-    }
-    let places = mem::replace(&mut laid.places, outer);
+    };
     note_rows(fields, count_of(rows), places, &mut laid.notes)?;
     Ok(())
 }
@@ -249,7 +246,8 @@ fn count_of(rows: &[Row]) -> u64
     rows.len() as u64
 }
 
-/// Lays the rows of an array one after the other.
+/// Lays the rows of an array one after the other, and gives the places of the labels that stand directly in them, those of
+/// each row at its end, row by row.
 #[cycle(lay)]
 fn lay_rows<'a>(
     alloc: Global,
@@ -258,23 +256,57 @@ fn lay_rows<'a>(
     rows: &[Row],
     facts: &Facts,
     laid: &mut Laid<'a>,
-) -> Result<(), Stop<LayFault>>
+) -> Result<Vec<i32>, Stop<LayFault>>
     requires sound { AllByRecursion (AreSound (plain_body fields.now)) rows.now }
     requires short { IsShort laid.old }
-    ensures laid { Gives (rows_laid (λ number. row_laid facts.now (row_of name.now number) (plain_body fields.now)) 1 (draft_of laid.old) rows.now) (fault_seen refusal_of (left (draft_of laid.new) result)) }
+    ensures laid { Meets (fault_seen refusal_of (seen items_of result)) (AreRowsLaid (each_laid facts.now name.now (plain_body fields.now) rows.now (draft_of laid.old)) (plain_body fields.now) (draft_of laid.new)) }
     ensures short { IfOk result (λ _. IsShort laid.new) }
     ensures notes { IfOk result (λ _. laid.new.notes.items ≡ laid.old.notes.items) }
 {
+    let mut places = Vec::new(alloc);
     for before in 0..rows.len() {
-        let which = Some(InRow {
+        let which = InRow {
             array: name,
             number: before as u64 + 1,
-        });
-        match lay_body(alloc, fields, which, rows[before].as_slice(), facts, laid) {
+        };
+        let row = rows[before].as_slice();
+        match lay_array_row(alloc, fields, which, row, facts, laid, &mut places) {
             Ok(()) => {}
-            Err(stop) => return Err(stop),
+            Err(stop) => {
+                drop(places);
+                return Err(stop);
+            }
         }
     }
+    Ok(places)
+}
+
+/// Lays a row of an array, and appends the places of its labels to those of the rows before it.
+#[cycle(lay)]
+fn lay_array_row<'a>(
+    alloc: Global,
+    fields: &'a [Field],
+    which: InRow<'a>,
+    row: &[Tree],
+    facts: &Facts,
+    laid: &mut Laid<'a>,
+    places: &mut Vec<i32>,
+) -> Result<(), Stop<LayFault>>
+    requires sound { AreSound (plain_body fields.now) row.now }
+    requires short { IsShort laid.old }
+    ensures laid { Meets (fault_seen refusal_of (left places.new.items result)) (IsRowLaid (row_ended facts.now (which_of (Some which.entry)) (plain_body fields.now) (draft_of laid.old) row.now) (plain_body fields.now) (draft_of laid.new) places.old.items) }
+    ensures short { IfOk result (λ _. IsShort laid.new) }
+    ensures notes { IfOk result (λ _. laid.new.notes.items ≡ laid.old.notes.items) }
+{
+    let around = laid.notes.len();
+    enter(fields, Some(which), row, &mut laid.notes)?;
+    let outer = mem::replace(&mut laid.late, Listing::new(alloc));
+    match lay_fields(alloc, fields, row, facts, laid) {
+        Ok(()) => {}
+        Err(stop) => return Err(stop),
+    }
+    push_places(fields, &laid.notes, places)?;
+    leave(fields, Some(which), outer, around, laid)?;
     Ok(())
 }
 
@@ -298,32 +330,15 @@ fn lay_case<'a>(
     match case_named(cases, hints, choice_in(value)) {
         Some(position) => {
             let row = line_in(value);
-            lay_choice(alloc, cases[position].row.as_slice(), row, facts, laid)
+            lay_body(
+                alloc,
+                cases[position].row.as_slice(),
+                None,
+                row,
+                facts,
+                laid,
+            )
         }
         None => Ok(()),
     }
-}
-
-/// Lays the fields of a case; the places of its labels end with it.
-#[cycle(lay)]
-fn lay_choice<'a>(
-    alloc: Global,
-    fields: &'a [Field],
-    row: &[Tree],
-    facts: &Facts,
-    laid: &mut Laid<'a>,
-) -> Result<(), Stop<LayFault>>
-    requires sound { AreSound (plain_body fields.now) row.now }
-    requires short { IsShort laid.old }
-    ensures laid { Gives (apart (λ inner. row_laid facts.now None (plain_body fields.now) inner row.now) (draft_of laid.old)) (fault_seen refusal_of (left (draft_of laid.new) result)) }
-    ensures short { IfOk result (λ _. IsShort laid.new) }
-    ensures notes { IfOk result (λ _. laid.new.notes.items ≡ laid.old.notes.items) }
-{
-    let outer = mem::replace(&mut laid.places, Vec::new(alloc));
-    match lay_body(alloc, fields, None, row, facts, laid) {
-        Ok(()) => {}
-        Err(stop) => return Err(stop),
-    }
-    laid.places = outer;
-    Ok(())
 }

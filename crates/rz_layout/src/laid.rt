@@ -11,7 +11,7 @@ ghost use Rattle.rz_layout.specs.Sound.{IsWidth};
 ghost use Rattle.rz_types_fields.specs.Laid.{in_bytes, nothing_laid, one_more};
 
 use crate::LayFault;
-use crate::late::{Late, LateNumber, Lates, note_place, push_place};
+use crate::late::{Late, LateNumber, Lates, note_place};
 use rz_bits::{BitBuf, missing};
 use rz_core::{Listing, Stop, Word};
 use rz_expr::Expr;
@@ -37,9 +37,6 @@ pub struct Laid<'a> {
     pub notes: Notes<'a>,
     /// The late numbers of the body that is being laid, and of those within.
     pub late: Lates<'a>,
-    /// The places of the labels that stand directly in the body that is being laid, in bits, and, where it is a row, in those
-    /// before it.
-    pub places: Vec<i32>,
 }
 
 impl<'a> Laid<'a> {
@@ -55,7 +52,6 @@ impl<'a> Laid<'a> {
             marks: BitBuf::new(alloc),
             notes: Notes::new(alloc),
             late: Listing::new(alloc),
-            places: Vec::new(alloc),
         }
     }
 
@@ -114,7 +110,6 @@ impl<'a> Laid<'a> {
     {
         let at = self.bits.len();
         note_place(name, at, &mut self.notes)?;
-        push_place(at, &mut self.places)?;
         self.piece = one_more(self.piece);
         Ok(())
     }

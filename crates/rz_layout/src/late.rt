@@ -1,6 +1,6 @@
 //! Late numbers: those that are computed after all others. What they are is in `specs/Late`.
 
-ghost use Rattle.std.specs.Prelude.{◌≡◌, ◌<◌, ◌^◌, ◌∷◌, ◌++◌, [], OnOk, pos};
+ghost use Rattle.std.specs.Prelude.{◌≡◌, ◌<◌, ◌^◌, ◌++◌, OnOk};
 ghost use Rattle.rz_layout.specs.Laid.{IsNotedBy};
 ghost use Rattle.rz_types_fields.specs.Known.{known};
 ghost use Rattle.rz_types_fields.specs.Laid.{placed};
@@ -65,14 +65,5 @@ pub fn note_place<'a>(name: &'a Word, at: u32, notes: &mut Notes<'a>) -> Result<
     ensures noted { OnOk result (IsNotedBy (stands_at name.now.bytes) notes.old.items notes.new.items) }
 {
     notes.push(Note::Placed(name, at as i32))?;
-    Ok(())
-}
-
-/// Appends the place of a label to others.
-pub fn push_place(at: u32, places: &mut Vec<i32>) -> Result<(), NoMemory>
-    requires { at < 2 ^ 31 }
-    ensures { OnOk result (places.new.items ≡ places.old.items ++ pos at ∷ []) }
-{
-    places.push(at as i32)?;
     Ok(())
 }

@@ -29,6 +29,7 @@ mod late;
 mod laws;
 mod names;
 mod number;
+mod places;
 mod points;
 mod push;
 mod seen;

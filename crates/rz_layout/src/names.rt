@@ -6,7 +6,7 @@ ghost use Rattle.rz_types_fields.specs.Field.{plain_body, plain_field};
 ghost use Rattle.rz_types_fields.specs.Known.{known, which_of};
 ghost use Rattle.rz_types_fields.specs.Laid.{counted, entered, with_count, with_field};
 ghost use Rattle.rz_types_fields.specs.Passed.{declares, gives_count, gives_key};
-ghost use Rattle.rz_types_fields.specs.RowLabels.{labels_count};
+ghost use Rattle.rz_types_fields.specs.FlatRows.{labels_count};
 
 use crate::laid::Laid;
 use crate::late::{Late, Lates, push_lates};

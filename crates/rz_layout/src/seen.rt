@@ -2,7 +2,6 @@
 
 ghost use Rattle.std.specs.Prelude.{◌≡◌, ◌≤◌, if◌then◌else◌, not, Err, None, option_map, pos};
 ghost use Rattle.rz_core.specs.Stop.{Gives};
-ghost use Rattle.rz_expr.specs.Environment.{IsSeenIn};
 ghost use Rattle.rz_expr.specs.NameKey.{key_of};
 ghost use Rattle.rz_expr.specs.Term.{term_of};
 ghost use Rattle.rz_expr.specs.Unvalued.{fault_of, held};
@@ -41,8 +40,6 @@ pub struct DraftEnv<'a> {
 impl Env for DraftEnv<'_> {
     ghost view = { λ env. env_sight env };
 
-    ghost belongs = { λ env finished. IsSeenIn (env_sight env) finished };
-
     fn give(&self, key: Key<'_>) -> Option<i128> {
         self.names.give(key)
     }
@@ -54,8 +51,6 @@ impl Env for DraftEnv<'_> {
     fn fact(&self, which: FactWord) -> i32 {
         self.names.fact(which)
     }
-
-    ghost law = { λ env finished seen. seen };
 }
 
 /// The number in so many bits from a bit on, where they all stand before a place and none of them is late.

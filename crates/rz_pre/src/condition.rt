@@ -1,7 +1,6 @@
 //! The conditions of `#if` and `#elif`, and the tool that asks. What they mean is in `specs/Condition`.
 
 ghost use Rattle.std.specs.Prelude.{◌≡◌, ◌<◌, ◌≤◌, [], ℤ, Ok, Err, Some, length, IfOk, IfSome, MatchOption, option_map};
-ghost use Rattle.std.proofs.Common.{rules};
 ghost use Rattle.rz_core.specs.Stop.{Meets};
 ghost use Rattle.rz_pre.specs.Line.{IsComputed};
 ghost use Rattle.rz_core.specs.declared.fault.Fault.{Fault};
@@ -42,8 +41,6 @@ struct NoNames;
 impl Env for NoNames {
     ghost view = { λ _. nothing_seen };
 
-    ghost belongs = { λ _ finished. finished ≡ nothing_seen };
-
     fn give(&self, _key: Key<'_>) -> Option<i128> {
         None
     }
@@ -55,8 +52,6 @@ impl Env for NoNames {
     fn fact(&self, _which: FactWord) -> i32 {
         0
     }
-
-    ghost law = { Prim.search rules };
 }
 
 /// The value of the condition of an `#if` or `#elif`, whose line has this mark. First each `defined name`

@@ -16,7 +16,6 @@ use crate::Hidden;
 use crate::form::{blank_line, end_line, head_line, name_line};
 use crate::items::Items;
 use crate::open_list::OpenList;
-use arrayvec::ArrayVec;
 use rz_core::Facts;
 use rz_show_lines::{Line, PIECE, Text};
 use rz_types::{Field, rules_hold_within};
@@ -225,13 +224,12 @@ impl<'a> ShowLines<'a> {
         ShowLines { rest }
     }
 
-    /// The next line with its line end, where one is left. It takes no memory, and its time is that of the line and of
-    /// the fields and rows up to the next item.
-    pub fn next(&mut self) -> Option<ArrayVec<u8, 512>>
-        ensures { MatchOption result ((self.old ≡ []) × (self.new ≡ [])) (λ line. self.old ≡ line.items ∷ self.new) }
+    /// Writes the next line with its line end in place of what the caller's line holds, where one is left. It takes no
+    /// memory, and its time is that of the line and of the fields and rows up to the next item.
+    pub fn next(&mut self, line: &mut Line) -> Option<()>
+        ensures { MatchOption result ((self.old ≡ []) × (self.new ≡ [])) (λ _. self.old ≡ line.new ∷ self.new) }
     {
-        let mut line = Line::new();
-        self.rest.next(&mut line)?;
-        Some(line.into_bytes())
+        self.rest.next(line)?;
+        Some(())
     }
 }

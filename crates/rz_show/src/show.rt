@@ -14,6 +14,7 @@ ghost use Rattle.rz_types_fields.specs.Row.{IsRow};
 use crate::Hidden;
 use crate::lines::ShowLines;
 use rz_core::{Bytes, Facts, NoMemory};
+use rz_show_lines::Line;
 use rz_types::Field;
 use rz_types_fields::Tree;
 use std::alloc::Global;
@@ -51,7 +52,8 @@ fn text_of(alloc: Global, lines: ShowLines<'_>) -> Result<Bytes, NoMemory>
 {
     let mut lines = lines;
     let mut text = Bytes::new(alloc);
-    'lines: while let Some(line) = lines.next() {
+    let mut line = Line::new();
+    'lines: while let Some(()) = lines.next(&mut line) {
         text.append(line.as_slice())?;
     }
     Ok(text)

@@ -81,9 +81,9 @@ impl Line {
     }
 
     /// The bytes of the line.
-    pub fn into_bytes(self) -> ArrayVec<u8, 512>
-        ensures { result.items ≡ self }
+    pub fn as_slice(&self) -> &[u8]
+        ensures { result.now ≡ self.now }
     {
-        self.bytes
+        self.bytes.as_slice()
     }
 }

@@ -26,8 +26,7 @@ pub fn put_bytes<O: Sink>(bytes: &[u8], out: &mut O) -> Result<(), Failed>
 pub fn put_line<O: Sink>(line: Line, out: &mut O) -> Result<(), Failed>
     ensures { PutsText O.Sink out.old out.new line result }
 {
-    let bytes = line.into_bytes();
-    put_bytes(bytes.as_slice(), out)
+    put_bytes(line.as_slice(), out)
 }
 
 /// Puts bytes as they are shown between quotation marks, in pieces.

@@ -4,7 +4,7 @@
 ghost use Rattle.std.specs.Prelude.{◌≡◌, ◌≤◌, ◌++◌, codes, length, Ok};
 ghost use Rattle.std.specs.List.{flat_map};
 ghost use Rattle.rz_core.specs.Decimal.{decimal_of};
-ghost use Rattle.rz_folder.specs.Counts.{Rose};
+ghost use Rattle.rz_folder.specs.Counts.{faults_with};
 ghost use Rattle.rz_folder.specs.Sink.{PutsOut};
 ghost use Rattle.rz_bridge_files.specs.Forms.{form_word};
 ghost use Rattle.rz_told.specs.Held.{text_of, IsWhole};
@@ -38,9 +38,7 @@ impl FileText {
     pub fn put<O: Sink>(&self, out: &mut O) -> Put
         requires { IsWhole self.now }
         ensures told { PutsOut (text_of self.now) (O.stream out.old) (O.stream out.new) (Ok result) }
-        ensures counted { O.faults out.old ≤ O.faults out.new }
-        ensures quiet { result ≡ Put.Done → O.faults out.new ≡ O.faults out.old }
-        ensures cause { result ≡ Put.Failed → Rose (O.faults out.old) (O.faults out.new) }
+        ensures counted { O.faults out.new ≡ faults_with (O.faults out.old) result }
     {
         match self.put_whole(out) {
             Ok(()) => out.flush(),

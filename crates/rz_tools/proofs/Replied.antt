@@ -1,11 +1,10 @@
 -- What is to be carried out, and what is carried out of it.
-use Rattle.std.proofs.Common.{◌≡◌, ◌⊎◌, inl, inr, ℕ, List, [], Option, Some, None, Ok, Err, refl, sym, ap, subst}
+use Rattle.std.proofs.Common.{◌≡◌, ◌⊎◌, inl, inr, ℕ, List, [], Option, Some, None, Ok, Err, refl, sym, ap, subst, arith}
 use Rattle.std.specs.Prelude.{IfSome}
 use Rattle.std.specs.declared.result.Result.{Result}
 use Rattle.rz_core.specs.declared.stop.NoMemory.{NoMemory as NoMemoryAlone}
-use Rattle.rz_folder.specs.Counts.{Rose}
 use Rattle.rz_folder.specs.Folder.{Files}
-use Rattle.rz_folder.specs.Sink.{PutsOut}
+use Rattle.rz_folder.specs.Sink.{faults_with_text, PutsOut}
 use Rattle.rz_folder.specs.declared.sink.Put.{Put}
 use Rattle.rz_folder.specs.declared.sink.Put.TheVariants as puts
 use Rattle.rz_told.specs.Held.{text_of}
@@ -50,28 +49,22 @@ files_kept None left same = tt
 files_kept (Some files) left same = same
 
 module _ (making : Making) (before after : World) (files : after.files ≡ before.files) (unwritten : after.writes ≡ before.writes) where
-  text_carried : (put : Result Put NoMemoryAlone) → PutsOut making.bytes before.out after.out put → (put ≡ Ok puts.Failed → Rose before.out_faults after.out_faults)
+  text_carried : (put : Result Put NoMemoryAlone) → PutsOut making.bytes before.out after.out put → after.out_faults ≡ faults_with_text before.out_faults put
       → SaysText (said_behind put making.said) before after → CarriesOut (shown making) before after (end_of put)
-  text_carried (Ok puts.Done) told cause says = record {
+  text_carried (Ok puts.Done) told counted says = record {
     ends = (refl, record { files = files_kept before.files after.files files; counted = unwritten; out = is_out making.bytes before.out after.out told });
     says = says;
   }
-  text_carried (Ok puts.Failed) told cause says = record {
-    ends = (refl, inr (cause refl), at_text (files_kept before.files after.files files) unwritten told);
+  text_carried (Ok puts.Failed) told counted says = record {
+    ends = (refl, inr (omega (arith, counted)), at_text (files_kept before.files after.files files) unwritten told);
     says = says;
   }
-  text_carried (Err refused) told cause says = record { ends = record { files = files; counted = unwritten; out = inr told }; says = inr (refl, told, says) }
+  text_carried (Err refused) told counted says = record { ends = record { files = files; counted = unwritten; out = inr told }; says = inr (refl, told, says) }
 
   pub text_ends : (put : Result Put NoMemoryAlone) (said : List ℕ) (result : Outcome) → said ≡ making.said → result ≡ end_of put → PutsOut making.bytes before.out after.out put
-      → (put ≡ Ok puts.Failed → Rose before.out_faults after.out_faults) → SaysText (said_behind put said) before after → CarriesOut (shown making) before after result
-  text_ends put said result same is told cause says =
-      subst (CarriesOut (shown making) before after) (sym is) (text_carried put told cause (subst (λ (s : List ℕ). SaysText (said_behind put s) before after) same says))
-
--- a run that is done has put its text
-pub end_done : (put : Result Put NoMemoryAlone) → end_of put ≡ Done → put ≡ Ok puts.Done
-end_done (Ok puts.Done) is = refl
-end_done (Ok puts.Failed) is = absurd (cc is)
-end_done (Err refused) is = absurd (cc is)
+      → after.out_faults ≡ faults_with_text before.out_faults put → SaysText (said_behind put said) before after → CarriesOut (shown making) before after result
+  text_ends put said result same is told counted says =
+      subst (CarriesOut (shown making) before after) (sym is) (text_carried put told counted (subst (λ (s : List ℕ). SaysText (said_behind put s) before after) same says))
 
 -- the same of what is to be carried out, where that is the text of a fork
 module _ (reply : Reply) (fork : ForkShown) (same : reply ≡ replies.Text fork) (result : Outcome) where

@@ -5,7 +5,7 @@ use Rattle.rz_core.specs.declared.moment.Moment.{Moment}
 use Rattle.rz_folder.specs.Folder.{Files}
 use Rattle.rz_tools_args.specs.Command.{IsMisplaced}
 use Rattle.rz_tools_answer.specs.Answer.{Answer}
-use Rattle.rz_tools_answer.specs.Carried.{CarriesOut, EndsWith, IsAnswered, IsUnhindered}
+use Rattle.rz_tools_answer.specs.Carried.{CarriesOut, EndsWith, IsAnswered, IsTriedOnce, IsUnhindered}
 use Rattle.rz_tools_answer.specs.WellFormed.{IsWellFormed}
 use Rattle.rz_tools_answer.specs.World.{ReadFailed, World, WriteFailed}
 use Rattle.rz_tools_answer.specs.declared.outcome.Outcome.{Outcome}
@@ -59,12 +59,11 @@ pub record IsInverse (run : Run) (files : Files) : Type 0 where
   pub restring : (asked : RestringAsked) → IsRestring run.words asked → LeavesOthers run.moment asked files run.after.files
 
 -- The headline. Where the folder tells its files, the run is exact for them. Where it tells none, as the host's, words
--- that need no file are answered as they are over whatever files. After Done no put and no flush of the output had
--- failed: it counts as many faults as before.
+-- that need no file are answered as they are over whatever files. An output that failed isn't tried again.
 pub record Headline (run : Run) : Type 0 where
   pub whole : IsWhole run
   pub exact : IfSome run.before.files (IsExact run)
   pub fileless : NeedNoFile run.words → (files : Files) → IsExact run files
   pub usage : (position : ℕ) → IsUsage run position
-  pub quiet : run.result ≡ Done → run.after.out_faults ≡ run.before.out_faults
+  pub tried : IsTriedOnce run.before.out_faults run.after.out_faults run.result
   pub inverse : run.result ≡ Done → IfSome run.before.files (IsInverse run)

@@ -26,7 +26,8 @@ use std::alloc::Global;
 /// Usage comes exactly where the words are no command, and, if the folder tells its files, Refused only with the first
 /// fault. ReadFault and WriteFault come only where a read, or a write of the folder or of `out`, failed in this call.
 /// After Done the text is out, after all that `out` held back before, and `out` holds nothing back; if the text is
-/// empty, `out` may also be as before. What failed isn't tried again: after Done `out` counts as many faults as before.
+/// empty, `out` may also be as before. What failed isn't tried again: `out` counts as many faults as before, or, after
+/// WriteFault, one more.
 /// After Usage, Refused and ReadFault the folder is as before and `out` has got nothing; after NoMemory the folder is
 /// as before, and `out` has got nothing, or a front of its text and not the whole text; after WriteFault the writes
 /// before the one that failed are done, and but for that one's file and a front of `out` all else is as before. No byte

@@ -5,7 +5,7 @@ ghost use Rattle.std.specs.Prelude.{◌≡◌, ◌⊎◌};
 ghost use Rattle.rz_core.specs.Stop.{seen};
 ghost use Rattle.rz_tools.specs.Reply.{outcome_of, IsReply, IsSound, IsText};
 ghost use Rattle.rz_tools_answer.specs.Answer.{Answer};
-ghost use Rattle.rz_tools_answer.specs.Carried.{CarriesOut};
+ghost use Rattle.rz_tools_answer.specs.Carried.{CarriesOut, IsTriedOnce};
 ghost use Rattle.rz_tools_answer.specs.World.{Runs};
 
 use rz_core::{Bytes, Halt};
@@ -39,8 +39,8 @@ pub enum Reply {
 impl Reply {
     /// Carries it out: a plan as [`carry_out`] does; of a fork or a file the text is put line by line, and then what is
     /// to be said is said, after it the line of what went wrong. NoMemory comes only for the text of a fork, and before
-    /// all of it is put: what `err` does changes no outcome. What failed isn't tried again: after `Done` the output
-    /// counts as many faults as before.
+    /// all of it is put: what `err` does changes no outcome. What failed isn't tried again: the output counts as
+    /// many faults as before, or, after a write fault, one more.
     pub fn carry_out<F: Folder, O: Sink, E: Sink>(
         self,
         alloc: Global,
@@ -53,7 +53,7 @@ impl Reply {
             (λ before after. (done : Answer) × IsReply self done × CarriesOut done before after result) }
         ensures ended { (result ≡ outcome_of self) ⊎ (result ≡ Outcome.WriteFault)
             ⊎ ((result ≡ Outcome.NoMemory) × IsText self) }
-        ensures quiet { result ≡ Outcome.Done → O.faults out.new ≡ O.faults out.old }
+        ensures tried { IsTriedOnce (O.faults out.old) (O.faults out.new) result }
     {
         every_list_is_shown();
         match self {

@@ -27,7 +27,6 @@ use rz_folder::{Folder, read_present};
 use rz_tools_answer::{Failing, Made, say_beside};
 use rz_tools_args::{Command, Flag, Switch};
 use rz_tools_output::{Target, read_held, write_output};
-use rz_tools_work::Work;
 use rz_types_table::TypeTable;
 use std::alloc::Global;
 
@@ -84,21 +83,15 @@ pub fn restring_fork<F: Folder>(
     let compiled = compile_types(alloc, folder, &words.types, moment)?;
     let Compiled {
         work,
-        macros,
         mut files,
+        ..
     } = compiled;
-    drop(macros);
-    let Work {
-        types,
-        resources,
-        warnings,
-    } = work;
-    drop(resources);
     let file = files.len();
-    let output = restrung(alloc, folder, words, &types, file, moment);
-    drop(types);
+    let output = restrung(alloc, folder, words, &work.types, file, moment);
+    drop(work.types);
+    drop(work.resources);
     files.push(words.catalogue.as_str())?;
-    say_beside(alloc, output, &warnings, files)
+    say_beside(alloc, output, &work.warnings, files)
 }
 
 /// The file to write under these types, where the catalogue is after so many files.

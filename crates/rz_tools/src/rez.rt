@@ -124,20 +124,10 @@ fn write_compiled(
     ensures bad { OnRefusal (seen making_of result) IsSayable }
     ensures unread { IsReadFault (seen making_of result) → ⊥ }
 {
-    let Compiled {
-        work,
-        macros,
-        files,
-    } = compiled;
-    drop(macros);
-    let Work {
-        types,
-        resources,
-        warnings,
-    } = work;
-    drop(types);
-    let output = write_resources(alloc, into, base, resources, moment);
-    say_beside(alloc, output, &warnings, files)
+    let Compiled { work, files, .. } = compiled;
+    drop(work.types);
+    let output = write_resources(alloc, into, base, work.resources, moment);
+    say_beside(alloc, output, &work.warnings, files)
 }
 
 /// The file of these resources.

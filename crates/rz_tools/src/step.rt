@@ -1,6 +1,6 @@
 //! The statements of a program, one after the other. A new statement is an arm here and a case of `specs/Step`.
 
-ghost use Rattle.std.specs.Prelude.{◌≡◌, ◌<◌, if◌then◌else◌, ℕ, List, length, map, Err, IfErr, IfOk, IfSome};
+ghost use Rattle.std.specs.Prelude.{◌≡◌, ◌<◌, ℕ, List, length, map, Err, IfErr, IfOk, IfSome};
 ghost use Rattle.rz_tools_answer.specs.Warning.{AreWarnings};
 ghost use Rattle.rz_core.specs.Message.{IsNameable};
 ghost use Rattle.rz_core.specs.Stop.{IsReadFault, OnRefusal, left, Yields};
@@ -11,7 +11,7 @@ ghost use Rattle.rz_folder.specs.OnlyReads.{OnlyReads};
 ghost use Rattle.rz_lex.specs.Lexeme.{AreLexed};
 ghost use Rattle.rz_lex.specs.Within.{AreWithin};
 ghost use Rattle.rz_lex.specs.declared.token.Token.{Token};
-ghost use Rattle.rz_stmt.specs.Grammar.{statement_of, Empty};
+ghost use Rattle.rz_stmt.specs.Grammar.{statement_of};
 ghost use Rattle.rz_stmt.specs.Statements.{AreStatements};
 ghost use Rattle.rz_tools_values.specs.Around.{around};
 ghost use Rattle.rz_tools_work.specs.Held.{work_of};
@@ -118,22 +118,11 @@ fn step<F: Folder>(
 fn done_by(tool: Tool, stmt: Stmt) -> Stmt
     ensures { statement_of result ≡ done_by tool (statement_of stmt) }
 {
-    if is_done_by(tool, &stmt) {
-        stmt
-    } else {
-        drop(stmt);
-        Stmt::Empty
+    if matches!(tool, Tool::Rez) || matches!(stmt, Stmt::Declare(_)) {
+        return stmt;
     }
-}
-
-/// Whether a tool does a statement.
-fn is_done_by(tool: Tool, stmt: &Stmt) -> bool
-    ensures { (if result then statement_of stmt.now else Empty) ≡ done_by tool (statement_of stmt.now) }
-{
-    match tool {
-        Tool::Rez => true,
-        Tool::DeRez => matches!(stmt, Stmt::Declare(_)),
-    }
+    drop(stmt);
+    Stmt::Empty
 }
 
 /// Puts the resource of a statement on this line, if one was made.

@@ -27,7 +27,6 @@ use rz_folder::{Folder, read_present};
 use rz_tools_answer::{Failing, Made, say_beside};
 use rz_tools_args::{Command, Flag};
 use rz_tools_output::all_short;
-use rz_tools_work::Work;
 use rz_types_table::TypeTable;
 use std::alloc::Global;
 
@@ -71,21 +70,11 @@ pub fn list_strings<F: Folder>(
     ensures { Finds F.Folder folder.old folder.new (seen making_of result) (OfFile (strings words.now).from (strings words.now).file (Lists moment (strings words.now))) IsWarned IsSayable }
 {
     let compiled = compile_types(alloc, folder, &words.types, moment)?;
-    let Compiled {
-        work,
-        macros,
-        files,
-    } = compiled;
-    drop(macros);
-    let Work {
-        types,
-        resources,
-        warnings,
-    } = work;
-    drop(resources);
-    let output = catalogue_of(alloc, folder, words, &types, moment);
-    drop(types);
-    say_beside(alloc, output, &warnings, files)
+    let Compiled { work, files, .. } = compiled;
+    let output = catalogue_of(alloc, folder, words, &work.types, moment);
+    let made = say_beside(alloc, output, &work.warnings, files);
+    drop(work);
+    made
 }
 
 /// The catalogue of the fork's file under these types.

@@ -1,18 +1,21 @@
 -- An answer that is carried out.
-use Rattle.std.proofs.Common.{◌≡◌, ◌<◌, ◌+◌, inl, inr, ℕ, List, [], ◌∷◌, ◌++◌, map, take, drop, length, get_or, ◌^◌, Some, None, refl, sym, ap, subst, ◌∙◌}
+use Rattle.std.proofs.Common.{◌≡◌, ◌<◌, ◌+◌, inl, inr, ℕ, List, [], ◌∷◌, ◌++◌, map, take, drop, length, get_or, ◌^◌, Some, None, Ok, Err, refl, sym, ap, subst, ◌∙◌}
 use Rattle.std.specs.Prelude.{IfSome}
 use Rattle.std.specs.declared.option.Option.{Option}
+use Rattle.std.specs.declared.result.Result.{Result}
+use Rattle.rz_core.specs.declared.stop.NoMemory.{NoMemory as NoMemoryAlone}
 use Rattle.std.specs.FinMap as finite
 use Rattle.std.proofs.lemmas.List.{drop_more, map-append, take_more, take-append-drop}
 use Rattle.rz_folder.specs.Counts.{next, Rose}
 use Rattle.rz_folder.specs.Folder.{Files, Writes}
-use Rattle.rz_folder.specs.Sink.{GotFront, IsOut, Told}
+use Rattle.rz_folder.specs.Sink.{faults_with_text, GotFront, IsOut, Told}
 use Rattle.rz_folder.specs.declared.folder.Written.TheVariants as ends
+use Rattle.rz_folder.specs.declared.sink.Put.{Put}
 use Rattle.rz_folder.specs.declared.sink.Put.TheVariants as puts
 use Rattle.rz_tools_answer.specs.Answer.{count_after, files_after, Answer, Write}
 use Rattle.rz_tools_answer.specs.Message.{write_fault_line}
 use Rattle.rz_tools_answer.specs.Plan.{FailsAt, WritesEach}
-use Rattle.rz_tools_answer.specs.Carried.{at_file, at_text, CarriesOut, IsUntouched}
+use Rattle.rz_tools_answer.specs.Carried.{at_file, at_text, end_of, CarriesOut, IsTriedOnce, IsUntouched}
 use Rattle.rz_tools_answer.specs.World.{Says, World}
 use Rattle.rz_tools_answer.specs.WellFormed.{AreWritable, FitsOutcome}
 use Rattle.rz_tools_answer.specs.declared.outcome.Outcome.{Outcome}
@@ -102,6 +105,26 @@ module _ (answer : Answer) (before after : World) where
   carried_done fits told files piece same put out text is says =
       all_done answer.outcome refl fits told (λ none. (files none).1) (subst (λ (x : List ℕ). Told (IsOut x) before.out after.out) same put)
       (λ none. (out (same ∙ none)).1) (subst (λ (x : List ℕ). Says x before.err after.err before.err_faults after.err_faults) is says)
+
+-- How often the output was tried.
+
+pub not_tried : (before after : ℕ) (result : Outcome) → after ≡ before → IsTriedOnce before after result
+not_tried before after WriteFault same = inl same
+not_tried before after Done same = same
+not_tried before after (Usage fault) same = same
+not_tried before after (Refused fault) same = same
+not_tried before after ReadFault same = same
+not_tried before after NoMemory same = same
+
+pub tried_once : (before after : ℕ) (result : Outcome) → result ≡ WriteFault → after ≡ next before → IsTriedOnce before after result
+tried_once before after result is more = subst (IsTriedOnce before after) (sym is) (inr more)
+
+-- a text was put piece by piece
+pub text_tried : (before after : ℕ) (put : Result Put NoMemoryAlone) (result : Outcome) → result ≡ end_of put → after ≡ faults_with_text before put
+    → IsTriedOnce before after result
+text_tried before after (Ok puts.Done) result is counted = not_tried before after result counted
+text_tried before after (Ok puts.Failed) result is counted = tried_once before after result is counted
+text_tried before after (Err refused) result is counted = not_tried before after result counted
 
 -- Files that are written one after the other.
 

@@ -4,6 +4,7 @@ use Rattle.std.specs.declared.option.Option.TheVariants.{Some}
 use Rattle.std.specs.declared.result.Result.{Result}
 use Rattle.std.specs.FinMap as map
 use Rattle.rz_core.specs.declared.stop.NoMemory.{NoMemory as NoMemoryAlone}
+use Rattle.rz_folder.specs.Counts.{next}
 use Rattle.rz_folder.specs.Sink.{GotFront, GotPart, IsOut, Told}
 use Rattle.rz_folder.specs.declared.sink.Put.{Put}
 use Rattle.rz_folder.specs.declared.sink.Put.TheVariants as puts
@@ -72,6 +73,12 @@ SaysOf answer before after other = SaysText answer.err before after
 pub record CarriesOut (answer : Answer) (before after : World) (result : Outcome) : Type 0 where
   pub ends : Ends answer before after result
   pub says : SaysOf answer before after result
+
+-- What failed isn't tried again: the output counts as many faults as before, or, where a write failed, one more, of the last
+-- call that it had.
+abbrev pub IsTriedOnce : (before after : ℕ) → Outcome → Type 0
+IsTriedOnce before after WriteFault = (after ≡ before) ⊎ (after ≡ next before)
+IsTriedOnce before after other = after ≡ before
 
 -- A text that is put piece by piece.
 

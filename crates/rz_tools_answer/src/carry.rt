@@ -1,10 +1,10 @@
 //! An answer is carried out: files, output, messages. What a run then leaves is in `specs/Carried`.
 
 ghost use Rattle.std.specs.Prelude.{◌≡◌, ◌≤◌, ◌⊎◌, ◌++◌, [], map, Ok};
-ghost use Rattle.rz_folder.specs.Counts.{Rose};
+ghost use Rattle.rz_folder.specs.Counts.{faults_with, Rose};
 ghost use Rattle.rz_folder.specs.Sink.{GotFront, IsOut, PutsOut, Told};
 ghost use Rattle.rz_tools_answer.specs.Plan.{answer_of, write_of, WritesEach};
-ghost use Rattle.rz_tools_answer.specs.Carried.{end_of, said_behind, CarriesOut};
+ghost use Rattle.rz_tools_answer.specs.Carried.{end_of, said_behind, CarriesOut, IsTriedOnce};
 ghost use Rattle.rz_tools_answer.specs.World.{Runs, Says};
 ghost use Rattle.rz_tools_answer.specs.Message.{write_fault_line};
 ghost use Rattle.rz_tools_answer.specs.WellFormed.{AreWritable, IsWellFormed};
@@ -16,7 +16,7 @@ use rz_core::NoMemory;
 use rz_folder::{Folder, Put, Sink, Written};
 
 /// Carries out an answer: writes the files, then puts the text of the output and sees to it that it is out, and says its
-/// text. What failed isn't tried again: after `Done` the output counts as many faults as before.
+/// text. What failed isn't tried again: the output counts as many faults as before, or, after a write fault, one more.
 pub fn carry_out<F: Folder, O: Sink, E: Sink>(
     plan: Plan,
     folder: &mut F,
@@ -28,7 +28,7 @@ pub fn carry_out<F: Folder, O: Sink, E: Sink>(
     ensures carried { Runs F.Folder O.Sink E.Sink folder.old folder.new out.old out.new err.old err.new
         (λ before after. CarriesOut (answer_of plan) before after result) }
     ensures ended { (result ≡ plan.outcome) ⊎ (result ≡ Outcome.WriteFault) }
-    ensures quiet { result ≡ Outcome.Done → O.faults out.new ≡ O.faults out.old }
+    ensures tried { IsTriedOnce (O.faults out.old) (O.faults out.new) result }
 {
     let Plan {
         outcome,
@@ -99,8 +99,7 @@ fn put_text<O: Sink>(text: &[u8], out: &mut O) -> Put
     ensures done { result ≡ Put.Done → Told (IsOut text.now) (O.stream out.old) (O.stream out.new) }
     ensures failed { result ≡ Put.Failed → Told (GotFront text.now) (O.stream out.old) (O.stream out.new) }
     ensures nothing { text.now ≡ [] → (result ≡ Put.Done) × (O.stream out.new ≡ O.stream out.old) }
-    ensures quiet { result ≡ Put.Done → O.faults out.new ≡ O.faults out.old }
-    ensures cause { result ≡ Put.Failed → Rose (O.faults out.old) (O.faults out.new) }
+    ensures counted { O.faults out.new ≡ faults_with (O.faults out.old) result }
 {
     if text.is_empty() {
         Put::Done
@@ -112,8 +111,7 @@ fn put_text<O: Sink>(text: &[u8], out: &mut O) -> Put
 /// Puts a text, and sees to it that it is out.
 fn put_out<S: Sink>(text: &[u8], sink: &mut S) -> Put
     ensures told { PutsOut text.now (S.stream sink.old) (S.stream sink.new) (Ok result) }
-    ensures quiet { result ≡ Put.Done → S.faults sink.new ≡ S.faults sink.old }
-    ensures cause { result ≡ Put.Failed → Rose (S.faults sink.old) (S.faults sink.new) }
+    ensures counted { S.faults sink.new ≡ faults_with (S.faults sink.old) result }
 {
     match sink.put(text) {
         Put::Done => sink.flush(),

@@ -1,10 +1,9 @@
 //! What `rez` and `restring` begin with: a new file, or one that is there. What is taken of it is in `specs/Base`.
 
-ghost use Rattle.std.specs.Prelude.{◌≡◌, ◌<◌, ◌≤◌, ◌^◌, [], ℕ, true, length, None, IfOk};
+ghost use Rattle.std.specs.Prelude.{◌≡◌, ◌<◌, ◌≤◌, ◌^◌, [], ℕ, true, length, IfOk};
 ghost use Rattle.std.specs.FinMap as finite;
 ghost use Rattle.std.specs.List.{AllByRecursion};
 ghost use Rattle.rz_core.specs.Message.{IsNameable};
-ghost use Rattle.rz_core.specs.declared.fault.Kept.TheVariants.{Number};
 ghost use Rattle.rz_core.specs.Resources.{KeysDiffer};
 ghost use Rattle.rz_core.specs.Stop.{seen, Gives, OnFault};
 ghost use Rattle.rz_folder.specs.Finds.{Finds};
@@ -191,22 +190,14 @@ pub fn all_short(fork: &ForkView<'_>) -> Result<(), Stop<Fault>>
     let mut walk = fork.walk();
     while let Some(one) = walk.next() {
         if one.bytes.len() > MOST_BYTES {
-            return Err(Stop::Refused(too_long(one.bytes.len() as i64)));
+            return Err(Stop::Refused(Fault {
+                number: 301,
+                mark: None,
+                kept: Kept::Number(one.bytes.len() as i64),
+            }));
         }
     }
     Ok(())
-}
-
-/// 301, with a length.
-fn too_long(length: i64) -> Fault
-    ensures fault { result ≡ record { number = 301; mark = None; kept = Number length } }
-    ensures nameable { (files : ℕ) → IsNameable files result }
-{
-    Fault {
-        number: 301,
-        mark: None,
-        kept: Kept::Number(length),
-    }
 }
 
 /// The form that is asked for, or else that bytes have.

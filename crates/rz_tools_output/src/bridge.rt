@@ -172,8 +172,8 @@ fn raw_alone(alloc: Global, words: &BridgeWords<'_>, file: MacFile) -> Result<Wr
     ensures writes { IfOk result (λ writes. AreWrites (bridge words.now) file file.res_fork (map write_of writes)) }
     ensures writable { IfOk result (λ writes. AreWritable (map write_of writes)) }
 {
-    let bytes = res_fork_of(file);
     let name = words.output.to_string(alloc)?;
+    let bytes = file.res_fork;
     let mut writes = Writes::new(alloc);
     writes.push(Write { name, bytes })?;
     Ok(writes)
@@ -192,7 +192,7 @@ fn listed(
     ensures writes { IfOk result (λ writes. AreWrites (bridge words.now) file bytes (map write_of writes)) }
     ensures writable { IfOk result (λ writes. AreWritable (map write_of writes)) }
 {
-    let data_fork = data_fork_of(file);
+    let data_fork = file.data_fork;
     let header = Write {
         name: words.output.to_string(alloc)?,
         bytes,
@@ -210,34 +210,4 @@ fn listed(
     writes.push(data_file)?;
     writes.push(header)?;
     Ok(writes)
-}
-
-/// The resource fork of a file of which nothing else is needed.
-fn res_fork_of(file: MacFile) -> Bytes
-    ensures { result ≡ file.res_fork }
-{
-    let MacFile {
-        name,
-        data_fork,
-        res_fork,
-        ..
-    } = file;
-    drop(name);
-    drop(data_fork);
-    res_fork
-}
-
-/// The data fork of a file of which nothing else is needed.
-fn data_fork_of(file: MacFile) -> Bytes
-    ensures { result ≡ file.data_fork }
-{
-    let MacFile {
-        name,
-        data_fork,
-        res_fork,
-        ..
-    } = file;
-    drop(name);
-    drop(res_fork);
-    data_fork
 }

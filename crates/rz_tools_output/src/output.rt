@@ -8,7 +8,7 @@ ghost use Rattle.rz_core.specs.declared.resource.Resource.{Resource as ResourceO
 ghost use Rattle.rz_bridge_files.specs.Written.{written_as};
 ghost use Rattle.rz_fork.specs.Image.{AreNamed};
 ghost use Rattle.rz_tools_output.specs.Base.{attributes_asked, base_with};
-ghost use Rattle.rz_tools_output.specs.Output.{file_of, list_fork, mac_time, past_limit, target, IsFileOf, IsLimit, IsOutput};
+ghost use Rattle.rz_tools_output.specs.Output.{file_of, list_fork, past_limit, target, IsFileOf, IsLimit, IsOutput};
 
 use crate::base::Base;
 use crate::target::Target;
@@ -90,7 +90,7 @@ fn written_as(alloc: Global, form: Form, file: MacFile) -> Result<Bytes, Stop<Fa
 fn file_of(into: &Target<'_>, file: MacFile, fork: Bytes, moment: Moment) -> MacFile
     ensures { result ≡ file_of (target into.now) moment file fork }
 {
-    let now = now_of(moment);
+    let now = moment.mac_time();
     MacFile {
         finder: Finder {
             kind: into.kind.unwrap_or(file.finder.kind),
@@ -102,13 +102,6 @@ fn file_of(into: &Target<'_>, file: MacFile, fork: Bytes, moment: Moment) -> Mac
         res_fork: fork,
         ..file
     }
-}
-
-/// The seconds of a moment since the first of 1904.
-fn now_of(moment: Moment) -> u32
-    ensures { result ≡ mac_time moment }
-{
-    moment.mac_time()
 }
 
 /// The fork of a list of resources.

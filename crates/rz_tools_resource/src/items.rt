@@ -19,33 +19,11 @@ use rz_stmt_items::{Item, Items};
 use rz_tools_values::read_texts;
 use std::alloc::Global;
 
-/// The same items as [`read_items`] gives; those that name no file are given back as they are, and no memory is taken.
-pub fn with_files<F: Folder>(
-    alloc: Global,
-    folder: &mut F,
-    paths: &FileNames,
-    items: Items,
-    mark: Mark,
-    known: &Facts,
-) -> Result<Items, Halt<Fault>>
-    requires { MayRead F.Folder folder.old (LooksFor paths.now (ItemsAsk (plain_items items))) }
-    ensures read { IfSome (F.files folder.old) (λ files.
-        Yields result (λ answer. items_given answer ≡ items_read paths.now files mark known.now (plain_items items))) }
-    ensures within { (files : ℕ) → AreItemsWithin files (plain_items items) → IfOk result (λ made. AreItemsWithin files (plain_items made)) }
-    ensures nameable { (files : ℕ) → mark.file < files → OnRefusal result (IsNameable files) }
-    ensures reads { OnlyReads F.Folder folder.old folder.new (IsReadFault result) }
-{
-    if items_name(items.as_slice()) {
-        return read_items(alloc, folder, paths, items, mark, known);
-    }
-    fileless_items_stay();
-    Ok(items)
-}
-
 /// Items in which what the files give that their texts name has taken the place of the parts that name them, from left to
-/// right. The first fault is the answer, as `read_texts` says, on the line of the statement. No file changes. (MPW Rez.)
+/// right. The first fault is the answer, as `read_texts` says, on the line of the statement. No file changes. Items that
+/// name no file are given back as they are, and no memory is taken. (MPW Rez.)
 #[cycle(items)]
-fn read_items<F: Folder>(
+pub fn read_items<F: Folder>(
     alloc: Global,
     folder: &mut F,
     paths: &FileNames,
@@ -60,6 +38,10 @@ fn read_items<F: Folder>(
     ensures nameable { (files : ℕ) → mark.file < files → OnRefusal result (IsNameable files) }
     ensures reads { OnlyReads F.Folder folder.old folder.new (IsReadFault result) }
 {
+    if !items_name(items.as_slice()) {
+        fileless_items_stay();
+        return Ok(items);
+    }
     let mut made = Items::new(alloc);
     for item in items.into_vec() {
         let item = read_item(alloc, folder, paths, item, mark, known)?;

@@ -13,20 +13,18 @@ ghost use Rattle.rz_stmt_items.specs.Places.{AreItemsWithin};
 ghost use Rattle.rz_layout.specs.Compiled.{is_compile_fault};
 ghost use Rattle.rz_layout.specs.Fault.{refusal_of};
 ghost use Rattle.rz_tools_values.specs.Around.{around as among};
-ghost use Rattle.rz_tools_resource.specs.Resource.{no_type, row_fault, AreBytes, AreItemBytes, IsResource, IsSpelled};
-ghost use Rattle.rz_types_fields.specs.Row.{IsRow};
+ghost use Rattle.rz_tools_resource.specs.Resource.{no_type, row_fault, AreBytes, AreItemBytes, IsResource};
 ghost use Rattle.rz_types_table.specs.Table.{found};
 ghost use Rattle.rz_types.specs.Template.{template_of};
 ghost use Rattle.rz_types_table.specs.TypeTable.{table_of};
 
-use crate::items::with_files;
+use crate::items::read_items;
 use rz_core::{Bytes, Facts, Fault, Halt, Kept, Mark, Resource, Stop};
 use rz_folder::Folder;
 use rz_layout::{LayFault, lay_row};
 use rz_stmt_items::{Items, ResourceStmt, match_items};
 use rz_tools_values::{Around, facts_of, with_bytes};
 use rz_types::Template;
-use rz_types_fields::Row;
 use rz_types_table::TypeTable;
 use std::alloc::Global;
 
@@ -74,7 +72,7 @@ fn bytes_of<F: Folder>(
 {
     match template_for(types, known) {
         Some(template) => {
-            let items = with_files(alloc, folder, around.paths, items, around.mark, known)?;
+            let items = read_items(alloc, folder, around.paths, items, around.mark, known)?;
             Ok(bytes_under(alloc, &items, around.mark, known, template)?)
         }
         None => Err(Halt::Refused(no_type(known, around.mark))),
@@ -101,22 +99,9 @@ fn bytes_under(
     ensures nameable { (files : ℕ) → mark.file < files → AreItemsWithin files (plain_items items.now) → OnFault result (IsNameable files) }
 {
     let row = match_items(alloc, template, items, mark, known)?;
-    bytes_of_row(alloc, &row, mark, known, template)
-}
-
-/// The bytes that a row spells.
-fn bytes_of_row(
-    alloc: Global,
-    row: &Row,
-    mark: Mark,
-    known: &Facts,
-    template: &Template,
-) -> Result<Bytes, Stop<Fault>>
-    requires row { IsRow (template_of template.now) row.now }
-    ensures bytes { Meets result (IsSpelled mark known.now (template_of template.now) row.now) }
-    ensures nameable { (files : ℕ) → mark.file < files → OnFault result (IsNameable files) }
-{
-    match lay_row(alloc, template, row, known) {
+    let laid = lay_row(alloc, template, &row, known);
+    drop(row);
+    match laid {
         Ok(bytes) => Ok(bytes),
         Err(Stop::Refused(fault)) => Err(Stop::Refused(row_fault(fault, mark))),
         Err(Stop::NoMemory) => Err(Stop::NoMemory),

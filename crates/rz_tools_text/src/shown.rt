@@ -3,8 +3,8 @@
 ghost use Rattle.std.specs.Prelude.{◌≡◌, ◌≤◌, ℕ, if◌then◌else◌, List, Some, None, Ok, option_map, IfOk};
 ghost use Rattle.std.specs.List.{concat};
 ghost use Rattle.rz_core.specs.Decided.{Decided};
-ghost use Rattle.rz_folder.specs.Counts.{Rose};
-ghost use Rattle.rz_folder.specs.Sink.{Puts, PutsFront};
+ghost use Rattle.rz_folder.specs.Counts.{faults_with};
+ghost use Rattle.rz_folder.specs.Sink.{faults_with_text, Puts, PutsFront};
 ghost use Rattle.rz_fork.specs.View.{lent};
 ghost use Rattle.rz_show.specs.Hidden.{hides};
 ghost use Rattle.rz_show.specs.Shown.{row_uses};
@@ -20,6 +20,7 @@ use rz_core::{Bytes, Facts, Moment, NoMemory, Words};
 use rz_folder::{Put, Sink};
 use rz_fork::ResView;
 use rz_show::{Hidden, ShowLines, uses_hidden};
+use rz_show_lines::Line;
 use rz_types::Template;
 use rz_types_fields::Row;
 use rz_types_table::TypeTable;
@@ -74,9 +75,7 @@ pub fn put_resource<O: Sink>(
     out: &mut O,
 ) -> Result<Put, NoMemory>
     ensures told { (text : List ℕ) → Shown (known_of known.now) (lent view.now) text → PutsFront text (O.stream out.old) (O.stream out.new) result }
-    ensures counted { O.faults out.old ≤ O.faults out.new }
-    ensures quiet { result ≡ Ok Put.Done → O.faults out.new ≡ O.faults out.old }
-    ensures cause { result ≡ Ok Put.Failed → Rose (O.faults out.old) (O.faults out.new) }
+    ensures counted { O.faults out.new ≡ faults_with_text (O.faults out.old) result }
 {
     one_shown_text();
     let facts = facts_of(alloc, view, known.moment)?;
@@ -89,12 +88,11 @@ pub fn put_resource<O: Sink>(
 /// Puts lines, up to one whose put fails.
 fn put_lines<O: Sink>(lines: ShowLines<'_>, out: &mut O) -> Put
     ensures told { Puts (concat lines.entry) (O.stream out.old) (O.stream out.new) result }
-    ensures counted { O.faults out.old ≤ O.faults out.new }
-    ensures quiet { result ≡ Put.Done → O.faults out.new ≡ O.faults out.old }
-    ensures cause { result ≡ Put.Failed → Rose (O.faults out.old) (O.faults out.new) }
+    ensures counted { O.faults out.new ≡ faults_with (O.faults out.old) result }
 {
     let mut left = lines;
-    while let Some(line) = left.next() {
+    let mut line = Line::new();
+    'lines: while let Some(()) = left.next(&mut line) {
         match out.put(line.as_slice()) {
             Put::Done => {}
             Put::Failed => return Put::Failed,
@@ -128,9 +126,7 @@ fn put_under<O: Sink>(
     requires facts { facts.now ≡ facts_of known.now.moment (lent view.now) }
     requires declared { declared_for (table_of known.now.types) (lent view.now) ≡ Some (template_of template.now) }
     ensures told { (text : List ℕ) → Shown (known_of known.now) (lent view.now) text → PutsFront text (O.stream out.old) (O.stream out.new) result }
-    ensures counted { O.faults out.old ≤ O.faults out.new }
-    ensures quiet { result ≡ Ok Put.Done → O.faults out.new ≡ O.faults out.old }
-    ensures cause { result ≡ Ok Put.Failed → Rose (O.faults out.old) (O.faults out.new) }
+    ensures counted { O.faults out.new ≡ faults_with_text (O.faults out.old) result }
 {
     one_shown_text();
     spelled_rows_are_rows();

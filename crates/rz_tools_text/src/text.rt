@@ -2,8 +2,7 @@
 //! `specs/Put`.
 
 ghost use Rattle.std.specs.Prelude.{◌≡◌, ◌≤◌, ◌<◌, ◌^◌, ◌∷◌, [], ℕ, List, length, Ok};
-ghost use Rattle.rz_folder.specs.Counts.{Rose};
-ghost use Rattle.rz_folder.specs.Sink.{PutsFront, PutsOut};
+ghost use Rattle.rz_folder.specs.Sink.{faults_with_text, PutsFront, PutsOut};
 ghost use Rattle.rz_fork.specs.Admit.{admitted};
 ghost use Rattle.rz_fork.specs.Contents.{Fork};
 ghost use Rattle.rz_fork.specs.View.{lent};
@@ -43,9 +42,7 @@ impl ForkText {
         requires short { length self.now.fork < 2 ^ 32 }
         requires admitted { (fork : Fork) × (admitted self.now.fork ≡ Ok fork) }
         ensures told { (text : List ℕ) → IsTextOf self.now text → PutsOut text (O.stream out.old) (O.stream out.new) result }
-        ensures counted { O.faults out.old ≤ O.faults out.new }
-        ensures quiet { result ≡ Ok Put.Done → O.faults out.new ≡ O.faults out.old }
-        ensures cause { result ≡ Ok Put.Failed → Rose (O.faults out.old) (O.faults out.new) }
+        ensures counted { O.faults out.new ≡ faults_with_text (O.faults out.old) result }
     {
         match ForkView::admit(self.fork.as_slice()) {
             Ok(fork) => match self.put_each(alloc, &fork, out)? {
@@ -65,9 +62,7 @@ impl ForkText {
     ) -> Result<Put, NoMemory>
         ensures told { (text : List ℕ) → ShowsEach (known_of self.now.known) (chosen self.now.only self.now.skip fork.now.list) text
             → PutsFront text (O.stream out.old) (O.stream out.new) result }
-        ensures counted { O.faults out.old ≤ O.faults out.new }
-        ensures quiet { result ≡ Ok Put.Done → O.faults out.new ≡ O.faults out.old }
-        ensures cause { result ≡ Ok Put.Failed → Rose (O.faults out.old) (O.faults out.new) }
+        ensures counted { O.faults out.new ≡ faults_with_text (O.faults out.old) result }
     {
         let mut walk = fork.walk();
         while let Some(one) = walk.next() {
@@ -88,9 +83,7 @@ impl ForkText {
     ) -> Result<Put, NoMemory>
         ensures told { (text : List ℕ) → ShowsEach (known_of self.now.known) (chosen self.now.only self.now.skip (lent view.now ∷ [])) text
             → PutsFront text (O.stream out.old) (O.stream out.new) result }
-        ensures counted { O.faults out.old ≤ O.faults out.new }
-        ensures quiet { result ≡ Ok Put.Done → O.faults out.new ≡ O.faults out.old }
-        ensures cause { result ≡ Ok Put.Failed → Rose (O.faults out.old) (O.faults out.new) }
+        ensures counted { O.faults out.new ≡ faults_with_text (O.faults out.old) result }
     {
         if is_chosen(&self.only, &self.skip, view.kind) {
             put_resource(alloc, view, &self.known, out)

@@ -1,6 +1,6 @@
 //! The contents of a resource, within its limit. What they are is in `specs/Contents`.
 
-ghost use Rattle.std.specs.Prelude.{◌≡◌, ◌<◌, ℕ, IfErr};
+ghost use Rattle.std.specs.Prelude.{◌≡◌, ◌<◌, ℕ, Err};
 ghost use Rattle.rz_core.specs.Message.{IsNameable};
 ghost use Rattle.rz_core.specs.Stop.{Gives, OnFault};
 ghost use Rattle.rz_types_fields.specs.Text.{plain_parts};
@@ -44,21 +44,17 @@ pub fn contents_of(
     ensures contents { Gives (contents_of mark facts.now (plain_parts texts.now)) result }
     ensures nameable { (files : ℕ) → mark.file < files → OnFault result (IsNameable files) }
 {
-    let bytes = text_of(alloc, texts, mark, facts)?;
-    match short_bytes(bytes, mark) {
-        Ok(bytes) => Ok(bytes),
-        Err(fault) => Err(Stop::Refused(fault)),
-    }
+    short_bytes(text_of(alloc, texts, mark, facts)?, mark)
 }
 
-/// The contents of a resource on this line: 301 for more than 16,777,212 bytes.
-pub fn short_bytes(bytes: Bytes, mark: Mark) -> Result<Bytes, Fault>
-    ensures bytes { result ≡ short_bytes mark bytes }
-    ensures nameable { (files : ℕ) → mark.file < files → IfErr result (IsNameable files) }
+/// The contents of a resource on this line: 301 for more than 16,777,212 bytes. It takes no memory.
+pub fn short_bytes(bytes: Bytes, mark: Mark) -> Result<Bytes, Stop<Fault>>
+    ensures bytes { Gives (short_bytes mark bytes) result }
+    ensures ample { result ≡ Err Stop.NoMemory → ⊥ }
+    ensures nameable { (files : ℕ) → mark.file < files → OnFault result (IsNameable files) }
 {
     if bytes.len() > MOST_BYTES {
-        Err(keeps_number(301, mark, bytes.len() as i64))
-    } else {
-        Ok(bytes)
+        return Err(Stop::Refused(keeps_number(301, mark, bytes.len() as i64)));
     }
+    Ok(bytes)
 }

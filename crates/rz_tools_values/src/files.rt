@@ -5,12 +5,12 @@ ghost use Rattle.rz_core.specs.Message.{IsNameable};
 ghost use Rattle.rz_folder.specs.MayRead.{IsOneOf, MayRead};
 ghost use Rattle.rz_folder.specs.Names.{names_of, utf8_name};
 ghost use Rattle.rz_folder.specs.OnlyReads.{OnlyReads};
-ghost use Rattle.rz_core.specs.Stop.{IsReadFault, OnRefusal, Yields, halted};
+ghost use Rattle.rz_core.specs.Stop.{IsReadFault, OnRefusal, Yields};
 ghost use Rattle.rz_tools_values.specs.Files.{file_named, file_of_name};
 
 use rz_bridge::MacFile;
 use rz_bridge_files::file_in;
-use rz_core::{Bytes, Fault, FileNames, Halt, Mark, Stop};
+use rz_core::{Bytes, Fault, FileNames, Halt, Mark};
 use rz_folder::{Folder, names_of, read_file};
 use std::alloc::Global;
 
@@ -32,16 +32,6 @@ pub fn file_named<F: Folder>(
 {
     let names = names_of(alloc, paths, name)?;
     read_file(alloc, folder, &names, mark, name)
-}
-
-/// The bytes or the refusal of a call that reads no files, as a call gives them that does.
-pub fn bytes_halted(given: Result<Bytes, Stop<Fault>>) -> Result<Bytes, Halt<Fault>>
-    ensures { result ≡ halted given }
-{
-    match given {
-        Ok(bytes) => Ok(bytes),
-        Err(stop) => Err(Halt::from(stop)),
-    }
 }
 
 /// The file that a statement on this line names, read in the form that its bytes tell. A raw file is its bytes as they

@@ -8,10 +8,12 @@ ghost use Rattle.rz_folder.specs.MayRead.{IsOneOf, MayRead};
 ghost use Rattle.rz_folder.specs.Names.{names_of, utf8_name, LooksFor};
 ghost use Rattle.rz_tools_values.specs.Asked.{ArgumentAsks, ArgumentsAsk, PartAsks, TextsAsk};
 ghost use Rattle.rz_folder.specs.OnlyReads.{OnlyReads};
-ghost use Rattle.rz_tools_values.specs.Texts.{argument_given, argument_read, arguments_given, arguments_read, bytes_in, key_said, part_given, part_read, resource_bytes, resource_named, texts_given, texts_read};
+ghost use Rattle.rz_tools_values.specs.Texts.{argument_given, argument_read, arguments_given, arguments_read, bytes_in, key_said, part_given, part_read, resource_named, texts_given, texts_read};
 
 use crate::chosen::{chosen_in_fork, id_said};
-use crate::files::{bytes_halted, file_named, file_of_name};
+use crate::files::{file_named, file_of_name};
+use crate::laws::fileless_texts_stay;
+use crate::named::names_file;
 use rz_bridge_files::admit_fork;
 use rz_core::{Bytes, Facts, Fault, FileNames, Halt, Mark, NoMemory, OsType, Stop};
 use rz_folder::Folder;
@@ -24,7 +26,7 @@ use std::alloc::Global;
 /// 101 where a file stands neither under its name nor after a path (kept: the name); of a `$$Resource` before it 211,
 /// 215 and 204 of its id, and 211, 215 and 222 of its name, and after it the first rule that the form or the fork breaks,
 /// and 218 where it has no such resource (kept: the type and the id, or the name). No file changes, and none is read that
-/// no part names. (MPW Rez.)
+/// no part names. A text that names no file is given back as it is, and no memory is taken. (MPW Rez.)
 #[cycle(texts)]
 pub fn read_texts<F: Folder>(
     alloc: Global,
@@ -40,6 +42,10 @@ pub fn read_texts<F: Folder>(
     ensures nameable { (files : ℕ) → mark.file < files → OnRefusal result (IsNameable files) }
     ensures reads { OnlyReads F.Folder folder.old folder.new (IsReadFault result) }
 {
+    if !names_file(&texts) {
+        fileless_texts_stay();
+        return Ok(texts);
+    }
     let mut made = Texts::new(alloc);
     for part in texts.into_vec() {
         let part = read_part(alloc, folder, paths, part, mark, known)?;
@@ -173,25 +179,9 @@ fn resource_named<F: Folder>(
     ensures reads { OnlyReads F.Folder folder.old folder.new (IsReadFault result) }
 {
     let pick = key_said(alloc, key, file.mark, known)?;
-    resource_bytes(alloc, folder, file, kind, &pick)
-}
-
-/// The bytes of the resource of a file that a pick by id or name chooses.
-fn resource_bytes<F: Folder>(
-    alloc: Global,
-    folder: &mut F,
-    file: Sought<'_>,
-    kind: OsType,
-    pick: &Pick,
-) -> Result<Bytes, Halt<Fault>>
-    requires { MayRead F.Folder folder.old (IsOneOf (names_of file.paths.now (utf8_name file.name.now))) }
-    ensures read { IfSome (F.files folder.old) (λ files. Yields result (λ answer. answer
-        ≡ resource_bytes file.entry.paths.now files file.entry.mark file.entry.name.now kind pick.now)) }
-    ensures nameable { (files : ℕ) → file.entry.mark.file < files → OnRefusal result (IsNameable files) }
-    ensures reads { OnlyReads F.Folder folder.old folder.new (IsReadFault result) }
-{
     let told = file_of_name(alloc, folder, file.paths, file.name, file.mark)?;
-    bytes_halted(bytes_in(alloc, told.res_fork.as_slice(), kind, pick, file.mark))
+    let fork = told.res_fork.as_slice();
+    Ok(bytes_in(alloc, fork, kind, &pick, file.mark)?)
 }
 
 /// The bytes of the resource of a fork that a pick by id or name chooses: 218 where there is none.

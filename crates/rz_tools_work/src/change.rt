@@ -8,7 +8,7 @@ ghost use Rattle.rz_stmt_lists.specs.Delete.{delete_of};
 ghost use Rattle.rz_stmt_lists.specs.Pick.{pick_of};
 ghost use Rattle.rz_set.specs.After.{HasShortName};
 ghost use Rattle.rz_set.specs.Change.{MayHaveId};
-ghost use Rattle.rz_tools_work.specs.Change.{change_said, list_changing, list_deleting, not_appending, pick_to_change};
+ghost use Rattle.rz_tools_work.specs.Change.{change_said, list_changing, list_deleting, pick_to_change};
 
 use crate::pick::pick_said;
 use crate::putting::on_line;
@@ -93,19 +93,11 @@ fn pick_to_change(
     ensures nameable { (files : ℕ) → mark.file < files → OnFault result (IsNameable files) }
 {
     if !setting.append {
-        return Err(Stop::Refused(not_appending(mark)));
+        return Err(Stop::Refused(Fault {
+            number: 205,
+            mark: Some(mark),
+            kept: Kept::Nothing,
+        }));
     }
     pick_said(alloc, kind, pick, mark, setting)
-}
-
-/// 205.
-fn not_appending(mark: Mark) -> Fault
-    ensures fault { result ≡ not_appending mark }
-    ensures nameable { (files : ℕ) → mark.file < files → IsNameable files result }
-{
-    Fault {
-        number: 205,
-        mark: Some(mark),
-        kept: Kept::Nothing,
-    }
 }

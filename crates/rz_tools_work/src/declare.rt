@@ -1,6 +1,6 @@
 //! The statement `type`. What it declares, and the order of its faults, is in `specs/Declare`.
 
-ghost use Rattle.std.specs.Prelude.{◌≡◌, ◌<◌, ℕ, true, Err};
+ghost use Rattle.std.specs.Prelude.{◌≡◌, ◌<◌, ℕ, Err};
 ghost use Rattle.rz_core.specs.Message.{IsNameable};
 ghost use Rattle.rz_core.specs.Stop.{Gives, OnFault, left, Meets, seen, fault_seen};
 ghost use Rattle.rz_stmt_type.specs.Constants.{declare_of, made_of};
@@ -42,10 +42,7 @@ pub fn declare_type(
     let TypeStmt { kind, bounds, made } = declare;
     let scope = scope_of(bounds, mark)?;
     let template = template_of(alloc, made, &work.types, mark)?;
-    let again = match work.types.declare(kind, scope, template) {
-        Ok(again) => again,
-        Err(_) => return Err(Stop::NoMemory),
-    };
+    let again = work.types.declare(kind, scope, template)?;
     if again && !setting.redeclare {
         work.warnings.push(redeclared(kind, scope, mark))?;
     }

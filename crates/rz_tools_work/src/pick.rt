@@ -3,14 +3,11 @@
 ghost use Rattle.std.specs.Prelude.{◌<◌, ℕ};
 ghost use Rattle.rz_core.specs.Message.{IsNameable};
 ghost use Rattle.rz_core.specs.Stop.{Gives, OnFault};
-ghost use Rattle.rz_expr.specs.Term.{term_of};
 ghost use Rattle.rz_stmt_lists.specs.Pick.{pick_of};
 ghost use Rattle.rz_tools_values.specs.Head.{head_facts};
-ghost use Rattle.rz_tools_values.specs.Chosen.{id_said};
-ghost use Rattle.rz_tools_work.specs.Pick.{picked, range_said};
+ghost use Rattle.rz_tools_work.specs.Pick.{picked};
 
 use rz_core::{Facts, Fault, Mark, OsType, Stop};
-use rz_expr::Expr;
 use rz_set::Pick;
 use rz_stmt_lists::PickExpr;
 use rz_tools_values::{Setting, head_facts, id_said};
@@ -41,23 +38,11 @@ fn picked(alloc: Global, pick: &PickExpr, mark: Mark, known: &Facts) -> Result<P
     match pick {
         PickExpr::All => Ok(Pick::All),
         PickExpr::Id(id) => Ok(Pick::Id(id_said(alloc, id, mark, known)?)),
-        PickExpr::Range(first, last) => range_said(alloc, first, last, mark, known),
+        PickExpr::Range(first, last) => {
+            let first = id_said(alloc, first, mark, known)?;
+            let last = id_said(alloc, last, mark, known)?;
+            Ok(Pick::Range(first, last))
+        }
         PickExpr::Name(texts) => Ok(Pick::Name(text_of(alloc, texts, mark, known)?)),
     }
-}
-
-/// The ids from one that an expression says to another one.
-fn range_said(
-    alloc: Global,
-    first: &Expr,
-    last: &Expr,
-    mark: Mark,
-    known: &Facts,
-) -> Result<Pick, Stop<Fault>>
-    ensures pick { Gives (range_said mark known.now (term_of first.now) (term_of last.now)) result }
-    ensures nameable { (files : ℕ) → mark.file < files → OnFault result (IsNameable files) }
-{
-    let first = id_said(alloc, first, mark, known)?;
-    let last = id_said(alloc, last, mark, known)?;
-    Ok(Pick::Range(first, last))
 }

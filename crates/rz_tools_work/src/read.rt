@@ -57,10 +57,8 @@ fn resource_read<F: Folder>(
     let known = facts_of(alloc, stmt.kind, &stmt.head, around.mark, around.setting)?;
     let name = stmt.file.as_slice();
     let bytes = file_named(alloc, folder, around.paths, name, around.mark)?;
-    match short_bytes(bytes, around.mark) {
-        Ok(bytes) => Ok(with_bytes(known, bytes)),
-        Err(fault) => Err(Halt::Refused(fault)),
-    }
+    let short = short_bytes(bytes, around.mark)?;
+    Ok(with_bytes(known, short))
 }
 
 /// The end of a call that reads no files, as that of one that does.

@@ -5,6 +5,7 @@ pub mod Differing
 pub mod Keeping
 pub mod Unknown
 pub mod Noted
+pub mod NearLabels
 pub mod OneKind
 pub mod LeastWidths
 mod Examples

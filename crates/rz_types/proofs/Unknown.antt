@@ -12,7 +12,7 @@ use Rattle.rz_types_fields.specs.Field.{PlainBody}
 use Rattle.rz_expr.proofs.Items.{all_flat, all_more, and_yes, any_flat, any_more, found_there, none_any, passes, Found}
 use Rattle.rz_types_fields.specs.Solve.{can_solve, has_key, is_same_key, keys_in, tellable, undoes_left, undoes_one, undoes_right}
 use Rattle.rz_types_fields.specs.Passed.{declares, is_known, told_by, Names, Passed}
-use Rattle.rz_types.specs.Notes.{also_told, first_unknown}
+use Rattle.rz_types.specs.Notes.{also_told, first_unknown, may_be_told}
 use Rattle.rz_types.specs.Readable.{all_known, is_known_there, is_number_read, tells, tells_one}
 use Rattle.rz_types_fields.proofs.KeysIn.{key_passes}
 use Rattle.rz_types_fields.proofs.SameNames.{key_is, key_itself}
@@ -182,19 +182,33 @@ has_known met known within term key all has = key_passes known (keys_in term) ke
 within_more : (met known : Names) (key : Key) → AreWithin met known → AreWithin met (with_key known key)
 within_more met known key within other is = or_right (is_same_key key other) (known other) (within other is)
 
--- the number of the rows of a label can't be solved
-unsolved : (label : List ℕ) (term : Term) → can_solve (rows_of label) term ≡ false
-unsolved label (Constant number) = refl
-unsolved label (Named name) = refl
-unsolved label (Indexed name index) = refl
-unsolved label (RowsOf name) = refl
-unsolved label (RowNumber name) = refl
-unsolved label (BitsAt name start width) = refl
-unsolved label (FactOf which) = refl
-unsolved label (OfOne op operand) = and_no (undoes_one op) (can_solve (rows_of label) operand) (unsolved label operand)
-unsolved label (OfTwo op left right) =
-    no_side (has_key (rows_of label) left) (undoes_left op && not (has_key (rows_of label) right)) (can_solve (rows_of label) left) (undoes_right op) (can_solve (rows_of label) right)
-    (unsolved label left) (unsolved label right)
+unnamed : (key : Key) → may_be_told key ≡ false → (name : List ℕ) → is_same_key key (place_key name) ≡ false
+unnamed (place_of other) none name = absurd cc
+unnamed (count_of other) none name = absurd cc
+unnamed (rows_of label) none name = refl
+unnamed (place_in label number) none name = refl
+unnamed (row_in array) none name = refl
+
+uncounted : (key : Key) → may_be_told key ≡ false → (name : List ℕ) → is_same_key key (count_key name) ≡ false
+uncounted (place_of other) none name = absurd cc
+uncounted (count_of other) none name = absurd cc
+uncounted (rows_of label) none name = refl
+uncounted (place_in label number) none name = refl
+uncounted (row_in array) none name = refl
+
+-- neither the place of a label nor a number of rows: it can't be solved
+pub unsolved : (key : Key) → may_be_told key ≡ false → (term : Term) → can_solve key term ≡ false
+unsolved key none (Constant number) = refl
+unsolved key none (Named name) = unnamed key none name
+unsolved key none (Indexed name index) = refl
+unsolved key none (RowsOf name) = uncounted key none name
+unsolved key none (RowNumber name) = refl
+unsolved key none (BitsAt name start width) = refl
+unsolved key none (FactOf which) = refl
+unsolved key none (OfOne op operand) = and_no (undoes_one op) (can_solve key operand) (unsolved key none operand)
+unsolved key none (OfTwo op left right) =
+    no_side (has_key key left) (undoes_left op && not (has_key key right)) (can_solve key left) (undoes_right op) (can_solve key right)
+    (unsolved key none left) (unsolved key none right)
   where
     no_side : (has one two three four : Bool) → two ≡ false → four ≡ false → (if has then one && two else three && four) ≡ false
     no_side true one two three four none other = and_no one two none
@@ -210,12 +224,17 @@ module _ (rest : PlainBody) (met known : Names) (term : Term) (never : NeverKnow
   untold (count_of name) = never_told (count_of name) (λ label. refl)
   untold (rows_of label) =
       no_and (declares rest (rows_of label) && can_solve (rows_of label) term) (all_known met (with_key known (rows_of label)) term)
-      (and_no (declares rest (rows_of label)) (can_solve (rows_of label) term) (unsolved label term))
+      (and_no (declares rest (rows_of label)) (can_solve (rows_of label) term) (unsolved (rows_of label) refl term))
   untold (place_in name number) = never_told (place_in name number) (λ label. refl)
   untold (row_in name) = never_told (row_in name) (λ label. refl)
 
   tells_none : tells_one rest met known term ≡ false
   tells_none = none_any (tells rest met known term) untold (keys_in term)
+
+-- so no number tells it
+pub tells_not : (rest : PlainBody) (met known : Names) (term : Term) (key : Key) → may_be_told key ≡ false → tells rest met known term key ≡ false
+tells_not rest met known term key none =
+    no_and (declares rest key && can_solve key term) (all_known met (with_key known key) term) (and_no (declares rest key) (can_solve key term) (unsolved key none term))
 
 module _ (rest : PlainBody) (met known : Names) (within : AreWithin met known) (term : Term) (missing : Key) (stands : has_key missing term ≡ true)
     (gone : known missing ≡ false) where

@@ -17,3 +17,4 @@ pub mod Names
 pub mod Template
 pub mod Readable
 pub mod Notes
+pub mod Ahead

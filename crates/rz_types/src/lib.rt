@@ -6,7 +6,7 @@
 //! It rests on `rz_core`, `rz_types_format`, `rz_expr` and `rz_types_fields`.
 //! A new rule changes the definitions of the rules and the walk, `specs/Kept`, and the code in `rz_types_check`; a new kind of
 //! field, `least`, `readable` and each rule that speaks of it, beside what `rz_types_fields` says; a new kind of name,
-//! `Note` and what it means, and `specs/Names`.
+//! `PassedNotes` and what they mean, and `specs/Names`.
 //!
 //! Choices, and why:
 //! - A body has its shape from the grammar (`Shape.is_well_shaped`): that widths fit types, that symbols are in their
@@ -14,6 +14,7 @@
 //!   leaves open, and nothing else makes a template; so whoever is lent one knows that it keeps the rules.
 #![tactic(auto)]
 
+mod ahead;
 mod cases;
 mod laws;
 mod least;

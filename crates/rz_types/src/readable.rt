@@ -1,19 +1,18 @@
 //! Whether a resource of a declaration can be read; changed only with `specs/Readable`.
 
-ghost use Rattle.std.specs.Prelude.{◌≡◌, ◌≤◌, ◌||◌, IfOk, OnOk, Some, true, length, drop, map, option_map, Bool};
+ghost use Rattle.std.specs.Prelude.{◌≡◌, IfOk, OnOk, Some, true, drop, map, option_map, Bool};
 ghost use Rattle.rz_expr.specs.Term.{term_of};
-ghost use Rattle.rz_types_fields.specs.Field.{plain_array, plain_body, plain_cases, plain_field, plain_points, plain_text, PlainBody, Points};
-ghost use Rattle.rz_types_fields.specs.Solve.{is_same_key};
+ghost use Rattle.rz_types_fields.specs.Field.{plain_array, plain_body, plain_cases, plain_field, plain_points, plain_text, Points};
 ghost use Rattle.rz_types_fields.specs.Passed.{at_front, behind, behind_pieces, between, told_by};
 ghost use Rattle.rz_types_fields.specs.Piece.{fixed_integer};
 ghost use Rattle.rz_expr.specs.NameKey.{key_of};
-ghost use Rattle.rz_types.specs.Notes.{also_met, also_told, known, passed, passed_at};
-ghost use Rattle.rz_types_fields.specs.Known.{Grew};
+ghost use Rattle.rz_types.specs.Notes.{also_told, known, passed, passed_at, AreSame, GrewBoth};
 ghost use Rattle.rz_types.specs.Readable.{are_cases_read, are_pieces_read, are_read, ends_at_end, ends_at_label, is_count_known, is_number_read, is_read, is_readable, is_text_read, is_told_label, rows_end, tells, text_ends};
 ghost use Rattle.rz_types.specs.Template.{template_of};
 
+use crate::ahead::{Ahead, all_ahead, next_ahead};
 use crate::least::least_widths;
-use crate::passed::{Note, all_known, all_known_in_text, first_unknown, is_known, is_told};
+use crate::passed::{PassedNotes, all_known, all_known_in_text, first_unknown, is_known, is_told};
 use crate::template::Template;
 use rz_core::{NoMemory, Word};
 use rz_expr::{Expr, Key};
@@ -40,11 +39,10 @@ pub fn is_readable(template: &Template) -> bool
 }
 
 /// Whether all fields of a declaration can be read.
-#[tactic(auto, using(crate::proofs::Noted::from_front))]
 pub fn is_body_readable(alloc: Global, fields: &[Field]) -> Result<bool, NoMemory>
     ensures { IfOk result (λ read. read ≡ is_readable (plain_body fields.now)) }
 {
-    let mut notes = Vec::new(alloc);
+    let mut notes = PassedNotes::new(alloc);
     is_row_read(true, fields, &mut notes)
 }
 
@@ -53,15 +51,16 @@ pub fn is_body_readable(alloc: Global, fields: &[Field]) -> Result<bool, NoMemor
 fn is_row_read<'a>(
     outermost: bool,
     row: &'a [Field],
-    notes: &mut Vec<Note<'a>>,
+    notes: &mut PassedNotes<'a>,
 ) -> Result<bool, NoMemory>
-    ensures read { IfOk result (λ read. read ≡ are_read outermost (at_front (plain_body row.now) (passed notes.old.items)) (plain_body row.now)) }
-    ensures notes { OnOk result (notes.new.items ≡ notes.old.items) }
+    ensures read { IfOk result (λ read. read ≡ are_read outermost (at_front (plain_body row.now) (passed notes.old)) (plain_body row.now)) }
+    ensures notes { OnOk result (AreSame notes.old notes.new) }
 {
-    let outside = notes.len();
-    notes.push(Note::Front(row))?;
+    let (met, told) = (notes.met.len(), notes.told.len());
+    notes.enter(row)?;
     let read = are_read(outermost, row, notes)?;
-    notes.truncate(outside);
+    notes.met.truncate(met);
+    notes.told.truncate(told);
     Ok(read)
 }
 
@@ -70,26 +69,19 @@ fn is_row_read<'a>(
 fn are_read<'a>(
     outermost: bool,
     fields: &'a [Field],
-    notes: &mut Vec<Note<'a>>,
+    notes: &mut PassedNotes<'a>,
 ) -> Result<bool, NoMemory>
-    ensures read { IfOk result (λ read. read ≡ are_read outermost (passed notes.old.items) (plain_body fields.now)) }
-    ensures grew { OnOk result (Grew notes.old.items notes.new.items) }
+    ensures read { IfOk result (λ read. read ≡ are_read outermost (passed notes.old) (plain_body fields.now)) }
+    ensures grew { OnOk result (GrewBoth notes.old notes.new) }
 {
-    for position in 0..fields.len() {
-        let here = fields_from(fields, position);
-        if !is_read(outermost, &fields[position], here, notes)? {
+    let mut ahead = all_ahead(notes.alloc, fields)?;
+    for field in fields {
+        if !is_read(outermost, field, &ahead, notes)? {
             return Ok(false);
         }
+        ahead = next_ahead(notes.alloc, ahead)?;
     }
     Ok(true)
-}
-
-/// The fields from a position on.
-fn fields_from(fields: &[Field], position: usize) -> &[Field]
-    requires { position ≤ length fields.now }
-    ensures { result.now ≡ drop position fields.now }
-{
-    fields.split_at(position).1
 }
 
 /// The fields after the first.
@@ -107,28 +99,25 @@ fn rest_of(fields: &[Field]) -> &[Field]
 fn is_read<'a>(
     outermost: bool,
     field: &'a Field,
-    fields: &[Field],
-    notes: &mut Vec<Note<'a>>,
+    ahead: &Ahead<'_>,
+    notes: &mut PassedNotes<'a>,
 ) -> Result<bool, NoMemory>
-    ensures read { IfOk result (λ read. read ≡ is_read outermost (plain_body (drop 1 fields.now)) (passed_at (plain_body fields.now) notes.old.items) (plain_field field.now)) }
-    ensures passed { IfOk result (λ read. read ≡ true → passed notes.new.items ≡ behind (plain_field field.now) (passed_at (plain_body fields.now) notes.old.items)) }
-    ensures grew { OnOk result (Grew notes.old.items notes.new.items) }
+    ensures read { IfOk result (λ read. read ≡ is_read outermost (plain_body (drop 1 ahead.now.fields.now)) (passed_at (plain_body ahead.now.fields.now) notes.old) (plain_field field.now)) }
+    ensures passed { IfOk result (λ read. read ≡ true → passed notes.new ≡ behind (plain_field field.now) (passed_at (plain_body ahead.now.fields.now) notes.old)) }
+    ensures grew { OnOk result (GrewBoth notes.old notes.new) }
 {
     match field {
-        Field::Num(number) => is_value_read(fields, &number.fixed, notes),
-        Field::Text(text) => {
-            let alloc = *notes.allocator();
-            is_text_read(alloc, outermost, fields, text, notes.as_slice())
-        }
-        Field::Points(points) => are_points_read(fields, points, notes),
+        Field::Num(number) => is_value_read(ahead, &number.fixed, notes),
+        Field::Text(text) => is_text_read(outermost, ahead, text, notes),
+        Field::Points(points) => are_points_read(ahead, points, notes),
         Field::Fill(..) | Field::Align(_) => Ok(true),
         Field::Label(_) => {
-            push_met(field, notes)?;
+            notes.meet(field)?;
             Ok(true)
         }
         Field::Array(array) => {
-            if is_array_read(outermost, array, fields, notes)? {
-                push_met(field, notes)?;
+            if is_array_read(outermost, array, ahead, notes)? {
+                notes.meet(field)?;
                 Ok(true)
             } else {
                 Ok(false)
@@ -143,21 +132,14 @@ fn is_read<'a>(
 fn is_array_read<'a>(
     outermost: bool,
     array: &'a ArrayField,
-    fields: &[Field],
-    notes: &mut Vec<Note<'a>>,
+    ahead: &Ahead<'_>,
+    notes: &mut PassedNotes<'a>,
 ) -> Result<bool, NoMemory>
-    ensures read { IfOk result (λ read. read ≡ is_read outermost (plain_body (drop 1 fields.now)) (passed_at (plain_body fields.now) notes.old.items) (plain_array array.now)) }
-    ensures notes { OnOk result (notes.new.items ≡ notes.old.items) }
+    ensures read { IfOk result (λ read. read ≡ is_read outermost (plain_body (drop 1 ahead.now.fields.now)) (passed_at (plain_body ahead.now.fields.now) notes.old) (plain_array array.now)) }
+    ensures notes { OnOk result (AreSame notes.old notes.new) }
 {
     let row = array.row.as_slice();
-    if !rows_end(
-        outermost,
-        fields,
-        &array.name,
-        array.count,
-        row,
-        notes.as_slice(),
-    ) {
+    if !rows_end(outermost, ahead, &array.name, array.count, row, notes) {
         return Ok(false);
     }
     is_row_read(false, row, notes)
@@ -165,9 +147,9 @@ fn is_array_read<'a>(
 
 /// Whether each case of a switch can be read.
 #[cycle(read)]
-fn are_cases_read<'a>(cases: &'a [Case], notes: &mut Vec<Note<'a>>) -> Result<bool, NoMemory>
-    ensures read { IfOk result (λ read. read ≡ are_cases_read (passed notes.old.items) (plain_cases cases.now)) }
-    ensures notes { OnOk result (notes.new.items ≡ notes.old.items) }
+fn are_cases_read<'a>(cases: &'a [Case], notes: &mut PassedNotes<'a>) -> Result<bool, NoMemory>
+    ensures read { IfOk result (λ read. read ≡ are_cases_read (passed notes.old) (plain_cases cases.now)) }
+    ensures notes { OnOk result (AreSame notes.old notes.new) }
 {
     for case in cases {
         if !is_row_read(false, case.row.as_slice(), notes)? {
@@ -177,42 +159,33 @@ fn are_cases_read<'a>(cases: &'a [Case], notes: &mut Vec<Note<'a>>) -> Result<bo
     Ok(true)
 }
 
-/// Notes that a field stands before.
-fn push_met<'a>(field: &'a Field, notes: &mut Vec<Note<'a>>) -> Result<(), NoMemory>
-    ensures passed { OnOk result (passed notes.new.items ≡ also_met (plain_field field.now) (passed notes.old.items)) }
-    ensures grew { OnOk result (Grew notes.old.items notes.new.items) }
-{
-    notes.push(Note::Met(field))?;
-    Ok(())
-}
-
 /// Whether it is told where the rows of an array end.
 fn rows_end(
     outermost: bool,
-    fields: &[Field],
+    ahead: &Ahead<'_>,
     name: &Option<Word>,
     count: Option<i32>,
     row: &[Field],
-    notes: &[Note<'_>],
+    notes: &PassedNotes<'_>,
 ) -> bool
-    ensures { result ≡ rows_end outermost (plain_body (drop 1 fields.now)) (passed_at (plain_body fields.now) notes.now) name.now count (plain_body row.now) }
+    ensures { result ≡ rows_end outermost (plain_body (drop 1 ahead.now.fields.now)) (passed_at (plain_body ahead.now.fields.now) notes.now) name.now count (plain_body row.now) }
 {
     if count.is_some() {
         return true;
     }
-    let rest = rest_of(fields);
+    let rest = rest_of(ahead.fields);
     let least = least_widths(row);
-    (is_count_known(fields, name, notes) && 1 <= least)
+    (is_count_known(ahead, name, notes) && 1 <= least)
         || (ends_at_label(rest, notes) && 1 <= least)
         || (ends_at_end(outermost, rest) && 8 <= least)
 }
 
 /// Whether the number of rows of an array of this name is known.
-fn is_count_known(fields: &[Field], name: &Option<Word>, notes: &[Note<'_>]) -> bool
-    ensures { result ≡ is_count_known (passed_at (plain_body fields.now) notes.now) name.now }
+fn is_count_known(ahead: &Ahead<'_>, name: &Option<Word>, notes: &PassedNotes<'_>) -> bool
+    ensures { result ≡ is_count_known (passed_at (plain_body ahead.now.fields.now) notes.now) name.now }
 {
     match name {
-        Some(name) => is_known(fields, notes, Key::Count(name)),
+        Some(name) => is_known(ahead, notes, Key::Count(name)),
         None => false,
     }
 }
@@ -225,7 +198,7 @@ fn ends_at_end(outermost: bool, rest: &[Field]) -> bool
 }
 
 /// Whether a field with these after it ends at a label.
-fn ends_at_label(rest: &[Field], notes: &[Note<'_>]) -> bool
+fn ends_at_label(rest: &[Field], notes: &PassedNotes<'_>) -> bool
     ensures { result ≡ ends_at_label (plain_body rest.now) (passed notes.now).told }
 {
     for field in rest {
@@ -240,7 +213,7 @@ fn ends_at_label(rest: &[Field], notes: &[Note<'_>]) -> bool
 }
 
 /// Whether a field is a label whose place is told.
-fn is_told_label(field: &Field, notes: &[Note<'_>]) -> bool
+fn is_told_label(field: &Field, notes: &PassedNotes<'_>) -> bool
     ensures { result ≡ is_told_label (plain_field field.now) (passed notes.now).told }
 {
     match field {
@@ -251,22 +224,21 @@ fn is_told_label(field: &Field, notes: &[Note<'_>]) -> bool
 
 /// Whether a text can be read.
 fn is_text_read(
-    alloc: Global,
     outermost: bool,
-    fields: &[Field],
+    ahead: &Ahead<'_>,
     text: &TextField,
-    notes: &[Note<'_>],
+    notes: &PassedNotes<'_>,
 ) -> Result<bool, NoMemory>
-    ensures { IfOk result (λ read. read ≡ is_text_read outermost (plain_body (drop 1 fields.now)) (passed_at (plain_body fields.now) notes.now) (plain_text text.now)) }
+    ensures { IfOk result (λ read. read ≡ is_text_read outermost (plain_body (drop 1 ahead.now.fields.now)) (passed_at (plain_body ahead.now.fields.now) notes.now) (plain_text text.now)) }
 {
-    if !text_ends(outermost, rest_of(fields), text, notes) {
+    if !text_ends(outermost, rest_of(ahead.fields), text, notes) {
         return Ok(false);
     }
-    all_known_in_text(alloc, fields, notes, text)
+    all_known_in_text(notes.alloc, ahead, notes, text)
 }
 
 /// Whether it is told where a text ends.
-fn text_ends(outermost: bool, rest: &[Field], text: &TextField, notes: &[Note<'_>]) -> bool
+fn text_ends(outermost: bool, rest: &[Field], text: &TextField, notes: &PassedNotes<'_>) -> bool
     ensures { result ≡ text_ends outermost (plain_body rest.now) (passed notes.now).told text.now.form (option_map term_of text.now.size) }
 {
     match text.form {
@@ -280,83 +252,72 @@ fn text_ends(outermost: bool, rest: &[Field], text: &TextField, notes: &[Note<'_
 
 /// Whether a number that has a fixed value or none can be read; then it tells a name that wasn't known.
 fn is_value_read<'a>(
-    fields: &[Field],
+    ahead: &Ahead<'_>,
     value: &'a Option<Expr>,
-    notes: &mut Vec<Note<'a>>,
+    notes: &mut PassedNotes<'a>,
 ) -> Result<bool, NoMemory>
-    ensures read { IfOk result (λ read. read ≡ is_number_read (plain_body (drop 1 fields.now)) (passed_at (plain_body fields.now) notes.old.items) (option_map term_of value.now)) }
-    ensures passed { IfOk result (λ read. read ≡ true → passed notes.new.items ≡ between (told_by (option_map term_of value.now) (passed_at (plain_body fields.now) notes.old.items))) }
-    ensures grew { OnOk result (Grew notes.old.items notes.new.items) }
+    ensures read { IfOk result (λ read. read ≡ is_number_read (plain_body (drop 1 ahead.now.fields.now)) (passed_at (plain_body ahead.now.fields.now) notes.old) (option_map term_of value.now)) }
+    ensures passed { IfOk result (λ read. read ≡ true → passed notes.new ≡ between (told_by (option_map term_of value.now) (passed_at (plain_body ahead.now.fields.now) notes.old))) }
+    ensures grew { OnOk result (GrewBoth notes.old notes.new) }
 {
     match value {
-        Some(expr) => is_expression_read(fields, expr, notes),
+        Some(expr) => is_expression_read(ahead, expr, notes),
         None => Ok(true),
     }
 }
 
 /// Whether a number with this value can be read.
 fn is_expression_read<'a>(
-    fields: &[Field],
+    ahead: &Ahead<'_>,
     expr: &'a Expr,
-    notes: &mut Vec<Note<'a>>,
+    notes: &mut PassedNotes<'a>,
 ) -> Result<bool, NoMemory>
-    ensures read { IfOk result (λ read. read ≡ is_number_read (plain_body (drop 1 fields.now)) (passed_at (plain_body fields.now) notes.old.items) (Some (term_of expr.now))) }
-    ensures passed { IfOk result (λ read. read ≡ true → passed_at (plain_body fields.now) notes.new.items ≡ told_by (Some (term_of expr.now)) (passed_at (plain_body fields.now) notes.old.items)) }
-    ensures grew { OnOk result (Grew notes.old.items notes.new.items) }
+    ensures read { IfOk result (λ read. read ≡ is_number_read (plain_body (drop 1 ahead.now.fields.now)) (passed_at (plain_body ahead.now.fields.now) notes.old) (Some (term_of expr.now))) }
+    ensures passed { IfOk result (λ read. read ≡ true → passed_at (plain_body ahead.now.fields.now) notes.new ≡ told_by (Some (term_of expr.now)) (passed_at (plain_body ahead.now.fields.now) notes.old)) }
+    ensures grew { OnOk result (GrewBoth notes.old notes.new) }
 {
-    match first_unknown(fields, notes.as_slice(), expr) {
+    match first_unknown(ahead, notes, expr) {
         Some(key) => {
-            let read = tells(fields, key, expr, notes)?;
+            let read = tells(ahead, key, expr, notes)?;
             Ok(read)
         }
         None => Ok(true),
     }
 }
 
-/// Whether a number with this value tells a name that isn't known; notes that it is known.
+/// Whether a number with this value tells a name that isn't known; then that is noted.
 fn tells<'a>(
-    fields: &[Field],
+    ahead: &Ahead<'_>,
     key: Key<'a>,
     expr: &Expr,
-    notes: &mut Vec<Note<'a>>,
+    notes: &mut PassedNotes<'a>,
 ) -> Result<bool, NoMemory>
-    ensures told { IfOk result (λ told. told ≡ tells (plain_body (drop 1 fields.now)) (passed notes.old.items).met (known (plain_body fields.now) notes.old.items) (term_of expr.now) (key_of key.entry)) }
-    ensures passed { OnOk result (passed notes.new.items ≡ also_told (key_of key.entry) (passed notes.old.items)) }
-    ensures grew { OnOk result (Grew notes.old.items notes.new.items) }
+    ensures told { IfOk result (λ told. told ≡ tells (plain_body (drop 1 ahead.now.fields.now)) (passed notes.old).met (known (plain_body ahead.now.fields.now) notes.old) (term_of expr.now) (key_of key.entry)) }
+    ensures passed { IfOk result (λ told. told ≡ true → passed notes.new ≡ also_told (key_of key.entry) (passed notes.old)) }
+    ensures grew { OnOk result (GrewBoth notes.old notes.new) }
 {
-    push_told(key, notes)?;
-    if !declares(rest_of(fields), key) {
+    if !declares(rest_of(ahead.fields), key) || !standing_of(key, expr).solved {
         return Ok(false);
     }
-    if !standing_of(key, expr).solved {
+    if !notes.tell(key)? {
         return Ok(false);
     }
-    Ok(all_known(fields, notes.as_slice(), expr))
-}
-
-/// Notes that a number tells this name; so it is noted also where the name turns out not to be told.
-fn push_told<'a>(key: Key<'a>, notes: &mut Vec<Note<'a>>) -> Result<(), NoMemory>
-    ensures passed { OnOk result (passed notes.new.items ≡ also_told (key_of key.entry) (passed notes.old.items)) }
-    ensures known { OnOk result ((fields : PlainBody) → known fields notes.new.items ≡ (λ other. is_same_key (key_of key.entry) other || known fields notes.old.items other)) }
-    ensures grew { OnOk result (Grew notes.old.items notes.new.items) }
-{
-    notes.push(Note::Told(key))?;
-    Ok(())
+    Ok(all_known(ahead, notes, expr))
 }
 
 /// Whether the numbers of a point or a rectangle can be read.
 fn are_points_read<'a>(
-    fields: &[Field],
+    ahead: &Ahead<'_>,
     points: &'a PointField,
-    notes: &mut Vec<Note<'a>>,
+    notes: &mut PassedNotes<'a>,
 ) -> Result<bool, NoMemory>
-    ensures read { IfOk result (λ read. (outermost : Bool) → read ≡ is_read outermost (plain_body (drop 1 fields.now)) (passed_at (plain_body fields.now) notes.old.items) (Points (plain_points points.now))) }
-    ensures passed { IfOk result (λ read. read ≡ true → passed notes.new.items ≡ behind (Points (plain_points points.now)) (passed_at (plain_body fields.now) notes.old.items)) }
-    ensures grew { OnOk result (Grew notes.old.items notes.new.items) }
+    ensures read { IfOk result (λ read. (outermost : Bool) → read ≡ is_read outermost (plain_body (drop 1 ahead.now.fields.now)) (passed_at (plain_body ahead.now.fields.now) notes.old) (Points (plain_points points.now))) }
+    ensures passed { IfOk result (λ read. read ≡ true → passed notes.new ≡ behind (Points (plain_points points.now)) (passed_at (plain_body ahead.now.fields.now) notes.old)) }
+    ensures grew { OnOk result (GrewBoth notes.old notes.new) }
 {
     match &points.fixed {
         Some(values) => {
-            let read = are_values_read(fields, values, notes)?;
+            let read = are_values_read(ahead, values, notes)?;
             Ok(read)
         }
         None => Ok(true),
@@ -365,16 +326,16 @@ fn are_points_read<'a>(
 
 /// Whether numbers with these values can be read, one after the other.
 fn are_values_read<'a>(
-    fields: &[Field],
+    ahead: &Ahead<'_>,
     values: &'a Exprs,
-    notes: &mut Vec<Note<'a>>,
+    notes: &mut PassedNotes<'a>,
 ) -> Result<bool, NoMemory>
-    ensures read { IfOk result (λ read. (outermost : Bool) → read ≡ are_pieces_read outermost (plain_body (drop 1 fields.now)) (passed_at (plain_body fields.now) notes.old.items) (map fixed_integer (map term_of values.now))) }
-    ensures passed { IfOk result (λ read. read ≡ true → passed notes.new.items ≡ between (behind_pieces (map fixed_integer (map term_of values.now)) (passed_at (plain_body fields.now) notes.old.items))) }
-    ensures grew { OnOk result (Grew notes.old.items notes.new.items) }
+    ensures read { IfOk result (λ read. (outermost : Bool) → read ≡ are_pieces_read outermost (plain_body (drop 1 ahead.now.fields.now)) (passed_at (plain_body ahead.now.fields.now) notes.old) (map fixed_integer (map term_of values.now))) }
+    ensures passed { IfOk result (λ read. read ≡ true → passed notes.new ≡ between (behind_pieces (map fixed_integer (map term_of values.now)) (passed_at (plain_body ahead.now.fields.now) notes.old))) }
+    ensures grew { OnOk result (GrewBoth notes.old notes.new) }
 {
     for expr in values.as_slice() {
-        if !is_expression_read(fields, expr, notes)? {
+        if !is_expression_read(ahead, expr, notes)? {
             return Ok(false);
         }
     }

@@ -4,6 +4,7 @@ pub mod SymbolPlaces
 pub mod SymbolWalks
 pub mod RowKeys
 pub mod RowPlaces
+pub mod RowEnds
 pub mod Noting
 pub mod Positions
 pub mod HeldNotes

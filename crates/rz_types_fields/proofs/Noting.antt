@@ -110,6 +110,13 @@ module _ (notes : List Note) (key : Key) where
   value_none is =
       given_outside key ∙ sym (known_newest key None (outside.give key) notes ∙ ap (λ (o : Option Note). said_by o key (outside.give key)) is)
 
+  -- by the notes alone
+  pub noted_said : (note : Note) → newest true key None notes ≡ Some note → is_some (said note key) ≡ is_some (noted None notes key)
+  noted_said note is = sym (ap is_some (known_newest key None None notes ∙ ap (λ (o : Option Note). said_by o key None) is))
+
+  pub noted_none : newest true key None notes ≡ None → false ≡ is_some (noted None notes key)
+  noted_none is = sym (ap is_some (known_newest key None None notes ∙ ap (λ (o : Option Note). said_by o key None) is))
+
   pub met_said : (note : Note) → newest false key None notes ≡ Some note → meets note ≡ met notes key
   met_said note is = sym (met_newest key None (is_some (outside.give key)) notes ∙ ap (λ (o : Option Note). met_by o (is_some (outside.give key))) is)
 

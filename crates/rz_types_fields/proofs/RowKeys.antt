@@ -9,7 +9,8 @@ use Rattle.rz_expr.specs.Environment.{count_of, place_in, place_of, row_in, rows
 use Rattle.rz_types_fields.specs.Field.{field_and, no_fields, Align, Array, Fill, Label, Number, PlainBody, PlainField, Points, Switch, Text}
 use Rattle.rz_types_fields.specs.Front.{stated_in, stated_value, value_inside}
 use Rattle.rz_types_fields.specs.Passed.{declares, gives_count, gives_key, gives_rows, has_label}
-use Rattle.rz_types_fields.specs.RowLabels.{is_row, labels_count, numbers_row, row_number, RowOf}
+use Rattle.rz_types_fields.specs.FlatRows.{labels_count}
+use Rattle.rz_types_fields.specs.RowLabels.{is_row, numbers_row, row_number, RowOf}
 use Rattle.rz_types_fields.specs.Solve.{is_same_key}
 
 -- The row around.

@@ -1,14 +1,12 @@
 -- The places of labels: of those that stand directly in a body, in order, and of those in the rows of an array, row by row.
-use Rattle.std.proofs.Common.{◌≡◌, ℕ, zero, suc, ◌+◌, ◌-◌, ◌*◌, ◌<◌, ℤ, pos, negsuc, Bool, true, false, ◌&&◌, ◌||◌, List, [], ◌∷◌, ◌++◌, length, Option, Some, None, refl, sym, ap, ◌∙◌, arith}
-use Rattle.std.specs.Prelude.{if◌then◌else◌, int_le, slice_get}
-use Rattle.std.proofs.lemmas.Bool.Decides.{nat_tests}
+use Rattle.std.proofs.Common.{◌≡◌, ℕ, zero, suc, ◌+◌, ◌<◌, ℤ, Bool, true, false, ◌||◌, List, [], ◌∷◌, ◌++◌, length, Some, refl, sym, ap, ◌∙◌, arith}
+use Rattle.std.specs.Prelude.{if◌then◌else◌, slice_get}
 use Rattle.rz_core.specs.declared.resource.Word.{Word}
-use Rattle.rz_expr.specs.Environment.{place_in, place_key, place_of, Environment}
-use Rattle.rz_types_fields.specs.Field.{field_and, no_fields, Align, Array, Fill, Label, Number, PlainBody, PlainField, Points, Switch, Text}
+use Rattle.rz_expr.specs.Environment.{place_key, place_of, Environment}
+use Rattle.rz_types_fields.specs.Field.{field_and, no_fields, Align, Array, Fill, Label, Number, PlainBody, Points, Switch, Text}
 use Rattle.rz_types_fields.specs.Passed.{has_label}
-use Rattle.rz_types_fields.specs.RowLabels.{label_index, label_places, labels_count, row_of, row_value}
+use Rattle.rz_types_fields.specs.FlatRows.{label_index, labels_count, PlacesAre}
 use Rattle.rz_types_fields.specs.Solve.{is_same_key}
-use Rattle.rz_types_fields.specs.Spells.{HasPlace}
 use Rattle.rz_types_fields.proofs.SameNames.{key_is}
 
 none_more : (n : ℕ) → n ≡ 0 + n
@@ -18,29 +16,6 @@ one_more : (n : ℕ) → suc n ≡ 1 + n
 one_more n = omega (arith)
 
 -- A body.
-
--- the labels that stand directly in a body have these places, in order
-abbrev pub PlacesAre : Environment → PlainBody → List ℤ → Type 0
-PlacesAre own no_fields places = places ≡ []
-PlacesAre own (field_and (Label name) _) [] = ⊥
-PlacesAre own (field_and (Label name) fields) (place ∷ places) = (own.give (place_key name.bytes) ≡ Some place) × PlacesAre own fields places
-PlacesAre own (field_and field fields) places = PlacesAre own fields places
-
--- a field that is a label has this place
-abbrev pub FieldStands : PlainField → Environment → ℕ → Type 0
-FieldStands (Label name) own at = own.give (place_key name.bytes) ≡ Some (pos at)
-FieldStands field own at = Unit {0}
-
--- the labels of one field more
-pub places_more : (own : Environment) (field : PlainField) (fields : PlainBody) (at : ℕ) (rest : List ℤ) → FieldStands field own at → PlacesAre own fields rest → PlacesAre own (field_and field fields) (label_places field at ++ rest)
-places_more own (Number number) _ at rest stands are = are
-places_more own (Text text) _ at rest stands are = are
-places_more own (Points points) _ at rest stands are = are
-places_more own (Fill unit count) _ at rest stands are = are
-places_more own (Align unit) _ at rest stands are = are
-places_more own (Label name) _ at rest stands are = (stands, are)
-places_more own (Array name count row) _ at rest stands are = are
-places_more own (Switch cases) _ at rest stands are = are
 
 -- there are as many as labels
 pub places_length : (own : Environment) (body : PlainBody) (places : List ℤ) → PlacesAre own body places → length places ≡ labels_count body
@@ -108,62 +83,3 @@ pub get_behind : (xs ys : List ℤ) (i n : ℕ) → n ≡ length xs + i → slic
 get_behind [] ys i n is = ap (slice_get ys) (omega (arith, is))
 get_behind (x ∷ xs) ys i zero is = absurd (omega (arith, is))
 get_behind (x ∷ xs) ys i (suc n) is = get_behind xs ys i n (omega (arith, is))
-
--- these are the places of the labels in one row, and outside of it they have them by its number
-pub record RowHas (row : PlainBody) (names : Environment) (number : ℕ) (places : List ℤ) : Type 0 where
-  pub size : length places ≡ labels_count row
-  pub give : (label : List ℕ) → has_label row label ≡ true → (place : ℤ) × (slice_get places (label_index row label) ≡ Some place) × (names.give (place_in label (pos number)) ≡ Some place)
-
--- these are the places of the labels in so many rows, of which the first has this number, row by row
-pub record RowsHave (row : PlainBody) (names : Environment) (number rows : ℕ) (places : List ℤ) : Type 0 where
-  pub give : (label : List ℕ) (j : ℕ) → has_label row label ≡ true → j < rows
-      → (place : ℤ) × (slice_get places (j * labels_count row + label_index row label) ≡ Some place) × (names.give (place_in label (pos (number + j))) ≡ Some place)
-
-pub row_has : (row : PlainBody) (name : Option Word) (names own : Environment) (number : ℕ) (places : List ℤ) → PlacesAre own row places
-    → ((label : List ℕ) → has_label row label ≡ true → HasPlace (row_of name number) label names own) → RowHas row names number places
-row_has row name names own number places are has = record {
-  size = places_length own row places are;
-  give = λ label is. let there = place_there own row places label are is in (there.0, there.1, has label is ∙ there.2);
-}
-
-pub no_rows_have : (row : PlainBody) (names : Environment) (number : ℕ) → RowsHave row names number 0 []
-no_rows_have row names number = record { give = λ label j is less. absurd (omega (arith, less)) }
-
-pub rows_have : (row : PlainBody) (names : Environment) (number rows : ℕ) (places behind : List ℤ) → RowHas row names number places → RowsHave row names (number + 1) rows behind
-    → RowsHave row names number (suc rows) (places ++ behind)
-rows_have row names number rows places behind one others = record { give = by }
-  where
-    by : (label : List ℕ) (j : ℕ) → has_label row label ≡ true → j < suc rows
-        → (place : ℤ) × (slice_get (places ++ behind) (j * labels_count row + label_index row label) ≡ Some place) × (names.give (place_in label (pos (number + j))) ≡ Some place)
-    by label zero is less =
-        let i = label_index row label in
-        let short : i < length places = (let a = index_short row label is in let b = one.size in omega (arith, a, b)) in
-        let there = one.give label is in
-        let first : 0 * labels_count row + i ≡ i = omega (arith) in
-        let same : number + 0 ≡ number = omega (arith) in
-        (there.0, ap (slice_get (places ++ behind)) first ∙ get_front places behind i short ∙ there.1, ap (λ (n : ℕ). names.give (place_in label (pos n))) same ∙ there.2)
-    by label (suc j) is less =
-        let k = labels_count row in
-        let i = label_index row label in
-        let there = others.give label j is (omega (arith, less)) in
-        let same : number + suc j ≡ number + 1 + j = omega (arith) in
-        (there.0, get_behind places behind (j * k + i) (suc j * k + i) (row_more j k i (length places) one.size) ∙ there.1, ap (λ (n : ℕ). names.give (place_in label (pos n))) same ∙ there.2)
-      where
-        row_more : (j k i n : ℕ) → n ≡ k → suc j * k + i ≡ n + (j * k + i)
-        row_more j k i n same = grind (arith, same)
-
--- the value of a place in one of all rows
-pub row_value_is : (row : PlainBody) (names : Environment) (count : ℕ) (places : List ℤ) → RowsHave row names 1 count places → (label : List ℕ) (number : ℤ) → has_label row label ≡ true
-    → int_le (pos 1) number ≡ true → int_le number (pos count) ≡ true
-    → (place : ℤ) × (row_value row count places (place_in label number) ≡ Some place) × (names.give (place_in label number) ≡ Some place)
-row_value_is row names count places have label (negsuc n) is low high = absurd cc
-row_value_is row names count places have label (pos zero) is low high = absurd cc
-row_value_is row names count places have label (pos (suc j)) is low high =
-    let short : j < count = grind (arith, nat_tests, high) in
-    let there = have.give label j is short in
-    let index : suc j - 1 ≡ j = omega (arith) in (
-      there.0,
-      (λ i. if low i && high i then slice_get places ((suc j - 1) * labels_count row + label_index row label) else None)
-          ∙ ap (λ (n : ℕ). slice_get places (n * labels_count row + label_index row label)) index ∙ there.1,
-      ap (λ (n : ℕ). names.give (place_in label (pos n))) (one_more j) ∙ there.2,
-    )

@@ -1,6 +1,6 @@
 -- What the code notes of names, as contracts see it: the numbers of rows, the places and the numbers of rows around that the
 -- notes give them, and which names are met after them.
-use Rattle.std.specs.Prelude.{◌≡◌, ℕ, ℤ, pos, Bool, ◌&&◌, ◌||◌, not, if◌then◌else◌, List, [], ◌∷◌, ◌++◌, Option, Some, None, option_map}
+use Rattle.std.specs.Prelude.{◌≡◌, ℕ, ℤ, pos, Bool, ◌&&◌, ◌||◌, not, if◌then◌else◌, List, [], ◌∷◌, ◌++◌, length, Option, Some, None, option_map}
 use Rattle.std.specs.Option.{is_some}
 use Rattle.rz_core.specs.Lists.{or_else}
 use Rattle.rz_expr.specs.Environment.{count_key, row_key, Environment, Key}
@@ -9,7 +9,8 @@ use Rattle.rz_types_fields.specs.Field.{plain_body, PlainBody}
 use Rattle.rz_types_fields.specs.Front.{value_inside}
 use Rattle.rz_types_fields.specs.Solve.{is_same_key}
 use Rattle.rz_types_fields.specs.Passed.{counts_rows, declares, gives_rows, outside, stands_at, Names}
-use Rattle.rz_types_fields.specs.RowLabels.{row_value, RowOf}
+use Rattle.rz_types_fields.specs.FlatRows.{row_value, AllPlacesAre}
+use Rattle.rz_types_fields.specs.RowLabels.{rows_give, RowOf}
 use Rattle.rz_types_fields.specs.declared.names.InRow.{InRow}
 use Rattle.rz_types_fields.specs.declared.names.Note.{Note}
 use Rattle.rz_types_fields.specs.declared.names.Note.TheVariants.{Coming, Counted, Hidden, Numbered, Placed, PlaceTold, Rows, Told}
@@ -73,11 +74,13 @@ met_noted before (note ∷ notes) key = met_noted (meeting note key before) note
 abbrev pub met : List Note → Names
 met notes key = met_noted (is_some (outside.give key)) notes key
 
--- notes were added at the end by which the labels directly in so many rows have these places, and all of them are met
+-- notes were added at the end by which the labels directly in so many rows are met, and by which, where these are their places,
+-- row by row, they have them
 pub record AreRowsNoted (row : PlainBody) (count : ℕ) (places : List ℤ) (old new : List Note) : Type 0 where
   pub more : List Note
   pub grew : new ≡ old ++ more
-  pub values : (key : Key) (before : Option ℤ) → noted before more key ≡ (if gives_rows row key then row_value row count places key else before)
+  pub values : (ends : List Environment) → length ends ≡ count → AllPlacesAre row ends places → (key : Key) (before : Option ℤ)
+      → noted before more key ≡ (if gives_rows row key then rows_give ends key else before)
   pub all_met : (key : Key) (before : Bool) → met_noted before more key ≡ (gives_rows row key || before)
 
 -- notes were added at the end after which keys have these values, and these are met

@@ -60,18 +60,16 @@ pub record LateNumber : Type 0 where
   pub names : Environment → Environment
 
 -- What is laid so far: the number of pieces, their bits, which are zero where they are late, a mark for each bit that says
--- whether it is late, the values that names have there, the late numbers, and the places of the labels that stand directly in
--- the body that is laid, and, where it is a row, in those before it.
+-- whether it is late, the values that names have there, and the late numbers.
 pub record Draft : Type 0 where
   pub piece : ℕ
   pub bits : List Bool
   pub late : Late
   pub known : Environment
   pub numbers : List LateNumber
-  pub places : List ℤ
 
 abbrev pub nothing_laid : Draft
-nothing_laid = record { piece = 0; bits = []; late = []; known = outside; numbers = []; places = [] }
+nothing_laid = record { piece = 0; bits = []; late = []; known = outside; numbers = [] }
 
 -- what an expression sees after what is laid so far: all bits but those of late numbers
 abbrev pub draft_sight : Facts → Draft → Sight
@@ -262,11 +260,6 @@ abbrev pub placed : Piece → ℕ → Environment → Environment
 placed (Place name) at names = record { give = λ key. if stands_at name.bytes key then Some (pos at) else names.give key }
 placed piece at names = names
 
--- after a label its place stands after the others
-abbrev pub and_place : Piece → ℕ → List ℤ → List ℤ
-and_place (Place name) at places = places ++ pos at ∷ []
-and_place piece at places = places
-
 -- a piece with these bits more
 abbrev pub grown : Piece → Draft → List Bool → Bool → List LateNumber → Draft
 grown piece draft bits is_late numbers = record {
@@ -275,7 +268,6 @@ grown piece draft bits is_late numbers = record {
   late = draft.late ++ replicate (length bits) is_late;
   known = placed piece (length draft.bits) draft.known;
   numbers = draft.numbers ++ numbers;
-  places = and_place piece (length draft.bits) draft.places;
 }
 
 abbrev pub late_at : Draft → NumForm → ℤ → Term → LateNumber
@@ -357,7 +349,6 @@ enter which body values draft = record {
   late = draft.late;
   known = entered which body values draft.known;
   numbers = [];
-  places = draft.places;
 }
 
 abbrev pub leave : Option RowOf → PlainBody → Draft → Draft → Draft
@@ -367,45 +358,47 @@ leave which body draft next = record {
   late = next.late;
   known = draft.known;
   numbers = draft.numbers ++ map (closing which body next.known) next.numbers;
-  places = next.places;
 }
+
+-- What is laid after a body within, and what names have at its end.
+pub record Ended : Type 0 where
+  pub draft : Draft
+  pub own : Environment
+
+abbrev pub ended_laid : Option RowOf → PlainBody → (Draft → List Tree → Result Draft Refusal) → Draft → List Tree → Result Ended Refusal
+ended_laid which body lay_fields draft values =
+    lay_fields (enter which body values draft) values >>= λ next. Ok (record { draft = leave which body draft next; own = next.known })
 
 abbrev pub inside_laid : Option RowOf → PlainBody → (Draft → List Tree → Result Draft Refusal) → Draft → List Tree → Result Draft Refusal
-inside_laid which body lay_fields draft values = lay_fields (enter which body values draft) values >>= λ next. Ok (leave which body draft next)
+inside_laid which body lay_fields draft values = ended_laid which body lay_fields draft values >>= λ one. Ok one.draft
 
--- with these places of labels
-abbrev pub with_places : List ℤ → Draft → Draft
-with_places places draft = record {
-  piece = draft.piece;
-  bits = draft.bits;
-  late = draft.late;
-  known = draft.known;
-  numbers = draft.numbers;
-  places = places;
-}
+-- What is laid after the rows of an array, and what names have at the end of each of them.
+pub record AllRows : Type 0 where
+  pub draft : Draft
+  pub ends : List Environment
 
--- what is laid with places of its own, which end with it
-abbrev pub apart : (Draft → Result Draft Refusal) → Draft → Result Draft Refusal
-apart lay draft = lay (with_places [] draft) >>= λ next. Ok (with_places draft.places next)
+-- a row in front of others
+abbrev pub and_row : Ended → AllRows → AllRows
+and_row one others = record { draft = others.draft; ends = one.own ∷ others.ends }
 
 -- rows one after the other, of which the first has this number
-abbrev pub rows_laid : (ℕ → Draft → List Tree → Result Draft Refusal) → ℕ → Draft → List (List Tree) → Result Draft Refusal
-rows_laid row number draft [] = Ok draft
-rows_laid row number draft (line ∷ lines) = row number draft line >>= λ next. rows_laid row (number + 1) next lines
+abbrev pub rows_laid : (ℕ → Draft → List Tree → Result Ended Refusal) → ℕ → Draft → List (List Tree) → Result AllRows Refusal
+rows_laid row number draft [] = Ok (record { draft = draft; ends = [] })
+rows_laid row number draft (line ∷ lines) =
+    row number draft line >>= λ one. rows_laid row (number + 1) one.draft lines >>= λ others. Ok (and_row one others)
 
--- after all rows of an array the labels in them have their places
-abbrev pub behind_rows : PlainBody → ℕ → Draft → Draft
-behind_rows row count draft = record {
-  piece = draft.piece;
-  bits = draft.bits;
-  late = draft.late;
-  known = also_rows row count draft.places draft.known;
-  numbers = draft.numbers;
-  places = draft.places;
+-- after all rows of an array the labels in them have the places that they have in each
+abbrev pub behind_rows : PlainBody → AllRows → Draft
+behind_rows row rows = record {
+  piece = rows.draft.piece;
+  bits = rows.draft.bits;
+  late = rows.draft.late;
+  known = also_rows row rows.ends rows.draft.known;
+  numbers = rows.draft.numbers;
 }
 
-abbrev pub array_laid : (ℕ → Draft → List Tree → Result Draft Refusal) → PlainBody → List (List Tree) → Draft → Result Draft Refusal
-array_laid lay row lines draft = rows_laid lay 1 draft lines >>= λ next. Ok (behind_rows row (length lines) next)
+abbrev pub array_laid : (ℕ → Draft → List Tree → Result Ended Refusal) → PlainBody → List (List Tree) → Draft → Result Draft Refusal
+array_laid lay row lines draft = rows_laid lay 1 draft lines >>= λ rows. Ok (behind_rows row rows)
 
 abbrev mutual
   pub field_laid : Facts → Draft → PlainField → Option Tree → Result Draft Refusal
@@ -416,14 +409,14 @@ abbrev mutual
   field_laid known draft (Align unit) value = pieces_laid known draft (Align unit) value
   field_laid known draft (Label name) value = pieces_laid known draft (Label name) value
   field_laid known draft (Array name count row) value =
-      apart (array_laid (λ number. inside_laid (row_of name number) row (λ inner line. body_laid known inner row line)) row (rows_in value)) draft
+      array_laid (λ number. ended_laid (row_of name number) row (λ inner line. body_laid known inner row line)) row (rows_in value) draft
   field_laid known draft (Switch cases) value = case_laid known draft cases value
 
   -- the fields of the case that is chosen
   pub case_laid : Facts → Draft → PlainCases → Option Tree → Result Draft Refusal
   case_laid known draft no_cases value = Ok draft
   case_laid known draft (case_and name row others) value =
-      if is_case name value then apart (λ inner. inside_laid None row (λ inner line. body_laid known inner row line) inner (line_in value)) draft
+      if is_case name value then inside_laid None row (λ inner line. body_laid known inner row line) draft (line_in value)
       else case_laid known draft others value
 
   -- the fields of a body, seen with its own names
@@ -436,9 +429,16 @@ abbrev mutual
 abbrev pub row_laid : Facts → Option RowOf → PlainBody → Draft → List Tree → Result Draft Refusal
 row_laid known which row draft line = inside_laid which row (λ inner line. body_laid known inner row line) draft line
 
+-- the same with what names have at its end
+abbrev pub row_ended : Facts → Option RowOf → PlainBody → Draft → List Tree → Result Ended Refusal
+row_ended known which row draft line = ended_laid which row (λ inner line. body_laid known inner row line) draft line
+
 -- the rows of an array
-abbrev pub rows_apart : Facts → Option Word → PlainBody → List (List Tree) → Draft → Result Draft Refusal
-rows_apart known name row lines draft = apart (array_laid (λ number. row_laid known (row_of name number) row) row lines) draft
+abbrev pub each_laid : Facts → Option Word → PlainBody → List (List Tree) → Draft → Result AllRows Refusal
+each_laid known name row lines draft = rows_laid (λ number. row_ended known (row_of name number) row) 1 draft lines
+
+abbrev pub all_laid : Facts → Option Word → PlainBody → List (List Tree) → Draft → Result Draft Refusal
+all_laid known name row lines draft = array_laid (λ number. row_ended known (row_of name number) row) row lines draft
 
 -- The second pass.
 

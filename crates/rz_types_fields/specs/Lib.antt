@@ -13,6 +13,7 @@ pub mod Piece
 pub mod Passed
 pub mod RowLabels
 pub mod Front
+pub mod FlatRows
 pub mod Row
 pub mod Sees
 pub mod Spells

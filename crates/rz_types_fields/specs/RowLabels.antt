@@ -1,9 +1,9 @@
 -- Rows of arrays by their numbers, and the labels that stand directly in them.
-use Rattle.std.specs.Prelude.{ℕ, ◌+◌, ◌-◌, ◌*◌, ℤ, pos, nat_abs, int_le, Bool, false, ◌&&◌, if◌then◌else◌, List, [], ◌∷◌, slice_get, Option, Some, None, option_map}
+use Rattle.std.specs.Prelude.{ℕ, zero, suc, ℤ, pos, negsuc, Bool, false, if◌then◌else◌, List, length, slice_get, Option, Some, None, option_and_then, option_map}
 use Rattle.rz_core.specs.declared.resource.Word.{Word}
 use Rattle.rz_expr.specs.Environment.{place_in, place_of, row_key, rows_of, Environment, Key}
-use Rattle.rz_types_fields.specs.Field.{field_and, no_fields, Label, PlainBody, PlainField}
-use Rattle.rz_types_fields.specs.Passed.{gives_rows, is_label}
+use Rattle.rz_types_fields.specs.Field.{PlainBody}
+use Rattle.rz_types_fields.specs.Passed.{gives_rows}
 use Rattle.rz_types_fields.specs.Solve.{is_same_key}
 
 -- Numbers of rows.
@@ -31,33 +31,19 @@ row_number which = option_map (λ row. pos row.number) which
 
 -- Labels in rows.
 
-abbrev pub label_count : PlainField → ℕ
-label_count (Label name) = 1
-label_count field = 0
+-- what names have at the end of the row of this number, from 1, where there is one
+abbrev pub row_end : List Environment → ℤ → Option Environment
+row_end ends (pos zero) = None
+row_end ends (pos (suc before)) = slice_get ends before
+row_end ends (negsuc n) = None
 
--- the place of a label, where the field is one
-abbrev pub label_places : PlainField → ℕ → List ℤ
-label_places (Label name) at = pos at ∷ []
-label_places field at = []
-
--- how many labels stand directly in a body
-abbrev pub labels_count : PlainBody → ℕ
-labels_count no_fields = 0
-labels_count (field_and field fields) = label_count field + labels_count fields
-
--- how many of them stand before the first of this name
-abbrev pub label_index : PlainBody → List ℕ → ℕ
-label_index no_fields label = 0
-label_index (field_and field fields) label = if is_label field (place_of label) then 0 else label_count field + label_index fields label
-
--- what so many rows give a key, where these are the places of the labels in all of them, row by row: a label in them the number
--- of the rows, and its place in each
-abbrev pub row_value : PlainBody → ℕ → List ℤ → Key → Option ℤ
-row_value row count places (rows_of label) = Some (pos count)
-row_value row count places (place_in label number) =
-    if int_le (pos 1) number && int_le number (pos count) then slice_get places ((nat_abs number - 1) * labels_count row + label_index row label) else None
-row_value row count places key = None
+-- what rows give a key, where names have these values at the end of each of them: a label in them the number of the rows, and by
+-- the number of a row the place that it has in it
+abbrev pub rows_give : List Environment → Key → Option ℤ
+rows_give ends (rows_of label) = Some (pos (length ends))
+rows_give ends (place_in label number) = option_and_then (λ own. own.give (place_of label)) (row_end ends number)
+rows_give ends key = None
 
 -- after the rows of an array the labels in them have these values, and every other name what it has
-abbrev pub also_rows : PlainBody → ℕ → List ℤ → Environment → Environment
-also_rows row count places names = record { give = λ key. if gives_rows row key then row_value row count places key else names.give key }
+abbrev pub also_rows : PlainBody → List Environment → Environment → Environment
+also_rows row ends names = record { give = λ key. if gives_rows row key then rows_give ends key else names.give key }

@@ -48,7 +48,7 @@ pub use hints::{CaseHints, switch_of};
 pub use keys::{CaseKey, case_keys, key_bits};
 pub use name_key::{declares, gives_key, is_label, is_predefined, is_same_key, states};
 pub use names::{InRow, Note, note_front, note_rows};
-pub use notes::{NamesEnv, Notes, is_met, value_noted};
+pub use notes::{NamesEnv, Notes, is_met, is_noted, value_noted};
 pub use place::{TextPlace, may_say, may_stand};
 pub use range::{fits_number, may_be_size, own_width};
 pub use solve::{Standing, standing_of};

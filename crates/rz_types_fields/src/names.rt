@@ -1,15 +1,16 @@
 //! Notes of what is known of names: the numbers of rows, the places of labels, and the names that a body hides. They stand in a
 //! list, in `notes`, of which the newest that speaks of a name counts.
 
-ghost use Rattle.std.specs.Prelude.{◌≡◌, OnOk, if◌then◌else◌};
+ghost use Rattle.std.specs.Prelude.{List, OnOk, if◌then◌else◌, length, ◌≡◌};
 ghost use Rattle.std.specs.Str.{str_to_ascii_lowercase};
-ghost use Rattle.rz_expr.specs.Environment.{place_in_key};
+ghost use Rattle.rz_expr.specs.Environment.{place_in_key, Environment};
 ghost use Rattle.rz_expr.specs.NameKey.{key_of};
 ghost use Rattle.rz_types_fields.specs.Field.{plain_array, plain_body, plain_field};
 ghost use Rattle.rz_types_fields.specs.Front.{stated_by, stated_in};
 ghost use Rattle.rz_types_fields.specs.Known.{said, speaks, which_of, Adds, AreRowsNoted, Hides, IsFront, Tells};
 ghost use Rattle.rz_types_fields.specs.Passed.{declares, gives_key};
-ghost use Rattle.rz_types_fields.specs.RowLabels.{is_row, label_count, label_index, labels_count, row_number, row_value};
+ghost use Rattle.rz_types_fields.specs.FlatRows.{label_count, label_index, labels_count, row_value, AllPlacesAre};
+ghost use Rattle.rz_types_fields.specs.RowLabels.{is_row, row_number};
 
 use crate::name_key::{counts_rows, gives_rows, is_label, is_same_key, stands_at};
 use crate::notes::Notes;

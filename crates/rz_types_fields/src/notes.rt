@@ -1,10 +1,10 @@
 //! The list of notes with the positions at which they stand, by what they speak of. What is held is in `specs/Newest`.
 
 ghost use Rattle.std.specs.Prelude.{◌≡◌, ◌-◌, ◌==◌, ℕ, [], ◌∷◌, ◌++◌, length, if◌then◌else◌, drop, take, None, OnErr, OnOk, option_map};
+ghost use Rattle.std.specs.Option.{is_some};
 ghost use Rattle.std.specs.Str.{str_to_ascii_lowercase};
-ghost use Rattle.rz_expr.specs.Environment.{IsSeenIn};
 ghost use Rattle.rz_expr.specs.NameKey.{key_of};
-ghost use Rattle.rz_types_fields.specs.Known.{known, met};
+ghost use Rattle.rz_types_fields.specs.Known.{known, met, noted};
 ghost use Rattle.rz_types_fields.specs.Newest.{code_from, code_of, has_code, heard, held, meets, newest, note_code, AreHeld};
 ghost use Rattle.rz_types_fields.specs.Positions.{positions};
 ghost use Rattle.rz_types_fields.specs.Value.{no_bits, see};
@@ -159,6 +159,16 @@ pub fn is_met(notes: &Notes<'_>, key: Key<'_>) -> bool
     match notes.newest(key, false) {
         Some(note) => meets(note),
         None => value_outside(key).is_some(),
+    }
+}
+
+/// Whether the notes alone say a value of a key.
+pub fn is_noted(notes: &Notes<'_>, key: Key<'_>) -> bool
+    ensures { result ≡ is_some (noted None notes.now.items (key_of key.entry)) }
+{
+    match notes.newest(key, true) {
+        Some(note) => said(note, key).is_some(),
+        None => false,
     }
 }
 
@@ -322,8 +332,6 @@ pub struct NamesEnv<'a> {
 impl Env for NamesEnv<'_> {
     ghost view = { λ env. see env.facts.now no_bits (known env.notes.now.items) };
 
-    ghost belongs = { λ env finished. IsSeenIn (see env.facts.now no_bits (known env.notes.now.items)) finished };
-
     fn give(&self, key: Key<'_>) -> Option<i128> {
         value_noted(self.notes, key)
     }
@@ -335,6 +343,4 @@ impl Env for NamesEnv<'_> {
     fn fact(&self, which: FactWord) -> i32 {
         fact_of(self.facts, which)
     }
-
-    ghost law = { λ env finished seen. seen };
 }

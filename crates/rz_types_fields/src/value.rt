@@ -1,7 +1,6 @@
 //! What an expression of a field sees, and its value or first fault. See `specs/Value`.
 
 ghost use Rattle.std.specs.Prelude.{◌≡◌, ◌<◌, ℕ, true};
-ghost use Rattle.std.proofs.Common.{rules};
 ghost use Rattle.rz_core.specs.Message.{IsNameable};
 ghost use Rattle.rz_core.specs.Stop.{Gives, OnFault};
 ghost use Rattle.rz_expr.specs.Constant.{is_constant};
@@ -29,8 +28,6 @@ pub struct FieldEnv<'a> {
 impl Env for FieldEnv<'_> {
     ghost view = { λ env. field_sight env.facts.now env.symbols.now };
 
-    ghost belongs = { λ env finished. finished ≡ field_sight env.facts.now env.symbols.now };
-
     fn give(&self, key: Key<'_>) -> Option<i128> {
         match key {
             Key::Place(name) => match self.symbols.value_of(name) {
@@ -48,8 +45,6 @@ impl Env for FieldEnv<'_> {
     fn fact(&self, which: FactWord) -> i32 {
         fact_of(self.facts, which)
     }
-
-    ghost law = { Prim.search rules };
 }
 
 /// Whether an expression may stand in the head of a new resource: it has no names but `true` and `false`, and of the

@@ -13,7 +13,6 @@ use Rattle.rz_types_fields.specs.Piece.{Filler, Place}
 use Rattle.rz_types_fields.specs.Shape.{are_shaped, is_shaped}
 use Rattle.rz_types_fields.specs.Spells.{plainly, values_for, BodySpells, FieldSpells}
 use Rattle.rz_types_fields.specs.Width.{fixed_width}
-use Rattle.rz_types_fields.proofs.RowPlaces.{FieldStands}
 use Rattle.rz_types_fields.proofs.SameNames.{key_is}
 use Rattle.rz_unlay_pieces.specs.Ahead.{behind_measured, label_place, near_place, place_within, told_label, wider, Told}
 use Rattle.rz_unlay.proofs.Ahead.{Ahead, HasPlaces}
@@ -74,17 +73,6 @@ module _ (known : Facts) (all : List Bool) (env : Environment) (has : HasPlaces 
       sym (ap env.give (key_is (place_key name.bytes) key is)) ∙ (label_stands name passed value at late after late_after it).is
   label_is (Array name count row) passed value at late after late_after it key is = absurd cc
   label_is (Switch cases) passed value at late after late_after it key is = absurd cc
-
-  pub field_stands : (field : PlainField) (passed : Passed) (value : Option Tree) (at : ℕ) (late : List Bool) (after : ℕ) (late_after : List Bool)
-      → FieldSpells plainly known all field env passed value at late after late_after → FieldStands field env at
-  field_stands (Number number) passed value at late after late_after it = tt
-  field_stands (Text text) passed value at late after late_after it = tt
-  field_stands (Points points) passed value at late after late_after it = tt
-  field_stands (Fill unit count) passed value at late after late_after it = tt
-  field_stands (Align unit) passed value at late after late_after it = tt
-  field_stands (Label name) passed value at late after late_after it = (label_stands name passed value at late after late_after it).is
-  field_stands (Array name count row) passed value at late after late_after it = tt
-  field_stands (Switch cases) passed value at late after late_after it = tt
 
   -- only a label gives a place
   gives_label : (field : PlainField) (name : List ℕ) → gives_key field (place_of name) ≡ true → is_label field (place_of name) ≡ true

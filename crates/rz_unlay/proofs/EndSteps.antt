@@ -40,7 +40,7 @@ none_of true d is = is
 none_of false d is = refl
 
 abbrev line_is : Found → Line
-line_is f = record { row = f.row; places = f.places; after = f.after; late = f.late }
+line_is f = record { row = f.row; own = f.names; after = f.after; late = f.late }
 
 module _ (all : List Bool) where
   by_end : (f : Found) (line : Line) → line ≡ line_is f → line.after ≤ length all → values_in line.row ≤ 1048576

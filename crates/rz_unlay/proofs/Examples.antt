@@ -1,5 +1,5 @@
 use Rattle.std.proofs.Common.{◌≡◌, refl, ℕ, ℤ, pos, List, [], ◌∷◌, ◌++◌, Option, Some, None, true, false}
-use Rattle.std.specs.Prelude.{codes, replicate}
+use Rattle.std.specs.Prelude.{codes, map, option_map, replicate}
 use Rattle.rz_core.specs.declared.facts.Facts.{Facts}
 use Rattle.rz_core.specs.declared.resource.Word.{Word}
 use Rattle.rz_expr.specs.Term.{BitsAt, Constant, Indexed, Named, OfTwo, RowNumber, RowsOf, Term}
@@ -7,7 +7,9 @@ use Rattle.rz_expr.specs.declared.expr.BinaryOp.TheVariants as two
 use Rattle.std.specs.Int.{int_wrap}
 use Rattle.rz_bits.specs.Bits.{bits_of, number_bits}
 use Rattle.rz_types.specs.Passed.{at_front, nothing_passed, outside}
-use Rattle.rz_unlay.specs.Cursor.{body_found, line_of, reading, Line}
+use Rattle.rz_expr.specs.Environment.{place_key}
+use Rattle.rz_types_fields.specs.Sees.{Late}
+use Rattle.rz_unlay.specs.Cursor.{body_found, reading}
 use Rattle.rz_types_fields.specs.Front.{names_inside}
 use Rattle.rz_types_fields.specs.declared.field.NumForm.TheVariants as forms
 use Rattle.rz_types_fields.specs.declared.field.Radix.TheVariants as radixes
@@ -17,15 +19,29 @@ use Rattle.rz_types_fields.specs.declared.tree.Tree.TheVariants as trees
 use Rattle.rz_types.specs.Field.{case_and, field_and, no_cases, no_fields, Array, Label, Number, PlainBody, PlainField, Switch, Text}
 use Rattle.rz_types.specs.Text.{Plain}
 
-abbrev read : Facts → PlainBody → List ℕ → Option Line
-read known body bytes = line_of (body_found known (bits_of bytes) (at_front body nothing_passed).met body (names_inside None body outside) 0 [])
+-- a row, the places of the labels that stand directly in it, the place after it, and its late bits
+record Shown : Type 0 where
+  row : List Tree
+  places : List (Option ℤ)
+  after : ℕ
+  late : Late
 
--- a row, the places of its labels and the place after it, where no bit is late
-abbrev line_with : List ℤ → List Tree → ℕ → Option Line
-line_with places row after = Some (record { row = row; places = places; after = after; late = replicate after false })
+abbrev labels_of : PlainBody → List (List ℕ)
+labels_of no_fields = []
+labels_of (field_and (Label name) fields) = name.bytes ∷ labels_of fields
+labels_of (field_and field fields) = labels_of fields
+
+abbrev read : Facts → PlainBody → List ℕ → Option Shown
+read known body bytes =
+    option_map (λ f. record { row = f.row; places = map (λ label. f.names.give (place_key label)) (labels_of body); after = f.after; late = f.late })
+    (body_found known (bits_of bytes) (at_front body nothing_passed).met body (names_inside None body outside) 0 [])
+
+-- so where no bit is late
+abbrev line_with : List ℤ → List Tree → ℕ → Option Shown
+line_with places row after = Some (record { row = row; places = map (λ place. Some place) places; after = after; late = replicate after false })
 
 -- so without labels
-abbrev line : List Tree → ℕ → Option Line
+abbrev line : List Tree → ℕ → Option Shown
 line = line_with []
 
 abbrev number : Option Term → PlainField
@@ -113,7 +129,7 @@ ends = field_and (number (Some (bytes_to (codes "e") (codes "s"))))
 
 text_to_a_label : (known : Facts) → read known ends (0 ∷ 2 ∷ 1 ∷ 2 ∷ 0 ∷ 5 ∷ []) ≡ Some (record {
   row = trees.Text (1 ∷ 2 ∷ []) ∷ trees.Number 5 ∷ [];
-  places = pos 16 ∷ pos 32 ∷ [];
+  places = Some (pos 16) ∷ Some (pos 32) ∷ [];
   after = 48;
   late = replicate 16 true ++ replicate 32 false;
 })
@@ -132,7 +148,7 @@ rows_to_a_label : (known : Facts)
     (field_and (label (codes "s")) (field_and (Array None None (field_and (byte None) no_fields)) (field_and (label (codes "e")) (field_and (byte (Some (Constant (pos 7)))) no_fields)))))
     (0 ∷ 3 ∷ 1 ∷ 0 ∷ 2 ∷ 7 ∷ []) ≡ Some (record {
       row = trees.Rows ((trees.Number 1 ∷ []) ∷ (trees.Number 0 ∷ []) ∷ (trees.Number 2 ∷ []) ∷ []) ∷ [];
-      places = pos 16 ∷ pos 40 ∷ [];
+      places = Some (pos 16) ∷ Some (pos 40) ∷ [];
       after = 48;
       late = replicate 16 true ++ replicate 32 false;
     })
@@ -238,7 +254,7 @@ from_row = field_and (Array None (Some (pos 2)) (field_and (label (codes "g")) (
 
 text_from_row : (known : Facts) → read known from_row (170 ∷ 187 ∷ 4 ∷ 65 ∷ 66 ∷ 42 ∷ []) ≡ Some (record {
   row = trees.Rows (one_byte 170 ∷ one_byte 187 ∷ []) ∷ trees.Text (codes "AB") ∷ trees.Number 42 ∷ [];
-  places = pos 40 ∷ [];
+  places = Some (pos 40) ∷ [];
   after = 48;
   late = replicate 16 false ++ replicate 8 true ++ replicate 24 false;
 })

@@ -11,11 +11,9 @@ use Rattle.rz_types_fields.specs.declared.tree.Tree.TheFolds.{fold-roll-Tree}
 use Rattle.rz_types_fields.specs.declared.tree.Tree.TheOpen.{Tree-F}
 use Rattle.rz_types_fields.specs.declared.tree.Tree.TheVariants as trees
 use Rattle.rz_types_fields.specs.declared.tree.Tree.TheVariants.{rolls-Choice, rolls-Rows}
-use Rattle.rz_types_fields.specs.Field.{PlainField}
-use Rattle.rz_types_fields.specs.RowLabels.{label_places}
 use Rattle.rz_types_fields.specs.Spells.{count_in, count_step, put, values_in}
 use Rattle.rz_unlay.specs.Pieces.{with_value, Found}
-use Rattle.rz_unlay.specs.Cursor.{and_lines, with_label, Line, Lines}
+use Rattle.rz_unlay.specs.Cursor.{and_lines, Line, Lines}
 use Rattle.rz_unlay.specs.Rows.{pushed}
 use Rattle.rz_unlay_pieces.specs.Few.{few, value_count}
 use Rattle.rz_unlay.specs.Few.{found_count, line_count, lines_count, rows_count}
@@ -116,18 +114,13 @@ module _ {X Y : Type 0} (count : X → ℕ) (total : Y → ℕ) where
 pub value_behind : (value : Option Tree) (found : Option Found) (most more : ℕ) → more + value_count value ≡ most
     → few found_count most (with_value value found) ≡ with_value value (few found_count more found)
 value_behind value found most more is =
-    few_map found_count found_count more most (λ f. record { row = put value f.row; places = f.places; after = f.after; names = f.names; late = f.late }) found
+    few_map found_count found_count more most (λ f. record { row = put value f.row; after = f.after; names = f.names; late = f.late }) found
     (λ f le. let n = put_count value f.row in omega (arith, n, le, is)) (λ f less. let n = put_count value f.row in omega (arith, n, less, is))
 
--- the place of a label in front of them
-pub label_behind : (field : PlainField) (at : ℕ) (found : Option Found) (most : ℕ) → few found_count most (with_label field at found) ≡ with_label field at (few found_count most found)
-label_behind field at found most =
-    few_map found_count found_count most most (λ f. record { row = f.row; places = label_places field at ++ f.places; after = f.after; names = f.names; late = f.late }) found (λ f le. le) (λ f less. less)
-
-pub value_less : (field : PlainField) (at : ℕ) (value : Option Tree) (found : Option Found) (whole : Found) → with_label field at (with_value value found) ≡ Some whole → value_count value ≤ found_count whole
-value_less field at value None whole is = absurd cc
-value_less field at value (Some f) whole is =
-    let same : record { row = put value f.row; places = label_places field at ++ f.places; after = f.after; names = f.names; late = f.late } ≡ whole = some_same _ _ is in
+pub value_less : (value : Option Tree) (found : Option Found) (whole : Found) → with_value value found ≡ Some whole → value_count value ≤ found_count whole
+value_less value None whole is = absurd cc
+value_less value (Some f) whole is =
+    let same : record { row = put value f.row; after = f.after; names = f.names; late = f.late } ≡ whole = some_same _ _ is in
     subst (λ (w : Found). value_count value ≤ found_count w) same (let n = put_count value f.row in omega (arith, n))
 
 -- Rows of an array.

@@ -13,11 +13,12 @@ use Rattle.rz_types_fields.specs.declared.field.TextField.{TextField}
 use Rattle.rz_types_fields.proofs.Bodies.{body_end, body_next}
 use Rattle.rz_types_fields.specs.declared.tree.Tree.{Tree}
 use Rattle.rz_types_fields.specs.declared.tree.Tree.TheVariants as trees
-use Rattle.rz_types_fields.specs.RowLabels.{also_rows, label_places}
+use Rattle.rz_types_fields.specs.FlatRows.{AllPlacesAre, PlacesAre}
+use Rattle.rz_types_fields.specs.RowLabels.{also_rows}
 use Rattle.rz_types_fields.specs.Spells.{put, values_in}
 use Rattle.rz_types_fields.specs.Field.{field_and, plain_body, plain_field, Align, Array, Fill, Label, Number, PlainBody, PlainField, Points, Switch, Text}
-use Rattle.rz_unlay.specs.Came.{chosen, found_of, line_in, lines_in}
-use Rattle.rz_unlay.specs.Cursor.{and_lines, body_found, field_found, goes_on, is_over, line_of, no_lines, rows_over, rows_until, with_label, Line, Lines, ReadsRow}
+use Rattle.rz_unlay.specs.Came.{chosen, found_of, AreLines, IsLine}
+use Rattle.rz_unlay.specs.Cursor.{and_lines, body_found, field_found, goes_on, is_over, line_of, no_lines, rows_over, rows_until, Line, Lines, ReadsRow}
 use Rattle.rz_unlay.specs.Pieces.{field_of_pieces, with_value, met_past, Found}
 use Rattle.rz_unlay_pieces.specs.Pieces.{claim_count, here_at, Step}
 use Rattle.rz_unlay_pieces.specs.Came.{met_in, met_of}
@@ -35,27 +36,32 @@ use Rattle.rz_types_fields.specs.Sees.{marked, Late}
 use Rattle.rz_unlay_pieces.specs.Seen.{met_counted, met_in_rows}
 use Rattle.rz_unlay_pieces.specs.declared.learnt.Learnt.{Learnt}
 use Rattle.rz_unlay.specs.Rows.{pushed}
-use Rattle.rz_unlay.proofs.FewValues.{count_choice, count_rows, few_fits, first_within, label_behind, line_behind, no_line, no_more, none_behind, some_behind, some_same, value_behind, value_less}
+use Rattle.rz_unlay.proofs.FewValues.{count_choice, count_rows, few_fits, first_within, line_behind, no_line, no_more, none_behind, some_behind, some_same, value_behind, value_less}
 
 -- Fields.
 
 -- after a row that was read
-abbrev pub with_row : List Tree → List ℤ → Option Found → Option Found
-with_row row places found = option_map (λ f. record { row = row ++ f.row; places = places ++ f.places; after = f.after; names = f.names; late = f.late }) found
+abbrev pub with_row : List Tree → Option Found → Option Found
+with_row row found = option_map (λ f. record { row = row ++ f.row; after = f.after; names = f.names; late = f.late }) found
+
+pub none_before : (row : List Tree) (found : Option Found) → row ≡ [] → with_row row found ≡ found
+none_before row found none = ap (λ (r : List Tree). with_row r found) none ∙ by found
+  where
+    by : (found : Option Found) → with_row [] found ≡ found
+    by None = refl
+    by (Some f) = refl
 
 pushed_front : (row : List Tree) (value : Option Tree) (others : List Tree) → pushed row value ++ others ≡ row ++ put value others
 pushed_front row None others = refl
 pushed_front row (Some value) others = append_assoc row (value ∷ []) others
 
-pushed_row : (row : List Tree) (places : List ℤ) (field : PlainField) (at : ℕ) (value : Option Tree) (found : Option Found)
-    → with_row (pushed row value) (places ++ label_places field at) found ≡ with_row row places (with_label field at (with_value value found))
-pushed_row row places field at value None = refl
-pushed_row row places field at value (Some f) =
-    λ i. Some (record { row = pushed_front row value f.row i; places = append_assoc places (label_places field at) f.places i; after = f.after; names = f.names; late = f.late })
+pushed_row : (row : List Tree) (value : Option Tree) (found : Option Found) → with_row (pushed row value) found ≡ with_row row (with_value value found)
+pushed_row row value None = refl
+pushed_row row value (Some f) = λ i. Some (record { row = pushed_front row value f.row i; after = f.after; names = f.names; late = f.late })
 
 module _ (known : Facts) (all : List Bool) (met : Names) (fields : List Field) (i : ℕ) (field : Field) (less : i < length fields) (item : field ≡ get_or fields i field)
-    (row : List Tree) (places : List ℤ) (names : Environment) (at : ℕ) (late : Late) (most : ℕ) (total : Option Found)
-    (so : with_row row places (few found_count most (body_found known all met (plain_body (drop i fields)) names at late)) ≡ total) where
+    (row : List Tree) (names : Environment) (at : ℕ) (late : Late) (most : ℕ) (total : Option Found)
+    (so : with_row row (few found_count most (body_found known all met (plain_body (drop i fields)) names at late)) ≡ total) where
   abbrev others : PlainBody
   others = plain_body (drop (i + 1) fields)
 
@@ -66,33 +72,32 @@ module _ (known : Facts) (all : List Bool) (met : Names) (fields : List Field) (
   behind_it step = body_found known all (met_behind (plain_field field) met) others step.names step.after step.late
 
   abbrev next : Step → Option Found
-  next step = with_label (plain_field field) at (with_value step.value (behind_it step))
+  next step = with_value step.value (behind_it step)
 
-  first_is : with_row row places (few found_count most (option_and_then next this)) ≡ total
-  first_is = ap (λ (b : PlainBody). with_row row places (few found_count most (body_found known all met b names at late))) (sym (body_next fields i field less item)) ∙ so
+  first_is : with_row row (few found_count most (option_and_then next this)) ≡ total
+  first_is = ap (λ (b : PlainBody). with_row row (few found_count most (body_found known all met b names at late))) (sym (body_next fields i field less item)) ∙ so
 
   pub field_more : (more : ℕ) (step : Step) → Some step ≡ few step_count most this → more + value_count step.value ≡ most
-      → with_row (pushed row step.value) (places ++ label_places (plain_field field) at) (few found_count more (behind_it step)) ≡ total
+      → with_row (pushed row step.value) (few found_count more (behind_it step)) ≡ total
   field_more more step is left =
-      pushed_row row places (plain_field field) at step.value (few found_count more (behind_it step))
-      ∙ ap (λ (found : Option Found). with_row row places (with_label (plain_field field) at found)) (sym (value_behind step.value (behind_it step) most more left))
-      ∙ ap (with_row row places) (sym (label_behind (plain_field field) at (with_value step.value (behind_it step)) most))
-      ∙ ap (with_row row places) (sym (some_behind step_count found_count most most this step next is))
+      pushed_row row step.value (few found_count more (behind_it step))
+      ∙ ap (with_row row) (sym (value_behind step.value (behind_it step) most more left))
+      ∙ ap (with_row row) (sym (some_behind step_count found_count most most this step next is))
       ∙ first_is
 
   pub no_field : None ≡ few step_count most this → None ≡ total
   no_field none =
-      ap (with_row row places) (none_behind step_count found_count most most this next
-      (λ step whole is over. let n = value_less (plain_field field) at step.value (behind_it step) whole is in omega (arith, n, over)) none)
+      ap (with_row row) (none_behind step_count found_count most most this next
+      (λ step whole is over. let n = value_less step.value (behind_it step) whole is in omega (arith, n, over)) none)
       ∙ first_is
 
-pub fields_over : (known : Facts) (all : List Bool) (met : Names) (fields : List Field) (i : ℕ) → length fields ≤ i → (row : List Tree) (places : List ℤ) (names : Environment) (at : ℕ) (late : Late) (most : ℕ) (total : Option Found)
-    → with_row row places (few found_count most (body_found known all met (plain_body (drop i fields)) names at late)) ≡ total
-    → Some (record { row = row; places = places; after = at; names = names; late = late }) ≡ total
-fields_over known all met fields i past row places names at late most total so =
-    (λ i. Some (record { row = sym (append-nil row) i; places = sym (append-nil places) i; after = at; names = names; late = late }))
-    ∙ ap (with_row row places) (sym (few_fits found_count most (record { row = []; places = []; after = at; names = names; late = late }) (omega arith)))
-    ∙ ap (λ (b : PlainBody). with_row row places (few found_count most (body_found known all met b names at late))) (sym (body_end fields i past))
+pub fields_over : (known : Facts) (all : List Bool) (met : Names) (fields : List Field) (i : ℕ) → length fields ≤ i → (row : List Tree) (names : Environment) (at : ℕ) (late : Late) (most : ℕ) (total : Option Found)
+    → with_row row (few found_count most (body_found known all met (plain_body (drop i fields)) names at late)) ≡ total
+    → Some (record { row = row; after = at; names = names; late = late }) ≡ total
+fields_over known all met fields i past row names at late most total so =
+    (λ i. Some (record { row = sym (append-nil row) i; after = at; names = names; late = late }))
+    ∙ ap (with_row row) (sym (few_fits found_count most (record { row = []; after = at; names = names; late = late }) (omega arith)))
+    ∙ ap (λ (b : PlainBody). with_row row (few found_count most (body_found known all met b names at late))) (sym (body_end fields i past))
     ∙ so
 
 pub fits_next : (fields : List Field) (i : ℕ) (field : Field) → i < length fields → field ≡ get_or fields i field → AreFit (plain_body (drop i fields))
@@ -104,17 +109,18 @@ pub line_few : (most : ℕ) (found : Option Found) → few line_count most (line
 line_few most None = refl
 line_few most (Some f) = open_test (nat_le (values_in f.row) most)
   where
-    open_test : (test : Bool) → (if test then Some (record { row = f.row; places = f.places; after = f.after; late = f.late }) else None) ≡ line_of (if test then Some f else None)
+    open_test : (test : Bool) → (if test then Some (record { row = f.row; own = f.names; after = f.after; late = f.late }) else None) ≡ line_of (if test then Some f else None)
     open_test true = refl
     open_test false = refl
 
-pub body_line : (learnt : Learnt) (came : Option RowCame) (most : ℕ) (found : Option Found) → option_map (found_of learnt) came ≡ few found_count most found
-    → option_map (line_in learnt) came ≡ few line_count most (line_of found)
-body_line learnt came most found is = plain came ∙ ap line_of is ∙ sym (line_few most found)
-  where
-    plain : (came : Option RowCame) → option_map (line_in learnt) came ≡ line_of (option_map (found_of learnt) came)
-    plain None = refl
-    plain (Some c) = refl
+pub body_line : (body : PlainBody) (learnt : Learnt) (came : Option RowCame) (most : ℕ) (found : Option Found) → option_map (found_of learnt) came ≡ few found_count most found
+    → IfSome came (λ r. PlacesAre (known learnt.notes.items) body r.places.items) → IsLine body learnt.marks came (few line_count most (line_of found))
+body_line body learnt None most found is are = ap line_of is ∙ sym (line_few most found)
+body_line body learnt (Some c) most found is are = (known learnt.notes.items, ap line_of is ∙ sym (line_few most found), are)
+
+-- the same row that came
+pub is_line : (body : PlainBody) (marks : List Bool) (one other : Option RowCame) (found : Option Line) → one ≡ other → IsLine body marks one found → IsLine body marks other found
+is_line body marks one other found is it = subst (λ (came : Option RowCame). IsLine body marks came found) is it
 
 -- A field without fields within it.
 
@@ -169,90 +175,98 @@ spent_late learnt (Some m) after is = ap (λ n. Some (met_in (known learnt.notes
 -- Rows.
 
 -- after rows that were read
-abbrev pub with_lines : List (List Tree) → List ℤ → Option Lines → Option Lines
-with_lines rows places lines = option_map (λ l. record { rows = rows ++ l.rows; places = places ++ l.places; after = l.after; late = l.late }) lines
+abbrev pub with_lines : List (List Tree) → List Environment → Option Lines → Option Lines
+with_lines rows ends lines = option_map (λ l. record { rows = rows ++ l.rows; ends = ends ++ l.ends; after = l.after; late = l.late }) lines
 
 pub no_lines_before : (lines : Option Lines) → with_lines [] [] lines ≡ lines
 no_lines_before None = refl
 no_lines_before (Some l) = refl
 
-pushed_lines : (rows : List (List Tree)) (places : List ℤ) (line : Line) (lines : Option Lines)
-    → with_lines (rows ++ line.row ∷ []) (places ++ line.places) lines ≡ with_lines rows places (option_map (and_lines line) lines)
-pushed_lines rows places line None = refl
-pushed_lines rows places line (Some l) =
-    λ i. Some (record { rows = append_assoc rows (line.row ∷ []) l.rows i; places = append_assoc places line.places l.places i; after = l.after; late = l.late })
+-- before the first
+pub rows_start : (body : PlainBody) (rows : List (List Tree)) (places : List ℤ) (lines : Option Lines) → rows ≡ [] → places ≡ [] → (ends : List Environment) × AllPlacesAre body ends places × (with_lines rows ends lines ≡ lines)
+rows_start body rows places lines none nowhere = ([], nowhere, ap (λ (rs : List (List Tree)). with_lines rs [] lines) none ∙ no_lines_before lines)
+
+pushed_lines : (rows : List (List Tree)) (ends : List Environment) (line : Line) (lines : Option Lines)
+    → with_lines (rows ++ line.row ∷ []) (ends ++ line.own ∷ []) lines ≡ with_lines rows ends (option_map (and_lines line) lines)
+pushed_lines rows ends line None = refl
+pushed_lines rows ends line (Some l) =
+    λ i. Some (record { rows = append_assoc rows (line.row ∷ []) l.rows i; ends = append_assoc ends (line.own ∷ []) l.ends i; after = l.after; late = l.late })
 
 -- no rows more
-none_left : (rows : List (List Tree)) (places : List ℤ) (at : ℕ) (late : Late) (most : ℕ)
-    → Some (record { rows = rows; places = places; after = at; late = late }) ≡ with_lines rows places (few lines_count most (Some (no_lines at late)))
-none_left rows places at late most =
-    (λ i. Some (record { rows = sym (append-nil rows) i; places = sym (append-nil places) i; after = at; late = late }))
-    ∙ ap (with_lines rows places) (sym (few_fits lines_count most (no_lines at late) (omega arith)))
+none_left : (rows : List (List Tree)) (ends : List Environment) (at : ℕ) (late : Late) (most : ℕ)
+    → Some (record { rows = rows; ends = ends; after = at; late = late }) ≡ with_lines rows ends (few lines_count most (Some (no_lines at late)))
+none_left rows ends at late most =
+    (λ i. Some (record { rows = sym (append-nil rows) i; ends = sym (append-nil ends) i; after = at; late = late }))
+    ∙ ap (with_lines rows ends) (sym (few_fits lines_count most (no_lines at late) (omega arith)))
 
-module _ (row : ReadsRow) (until : Until) (rows : List (List Tree)) (places : List ℤ) (total : Option Lines) where
+module _ (row : ReadsRow) (until : Until) (rows : List (List Tree)) (ends : List Environment) (total : Option Lines) where
   abbrev rest : ℕ → ℕ → Line → Option Lines
   rest n done line = rows_until row until n (done + 1) line.after line.late
 
   abbrev by_test : ℕ → ℕ → ℕ → Late → ℕ → Bool → Option Lines
   by_test n done at late most test =
-      with_lines rows places (few lines_count most (if test then option_and_then (λ line. option_map (and_lines line) (rest n done line)) (row (done + 1) at late) else rows_over until done at late))
+      with_lines rows ends (few lines_count most (if test then option_and_then (λ line. option_map (and_lines line) (rest n done line)) (row (done + 1) at late) else rows_over until done at late))
 
   pub row_more : (n done at : ℕ) (late : Late) (most more : ℕ) (line : Line) → 0 < n → 0 < most → goes_on until done at ≡ true
       → Some line ≡ few line_count (most - 1) (row (done + 1) at late) → more + values_in line.row ≡ most - 1
-      → with_lines rows places (few lines_count most (rows_until row until n done at late)) ≡ total
-      → with_lines (rows ++ line.row ∷ []) (places ++ line.places) (few lines_count more (rows_until row until (n - 1) (done + 1) line.after line.late)) ≡ total
+      → with_lines rows ends (few lines_count most (rows_until row until n done at late)) ≡ total
+      → with_lines (rows ++ line.row ∷ []) (ends ++ line.own ∷ []) (few lines_count more (rows_until row until (n - 1) (done + 1) line.after line.late)) ≡ total
   row_more zero done at late most more line some left test is sum so = absurd (omega arith)
   row_more (suc n) done at late most more line some left test is sum so =
       let e : suc n - 1 ≡ n = omega arith in
-      ap (λ k. with_lines (rows ++ line.row ∷ []) (places ++ line.places) (few lines_count more (rest k done line))) e
-      ∙ pushed_lines rows places line (few lines_count more (rest n done line))
-      ∙ ap (with_lines rows places) (sym (line_behind (row (done + 1) at late) (rest n done) most more line left is sum))
+      ap (λ k. with_lines (rows ++ line.row ∷ []) (ends ++ line.own ∷ []) (few lines_count more (rest k done line))) e
+      ∙ pushed_lines rows ends line (few lines_count more (rest n done line))
+      ∙ ap (with_lines rows ends) (sym (line_behind (row (done + 1) at late) (rest n done) most more line left is sum))
       ∙ ap (by_test n done at late most) (sym test)
       ∙ so
 
   pub no_row : (n done at : ℕ) (late : Late) (most : ℕ) → 0 < n → 0 < most → goes_on until done at ≡ true → None ≡ few line_count (most - 1) (row (done + 1) at late)
-      → with_lines rows places (few lines_count most (rows_until row until n done at late)) ≡ total → None ≡ total
+      → with_lines rows ends (few lines_count most (rows_until row until n done at late)) ≡ total → None ≡ total
   no_row zero done at late most some left test none so = absurd (omega arith)
   no_row (suc n) done at late most some left test none so =
-      ap (with_lines rows places) (no_line (row (done + 1) at late) (rest n done) most left none) ∙ ap (by_test n done at late most) (sym test) ∙ so
+      ap (with_lines rows ends) (no_line (row (done + 1) at late) (rest n done) most left none) ∙ ap (by_test n done at late most) (sym test) ∙ so
 
   pub rows_out : (n done at : ℕ) (late : Late) (most : ℕ) → 0 < n → most ≡ 0 → goes_on until done at ≡ true
-      → with_lines rows places (few lines_count most (rows_until row until n done at late)) ≡ total → None ≡ total
+      → with_lines rows ends (few lines_count most (rows_until row until n done at late)) ≡ total → None ≡ total
   rows_out zero done at late most some out test so = absurd (omega arith)
   rows_out (suc n) done at late most some out test so =
-      ap (with_lines rows places) (no_more (row (done + 1) at late) (rest n done) most out) ∙ ap (by_test n done at late most) (sym test) ∙ so
+      ap (with_lines rows ends) (no_more (row (done + 1) at late) (rest n done) most out) ∙ ap (by_test n done at late most) (sym test) ∙ so
 
   rows_stop : (n done at : ℕ) (late : Late) (most : ℕ) → (n ≡ 0) ⊎ (goes_on until done at ≡ false)
-      → with_lines rows places (few lines_count most (rows_until row until n done at late)) ≡ total
-      → with_lines rows places (few lines_count most (rows_over until done at late)) ≡ total
+      → with_lines rows ends (few lines_count most (rows_until row until n done at late)) ≡ total
+      → with_lines rows ends (few lines_count most (rows_over until done at late)) ≡ total
   rows_stop zero done at late most stops so = so
   rows_stop (suc n) done at late most (inl none) so = absurd (omega (arith, none))
   rows_stop (suc n) done at late most (inr test) so = ap (by_test n done at late most) (sym test) ∙ so
 
+-- the same rows that came
+pub are_lines : (body : PlainBody) (marks : List Bool) (one other : Option RowsCame) (found : Option Lines) → one ≡ other → AreLines body marks one found → AreLines body marks other found
+are_lines body marks one other found is it = subst (λ (came : Option RowsCame). AreLines body marks came found) is it
+
 -- rows that don't go on are all that are read, where they end as they must
-pub rows_ended : (row : ReadsRow) (until : Until) (learnt : Learnt) (came : RowsCame) (n : ℕ) (total : Option Lines) → (n ≡ 0) ⊎ (goes_on until (length came.rows) came.after ≡ false)
-    → with_lines came.rows came.places.items (few lines_count came.left (rows_until row until n (length came.rows) came.after (marked came.after learnt.marks))) ≡ total
-    → option_map (lines_in learnt) (if is_over until (length came.rows) came.after then Some came else None) ≡ total
-rows_ended row until learnt came n total stops so =
-    by (is_over until (length came.rows) came.after) ∙ rows_stop row until came.rows came.places.items total n (length came.rows) came.after (marked came.after learnt.marks) came.left stops so
+pub rows_ended : (body : PlainBody) (row : ReadsRow) (until : Until) (marks : List Bool) (came : RowsCame) (n : ℕ) (total : Option Lines) → (n ≡ 0) ⊎ (goes_on until (length came.rows) came.after ≡ false)
+    → (ends : List Environment) → AllPlacesAre body ends came.places.items → with_lines came.rows ends (few lines_count came.left (rows_until row until n (length came.rows) came.after (marked came.after marks))) ≡ total
+    → AreLines body marks (if is_over until (length came.rows) came.after then Some came else None) total
+rows_ended body row until marks came n total stops ends are so =
+    by (is_over until (length came.rows) came.after) (rows_stop row until came.rows ends total n (length came.rows) came.after (marked came.after marks) came.left stops so)
   where
-    by : (test : Bool) → option_map (lines_in learnt) (if test then Some came else None)
-        ≡ with_lines came.rows came.places.items (few lines_count came.left (if test then Some (no_lines came.after (marked came.after learnt.marks)) else None))
-    by true = none_left came.rows came.places.items came.after (marked came.after learnt.marks) came.left
-    by false = refl
+    by : (test : Bool) → with_lines came.rows ends (few lines_count came.left (if test then Some (no_lines came.after (marked came.after marks)) else None)) ≡ total
+        → AreLines body marks (if test then Some came else None) total
+    by true is = (ends, none_left came.rows ends came.after (marked came.after marks) came.left ∙ is, are)
+    by false is = is
 
 -- Arrays.
 
 module _ (name : Option Word) (row : PlainBody) (names : Environment) (lines : Option Lines) (most : ℕ) where
   -- after the rows
   abbrev rows_step : Lines → Environment → Step
-  rows_step l more = record { value = Some (trees.Rows l.rows); after = l.after; names = also_rows row (length l.rows) l.places more; late = l.late }
+  rows_step l more = record { value = Some (trees.Rows l.rows); after = l.after; names = also_rows row l.ends more; late = l.late }
 
   abbrev pub array_step : Lines → Option Step
   array_step l = option_map (λ more. rows_step l more) (claim_count name (length l.rows) names)
 
   pub array_came : (came : Lines) (more : Environment) → Some came ≡ few lines_count most lines → Some more ≡ claim_count name (length came.rows) names
-      → Some (record { value = Some (trees.Rows came.rows); after = came.after; names = also_rows row (length came.rows) came.places more; late = came.late })
+      → Some (record { value = Some (trees.Rows came.rows); after = came.after; names = also_rows row came.ends more; late = came.late })
       ≡ few step_count most (option_and_then array_step lines)
   array_came came more is claimed =
       let fits = (first_within lines_count most lines came is).1 in

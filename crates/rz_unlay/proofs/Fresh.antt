@@ -1,17 +1,14 @@
 -- What arrays ahead in a body give by the labels in their rows isn't known before them.
-use Rattle.std.proofs.Common.{◌≡◌, ℕ, ℤ, true, false, List, Option, Some, None, refl, sym, ◌∙◌}
+use Rattle.std.proofs.Common.{◌≡◌, ℤ, true, false, List, Option, Some, None, refl, sym, ◌∙◌}
 use Rattle.std.specs.Prelude.{if◌then◌else◌}
 use Rattle.rz_core.proofs.Tests.{by_test, true_false}
 use Rattle.rz_core.specs.declared.resource.Word.{Word}
 use Rattle.rz_expr.specs.Environment.{count_of, place_in, place_of, row_in, rows_of, Environment, IsPartOf, Key}
-use Rattle.rz_types.proofs.OwnNames.{apart_field}
-use Rattle.rz_types.specs.Kept.{AreOwn}
-use Rattle.rz_types.specs.Walk.{names_of}
 use Rattle.rz_types_fields.proofs.RowKeys.{labelled_none, no_stated, place_in_none, undeclared}
-use Rattle.rz_types_fields.specs.Field.{field_and, Array, PlainBody, PlainField}
+use Rattle.rz_types_fields.specs.Field.{field_and, Array, PlainBody}
 use Rattle.rz_types_fields.specs.Front.{names_inside, stated_in, value_inside}
 use Rattle.rz_types_fields.specs.Passed.{declares, gives_count, gives_key, gives_rows}
-use Rattle.rz_types_fields.specs.RowLabels.{also_rows, is_row, row_number, row_value, RowOf}
+use Rattle.rz_types_fields.specs.RowLabels.{also_rows, is_row, row_number, rows_give, RowOf}
 use Rattle.rz_unlay.proofs.Asked.{of_rows}
 use Rattle.rz_unlay.proofs.ReadsTests.{if_false, if_true, left_true, none_is, right_true}
 
@@ -41,13 +38,6 @@ fresh_front which body names = record { none = front }
 
 -- After a field.
 
--- what changes no names of rows leaves them unknown
-pub fresh_others : (field : PlainField) (fields : PlainBody) (names more : Environment) → ((key : Key) → of_rows key ≡ true → more.give key ≡ names.give key)
-    → Fresh (field_and field fields) names → Fresh fields more
-fresh_others field fields names more same fresh = record {
-  none = λ key of later. same key of ∙ fresh.none key of (right_true (gives_key field key) (declares fields key) later);
-}
-
 rows_of_rows : (row : PlainBody) (key : Key) → gives_rows row key ≡ true → of_rows key ≡ true
 rows_of_rows row (place_of name) gives = absurd (true_false (sym gives))
 rows_of_rows row (count_of name) gives = absurd (true_false (sym gives))
@@ -67,27 +57,13 @@ rows_unknown name count row fields names fresh key gives =
     fresh.none key (rows_of_rows row key gives)
     (left_true (gives_key (Array name count row) key) (declares fields key) (right_true (gives_count name key) (gives_rows row key) gives))
 
-pub fresh_rows : (name : Option Word) (count : Option ℤ) (row fields : PlainBody) (rows : ℕ) (places : List ℤ) (names more : Environment) → AreOwn (names_of (field_and (Array name count row) fields))
-    → ((key : Key) → of_rows key ≡ true → more.give key ≡ names.give key) → Fresh (field_and (Array name count row) fields) names → Fresh fields (also_rows row rows places more)
-fresh_rows name count row fields rows places names more own same fresh = record {
-  none = λ key of later.
-      if_false (gives_rows row key) (row_value row rows places key) (more.give key) (no_row key later)
-      ∙ same key of ∙ fresh.none key of (right_true (gives_key (Array name count row) key) (declares fields key) later);
-}
-  where
-    no_row : (key : Key) → declares fields key ≡ true → gives_rows row key ≡ false
-    no_row key later =
-        by_test (gives_rows row key ≡ false) (gives_rows row key)
-        (λ gives. absurd (true_false (sym later ∙ apart_field (Array name count row) fields own key (right_true (gives_count name key) (gives_rows row key) gives))))
-        (λ none. none)
-
 -- so what is known stays known after the rows
-pub rows_kept : (row : PlainBody) (rows : ℕ) (places : List ℤ) (names more : Environment) → ((key : Key) → gives_rows row key ≡ true → names.give key ≡ None) → IsPartOf names more
-    → IsPartOf names (also_rows row rows places more)
-rows_kept row rows places names more unknown part = record { give = kept }
+pub rows_kept : (row : PlainBody) (ends : List Environment) (names more : Environment) → ((key : Key) → gives_rows row key ≡ true → names.give key ≡ None) → IsPartOf names more
+    → IsPartOf names (also_rows row ends more)
+rows_kept row ends names more unknown part = record { give = kept }
   where
-    kept : (key : Key) (value : ℤ) → names.give key ≡ Some value → (also_rows row rows places more).give key ≡ Some value
+    kept : (key : Key) (value : ℤ) → names.give key ≡ Some value → (also_rows row ends more).give key ≡ Some value
     kept key value is =
-        by_test ((also_rows row rows places more).give key ≡ Some value) (gives_rows row key)
+        by_test ((also_rows row ends more).give key ≡ Some value) (gives_rows row key)
         (λ gives. absurd (none_is value (sym (unknown key gives) ∙ is)))
-        (λ other. if_false (gives_rows row key) (row_value row rows places key) (more.give key) other ∙ part.give key value is)
+        (λ other. if_false (gives_rows row key) (rows_give ends key) (more.give key) other ∙ part.give key value is)

@@ -33,6 +33,7 @@ pub mod Fresh
 pub mod OnwardPieces
 pub mod Onward
 pub mod RowsStay
+pub mod Labelled
 pub mod SpelledRows
 pub mod SpelledFields
 pub mod SpelledWhole

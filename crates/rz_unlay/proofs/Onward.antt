@@ -1,14 +1,14 @@
 -- What is read of fields goes on from left to right: names only grow, places stay in the resource, fields that have the same
 -- width in every row have it, and labels that were near stand where they were seen.
 use Rattle.std.proofs.Common.{◌≡◌, ℕ, ◌+◌, ◌*◌, ◌≤◌, ℤ, pos, Bool, true, false, ◌&&◌, List, [], ◌∷◌, length, Option, Some, None, refl, sym, ap, ◌∙◌, subst, arith}
-use Rattle.std.specs.Prelude.{if◌then◌else◌, nat_abs, ◌++◌, option_and_then, option_map}
+use Rattle.std.specs.Prelude.{if◌then◌else◌, nat_abs, option_and_then, option_map}
 use Rattle.rz_core.specs.declared.facts.Facts.{Facts}
 use Rattle.rz_core.specs.declared.resource.Word.{Word}
 use Rattle.rz_expr.specs.Environment.{count_key, place_of, Environment, IsPartOf, Key}
 use Rattle.rz_types_fields.specs.Field.{case_and, field_and, no_cases, no_fields, Align, Array, Fill, Label, Number, PlainBody, PlainCases, PlainField, Points, Switch, Text}
 use Rattle.rz_types_fields.specs.Front.{names_inside, stated_in}
 use Rattle.rz_types_fields.specs.Passed.{declares, gives_rows, is_label, met_behind, met_inside, Names}
-use Rattle.rz_types_fields.specs.RowLabels.{also_rows, is_row, label_places, row_number, row_of, row_value, RowOf}
+use Rattle.rz_types_fields.specs.RowLabels.{also_rows, is_row, row_number, row_of, rows_give, RowOf}
 use Rattle.rz_types_fields.proofs.RowKeys.{placed_none}
 use Rattle.rz_types_fields.specs.Piece.{pieces_of}
 use Rattle.rz_types_fields.specs.Row.{IsStated}
@@ -21,7 +21,7 @@ use Rattle.rz_types_fields.specs.declared.tree.Tree.TheVariants as trees
 use Rattle.rz_unlay_pieces.specs.Ahead.{behind_measured, near_place}
 use Rattle.rz_unlay.specs.Pieces.{field_of_pieces, pieces_found, value_of_field, with_value, Found}
 use Rattle.rz_unlay_pieces.specs.Pieces.{claim, claim_count, here_at, label_step, Here, Step}
-use Rattle.rz_unlay.specs.Cursor.{body_found, case_found, count_known, field_found, has_keys, line_of, rows_by, with_label, Line, Lines, ReadsRow}
+use Rattle.rz_unlay.specs.Cursor.{body_found, case_found, count_known, field_found, has_keys, line_of, rows_by, Line, Lines, ReadsRow}
 use Rattle.rz_unlay.proofs.Ahead.{HasPlaces}
 use Rattle.rz_unlay.proofs.Asked.{not_label, of_rows, rows_no_place}
 use Rattle.rz_unlay.proofs.Claims.{claim_came}
@@ -46,10 +46,10 @@ places_within in_case which body names shaped has name value is =
 pub record Keeps (names more : Environment) : Type 0 where
   pub give : (key : Key) (value : ℤ) → of_rows key ≡ false → names.give key ≡ Some value → more.give key ≡ Some value
 
-keeps_part : (names more : Environment) → IsPartOf names more → Keeps names more
+pub keeps_part : (names more : Environment) → IsPartOf names more → Keeps names more
 keeps_part names more part = record { give = λ key value plain is. part.give key value is }
 
-keeps_then : (a b c : Environment) → Keeps a b → Keeps b c → Keeps a c
+pub keeps_then : (a b c : Environment) → Keeps a b → Keeps b c → Keeps a c
 keeps_then a b c one other = record { give = λ key value plain is. other.give key value plain (one.give key value plain is) }
 
 -- so `true` and `false` keep their values
@@ -99,7 +99,7 @@ module _ (len : ℕ) (width : Option ℕ) (row : ReadsRow) (one : (number at : �
 
 -- Fields.
 
-label_plain : (field : PlainField) (key : Key) → is_label field key ≡ true → of_rows key ≡ false
+pub label_plain : (field : PlainField) (key : Key) → is_label field key ≡ true → of_rows key ≡ false
 label_plain field key label =
     by_case (of_rows key) (λ of. absurd (true_false (sym label ∙ not_label field key (rows_no_place key of)))) (λ plain. plain)
 
@@ -163,7 +163,7 @@ body_goes len field fields names at step inner found inside one others same_afte
 
 -- The place of a label.
 
-label_there : (here : Here) (name : Word) (names : Environment) (at : ℕ) (late : Late) (step : Step) → field_of_pieces here (Label name) names at late ≡ Some step
+pub label_there : (here : Here) (name : Word) (names : Environment) (at : ℕ) (late : Late) (step : Step) → field_of_pieces here (Label name) names at late ≡ Some step
     → (key : Key) → is_label (Label name) key ≡ true → step.names.give key ≡ Some (pos at)
 label_there here name names at late step is key label =
     let it = mapped (λ f. record { value = value_of_field (Label name) f.row; after = f.after; names = f.names; late = f.late }) (pieces_found here (pieces_of (Label name)) names at late) step is in
@@ -174,36 +174,12 @@ label_there here name names at late step is key label =
     (ap (λ (f : Found). f.names.give key) (sym (some_same _ it.0 one.2))
     ∙ subst (λ (s : Step). s.names.give key ≡ Some (pos at)) claimed.2 ((claim_came _ (pos at) names more claimed.1).has key label))
 
--- Names after rows, and after the first field.
+-- Names after rows.
 
-rows_stay : (row : PlainBody) (rows : ℕ) (places : List ℤ) (names more : Environment) → Keeps names more → Keeps names (also_rows row rows places more)
-rows_stay row rows places names more kept = record {
-  give = λ key value plain is. if_false (gives_rows row key) (row_value row rows places key) (more.give key) (no_rows row key plain) ∙ kept.give key value plain is;
+pub rows_stay : (row : PlainBody) (ends : List Environment) (names more : Environment) → Keeps names more → Keeps names (also_rows row ends more)
+rows_stay row ends names more kept = record {
+  give = λ key value plain is. if_false (gives_rows row key) (rows_give ends key) (more.give key) (no_rows row key plain) ∙ kept.give key value plain is;
 }
-
--- what was read after the first field of a body is what was read of the body, but for its first value and label
-pub record IsBehind (field : PlainField) (at : ℕ) (value : Option Tree) (inner found : Found) : Type 0 where
-  pub row : put value inner.row ≡ found.row
-  pub places : label_places field at ++ inner.places ≡ found.places
-  pub after : inner.after ≡ found.after
-  pub names : inner.names ≡ found.names
-  pub late : inner.late ≡ found.late
-
-pub body_behind : (field : PlainField) (at : ℕ) (value : Option Tree) (others : Option Found) (found : Found) → with_label field at (with_value value others) ≡ Some found
-    → (inner : Found) × (others ≡ Some inner) × IsBehind field at value inner found
-body_behind field at value None found is = absurd (none_is found is)
-body_behind field at value (Some inner) found is =
-    let same = some_same _ found is in (
-      inner,
-      refl,
-      record {
-        row = ap (λ (f : Found). f.row) same;
-        places = ap (λ (f : Found). f.places) same;
-        after = ap (λ (f : Found). f.after) same;
-        names = ap (λ (f : Found). f.names) same;
-        late = ap (λ (f : Found). f.late) same;
-      },
-    )
 
 module _ (facts : Facts) (all : List Bool) where
   abbrev pub FieldsGo : PlainField → Type 0
@@ -222,7 +198,7 @@ module _ (facts : Facts) (all : List Bool) where
   line_reaches : (in_case : Bool) (which : Option RowOf) (row : PlainBody) (met : Names) (names : Environment) → BodiesGo row → are_shaped in_case row ≡ true → HasPlaces names → (at : ℕ) (late : Late) (line : Line) → at ≤ length all
       → line_of (body_found facts all (met_inside row met) row (names_inside which row names) at late) ≡ Some line → Reaches (length all) (fixed_widths row) at line.after
   line_reaches in_case which row met names go shaped has at late line inside is =
-      let it = mapped (λ f. record { row = f.row; places = f.places; after = f.after; late = f.late }) (body_found facts all (met_inside row met) row (names_inside which row names) at late) line is in
+      let it = mapped (λ f. record { row = f.row; own = f.names; after = f.after; late = f.late }) (body_found facts all (met_inside row met) row (names_inside which row names) at late) line is in
       let one = (go in_case (met_inside row met) (names_inside which row names) at late it.0 shaped (places_within in_case which row names shaped has) inside it.1).goes in
       subst (λ (l : Line). Reaches (length all) (fixed_widths row) at l.after) it.2
       (one.within, λ bits so. one.is (at + bits) (ap (option_map (λ width. at + width)) so))
@@ -231,15 +207,15 @@ module _ (facts : Facts) (all : List Bool) where
   array_goes name count row go in_case rest met names at late step shaped has inside is =
       let test = both_true (is_none_or is_own_name name) (are_shaped false row) shaped in
       let reads : ReadsRow = λ number place marks. line_of (body_found facts all (met_inside row met) row (names_inside (row_of name number) row names) place marks) in
-      let one = and_then (λ lines. option_map (λ more. record { value = Some (trees.Rows lines.rows); after = lines.after; names = also_rows row (length lines.rows) lines.places more; late = lines.late }) (claim_count name (length lines.rows) names))
+      let one = and_then (λ lines. option_map (λ more. record { value = Some (trees.Rows lines.rows); after = lines.after; names = also_rows row lines.ends more; late = lines.late }) (claim_count name (length lines.rows) names))
       (rows_by reads (length all) rest names (count_known names name count) at late) step is in
       let lines : Lines = one.0 in
-      let two = mapped (λ more. record { value = Some (trees.Rows lines.rows); after = lines.after; names = also_rows row (length lines.rows) lines.places more; late = lines.late }) (claim_count name (length lines.rows) names) step one.2 in
+      let two = mapped (λ more. record { value = Some (trees.Rows lines.rows); after = lines.after; names = also_rows row lines.ends more; late = lines.late }) (claim_count name (length lines.rows) names) step one.2 in
       let reach = known_reach (length all) (fixed_widths row) reads
       (λ number place marks line within found. line_reaches false (row_of name number) row met names go test.1 has place marks line within found) rest names name count at late lines inside one.1 in
       subst (FieldGoes (length all) (Array name count row) names at) two.2 (record {
         goes = record {
-          kept = rows_stay row (length lines.rows) lines.places names two.0 (keeps_part names two.0 (kept name (length lines.rows) two.0 two.1));
+          kept = rows_stay row lines.ends names two.0 (keeps_part names two.0 (kept name (length lines.rows) two.0 two.1));
           within = reach.0;
           is = λ next so. let width = mapped (λ bits. at + bits) (rows_width count (fixed_widths row)) next so in reach.1 width.0 width.1 ∙ width.2;
         };
@@ -273,12 +249,12 @@ module _ (facts : Facts) (all : List Bool) where
   first_and_others : (field : PlainField) (fields : PlainBody) → FieldsGo field → BodiesGo fields → BodiesGo (field_and field fields)
   first_and_others field fields one others in_case met names at late found shaped has inside is =
       let test = both_true (is_shaped in_case field) (are_shaped in_case fields) shaped in
-      let first = and_then (λ step. with_label field at (with_value step.value (body_found facts all (met_behind field met) fields step.names step.after step.late))) (field_found facts all fields met field names at late) found is in
+      let first = and_then (λ step. with_value step.value (body_found facts all (met_behind field met) fields step.names step.after step.late)) (field_found facts all fields met field names at late) found is in
       let step : Step = first.0 in
-      let more = body_behind field at step.value (body_found facts all (met_behind field met) fields step.names step.after step.late) found first.2 in
+      let more = mapped (λ f. record { row = put step.value f.row; after = f.after; names = f.names; late = f.late }) (body_found facts all (met_behind field met) fields step.names step.after step.late) found first.2 in
       let here = one in_case fields met names at late step test.0 has inside first.1 in
       let behind = others in_case (met_behind field met) step.names step.after step.late more.0 test.1 (places_stay names step.names here.goes.kept has) here.goes.within more.1 in
-      body_goes (length all) field fields names at step more.0 found inside here behind more.2.after more.2.names
+      body_goes (length all) field fields names at step more.0 found inside here behind (ap (λ (f : Found). f.after) more.2) (ap (λ (f : Found). f.names) more.2)
 
   mutual
     pub field_on : (field : PlainField) → FieldsGo field
@@ -315,7 +291,7 @@ module _ (facts : Facts) (all : List Bool) where
 
     pub body_on : (body : PlainBody) → BodiesGo body
     body_on no_fields in_case met names at late found shaped has inside is =
-        subst (BodyGoes (length all) no_fields names at) (some_same (record { row = []; places = []; after = at; names = names; late = late }) found is) (record {
+        subst (BodyGoes (length all) no_fields names at) (some_same (record { row = []; after = at; names = names; late = late }) found is) (record {
           goes = record { kept = keeps_part names names (same_part names); within = inside; is = λ next so. (let same = some_same (at + 0) next so in omega (arith, same)) };
           near = λ key place none. absurd (none_is place none);
         })

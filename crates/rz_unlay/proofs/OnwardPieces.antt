@@ -197,12 +197,12 @@ module _ (here : Here) where
   pieces_go : (pieces : List Piece) (names : Environment) (at : ℕ) (late : Late) (found : Found) → HasPlaces names → at ≤ length here.all → pieces_found here pieces names at late ≡ Some found
       → GoesOn (length here.all) names (behind_all pieces at) found
   pieces_go [] names at late found has inside is =
-      subst (GoesOn (length here.all) names (Some at)) (some_same (record { row = []; places = []; after = at; names = names; late = late }) found is)
+      subst (GoesOn (length here.all) names (Some at)) (some_same (record { row = []; after = at; names = names; late = late }) found is)
       (record { kept = same_part names; within = inside; is = λ next so. some_same at next so })
   pieces_go (piece ∷ pieces) names at late found has inside is =
       let one = and_then (λ step. with_value step.value (pieces_found here pieces step.names step.after step.late)) (piece_step here piece names at late) found is in
       let step : Step = one.0 in
-      let more = mapped (λ f. record { row = put step.value f.row; places = f.places; after = f.after; names = f.names; late = f.late }) (pieces_found here pieces step.names step.after step.late) found one.2 in
+      let more = mapped (λ f. record { row = put step.value f.row; after = f.after; names = f.names; late = f.late }) (pieces_found here pieces step.names step.after step.late) found one.2 in
       let inner : Found = more.0 in
       let first = piece_goes here piece names at late step has inside one.1 in
       let others = pieces_go pieces step.names step.after step.late inner (places_kept names step.names first.kept has) first.within more.1 in

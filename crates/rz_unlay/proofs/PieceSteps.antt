@@ -24,7 +24,7 @@ use Rattle.rz_unlay_pieces.proofs.Marking.{late_more}
 abbrev alone : Option Step → Option Step
 alone step =
     option_map (λ f. record { value = first_of_row f.row; after = f.after; names = f.names; late = f.late })
-    (option_and_then (λ s. with_value s.value (Some (record { row = []; places = []; after = s.after; names = s.names; late = s.late }))) step)
+    (option_and_then (λ s. with_value s.value (Some (record { row = []; after = s.after; names = s.names; late = s.late }))) step)
 
 alone_is : (step : Option Step) → alone step ≡ step
 alone_is None = refl
@@ -69,7 +69,7 @@ module _ (here : Here) (names : Environment) where
   behind_more : (numbers : List ℕ) (n : ℕ) (found : Option Found) → behind_numbers (numbers ++ n ∷ []) found ≡ behind_numbers numbers (with_value (Some (trees.Number n)) found)
   behind_more numbers n None = refl
   behind_more numbers n (Some f) =
-      ap (λ r. Some (record { row = r; places = f.places; after = f.after; names = f.names; late = f.late }))
+      ap (λ r. Some (record { row = r; after = f.after; names = f.names; late = f.late }))
       (ap (λ ts. ts ++ f.row) (map-append trees.Number numbers (n ∷ [])) ∙ append_assoc (map trees.Number numbers) (trees.Number n ∷ []) f.row)
 
   pub group_start : (late : Late) (count at : ℕ) → behind_numbers [] (group_found (count - 0) at (late_behind late (16 * 0) false)) ≡ group_found count at late
@@ -104,12 +104,12 @@ module _ (here : Here) (names : Environment) where
 
   pub group_over : (late : Late) (numbers : List ℕ) (count at : ℕ) (total : Option Found) → count ≡ 0
       → behind_numbers numbers (group_found count at late) ≡ total
-      → Some (record { row = map trees.Number numbers; places = []; after = at; names = names; late = late }) ≡ total
-  group_over late numbers zero at total none so = ap (λ r. Some (record { row = r; places = []; after = at; names = names; late = late })) (sym (append-nil (map trees.Number numbers))) ∙ so
+      → Some (record { row = map trees.Number numbers; after = at; names = names; late = late }) ≡ total
+  group_over late numbers zero at total none so = ap (λ r. Some (record { row = r; after = at; names = names; late = late })) (sym (append-nil (map trees.Number numbers))) ∙ so
   group_over late numbers (suc count) at total none so = absurd (omega arith)
 
   pub grouped_is : (late late_after : Late) (count at after : ℕ) (numbers : List ℕ)
-      → Some (record { row = map trees.Number numbers; places = []; after = after; names = names; late = late_after }) ≡ group_found count at late
+      → Some (record { row = map trees.Number numbers; after = after; names = names; late = late_after }) ≡ group_found count at late
       → Some (record { value = Some (trees.Group numbers); after = after; names = names; late = late_after }) ≡ group_read here count names at late
   grouped_is late late_after count at after numbers is =
       ap (λ ns. Some (record { value = Some (trees.Group ns); after = after; names = names; late = late_after })) (sym (numbers_back numbers))

@@ -1,51 +1,55 @@
 -- What is spelled plainly is read.
-use Rattle.std.proofs.Common.{◌≡◌, ℕ, ◌+◌, ◌%◌, ◌^◌, ◌<◌, ◌≤◌, ◌==◌, ℤ, Bool, true, false, ◌&&◌, List, [], ◌++◌, length, take, drop, Option, Some, None, refl, sym, ap, ◌∙◌, arith}
+use Rattle.std.proofs.Common.{◌≡◌, ℕ, ◌+◌, ◌%◌, ◌^◌, ◌<◌, ◌≤◌, ◌==◌, Bool, true, false, ◌&&◌, List, [], length, take, drop, Option, Some, None, refl, sym, ap, ◌∙◌, subst, arith}
 use Rattle.std.specs.Prelude.{if◌then◌else◌, nat_le, nat_lt, option_and_then, option_map, slice_index}
 use Rattle.std.proofs.lemmas.List.{drop_at, length-append, length-take-le}
 use Rattle.std.proofs.Math.Nat.{mod-eq_of_lt}
 use Rattle.rz_core.specs.declared.facts.Facts.{Facts}
 use Rattle.rz_core.specs.declared.resource.Word.{Word}
-use Rattle.rz_expr.specs.Environment.{count_of, Environment}
+use Rattle.rz_expr.specs.Environment.{count_of, place_of, Environment, IsPartOf}
 use Rattle.rz_bits.specs.Bits.{bits_of, bytes_of, number_bits, number_of}
 use Rattle.rz_bits.specs.BitBuf.{filled, missing, zeros}
 use Rattle.rz_types_fields.specs.declared.tree.Tree.{Tree}
 use Rattle.rz_types_fields.specs.declared.tree.Tree.TheVariants as trees
 use Rattle.rz_types_fields.specs.Field.{case_and, field_and, no_cases, no_fields, Align, Array, Fill, Label, Number, PlainBody, PlainCases, PlainField, Points, Switch, Text}
 use Rattle.rz_types_fields.specs.Front.{names_inside}
-use Rattle.rz_types_fields.specs.Passed.{at_field, at_front, behind, met_behind, met_inside, nothing_passed, outside, Names, Passed}
+use Rattle.rz_types_fields.specs.Passed.{at_field, at_front, behind, has_label, met_behind, met_inside, nothing_passed, outside, Names, Passed}
 use Rattle.rz_types_fields.specs.Sees.{Late}
 use Rattle.rz_types_fields.specs.Shape.{are_cases_shaped, are_shaped, body_depth, deepest_body, is_none_or, is_own_name, is_shaped, is_well_shaped}
-use Rattle.rz_types_fields.specs.RowLabels.{also_rows, label_places, row_of}
-use Rattle.rz_types_fields.specs.Spells.{is_case, plainly, put, values_in, BodySpells, CaseSpells, FieldSpells, Inside, SpellsPlainly}
+use Rattle.rz_types_fields.specs.RowLabels.{also_rows, row_of}
+use Rattle.rz_types_fields.specs.Spells.{is_case, plainly, put, values_in, AreRows, BodySpells, CaseSpells, FieldSpells, HasPlace, Inside, SpellsPlainly}
 use Rattle.rz_types_fields.specs.Width.{case_keys}
 use Rattle.rz_types.specs.Kept.{AreCasesApart, AreKeysApart, AreKeysApartIn}
 use Rattle.rz_types.specs.Readable.{are_cases_read, are_read, is_read, is_readable, least_widths, rows_end}
 use Rattle.rz_unlay.specs.Pieces.{with_value, Found}
 use Rattle.rz_unlay_pieces.specs.Pieces.{claim_count, Step}
 use Rattle.rz_unlay.specs.Came.{row_at}
-use Rattle.rz_unlay.specs.Cursor.{body_found, case_found, count_known, ended, field_found, has_keys, line_of, reading, rows_by, with_label, Lines}
+use Rattle.rz_unlay.specs.Cursor.{body_found, case_found, count_known, ended, field_found, has_keys, line_of, reading, rows_by, Lines}
 use Rattle.rz_unlay.proofs.Ahead.{Ahead, HasPlaces}
-use Rattle.rz_types_fields.proofs.RowPlaces.{places_more, row_has, PlacesAre}
-use Rattle.rz_unlay.proofs.AheadOf.{ahead_of, field_stands}
+use Rattle.rz_unlay.proofs.AheadOf.{ahead_of}
 use Rattle.rz_unlay.proofs.Asked.{not_near}
+use Rattle.rz_unlay.proofs.Labelled.{body_labels, AreLabelled}
 use Rattle.rz_unlay.proofs.MetBehind.{met_field}
 use Rattle.rz_unlay.proofs.ReadsBits.{length_zeros, number_zeros}
 use Rattle.rz_unlay.proofs.ReadsKeys.{case_keys_there, keys_absent, keys_found}
 use Rattle.rz_unlay.proofs.ReadsNames.{known_inside, known_outside, knows_inside, knows_outside, places_inside, places_outside}
 use Rattle.rz_unlay.proofs.ReadsNumber.{Knows, Steps}
 use Rattle.rz_unlay.proofs.ReadsPieces.{align_field, fill_field, label_field, number_field, points_field, text_field}
-use Rattle.rz_unlay.proofs.ReadsRows.{count_claims, rows_go, rows_known, rows_met}
+use Rattle.rz_unlay.proofs.ReadsRows.{count_claims, rows_go, rows_known, rows_met, RowHas}
 use Rattle.rz_unlay.proofs.ReadsTests.{at_most, below, both_true, if_false, if_true}
 use Rattle.rz_unlay.proofs.ReadsText.{EndsAt}
 use Rattle.rz_unlay.proofs.ReadsWidths.{body_wide, by_choice}
 use Rattle.rz_unlay.proofs.Sees.{IsKnownOf}
 
--- the reader is after a body, with its row and the places of its labels
+-- the reader is after a body, with its row
 record Reaches (facts : Facts) (all : List Bool) (met : Names) (body : PlainBody) (names env : Environment) (line : List Tree) (at : ℕ) (late : Late) (after : ℕ) (late_after : Late) : Type 0 where
-  places : List ℤ
   more : Environment
-  is : body_found facts all met body names at late ≡ Some (record { row = line; places = places; after = after; names = more; late = late_after })
-  are : PlacesAre env body places
+  is : body_found facts all met body names at late ≡ Some (record { row = line; after = after; names = more; late = late_after })
+  part : IsPartOf more env
+
+-- outside of a row its labels have their places by its number
+row_has : (row : PlainBody) (name : Option Word) (names own more : Environment) (number : ℕ) → IsPartOf more own → AreLabelled row more → ((label : List ℕ) → has_label row label ≡ true → HasPlace (row_of name number) label names own)
+    → RowHas row names number more
+row_has row name names own more number part labels has = record { give = λ label is. let it = labels label is in (it.0, it.1, has label is ∙ part.give (place_of label) it.0 it.1) }
 
 not_outer : false ≡ true → ⊥
 not_outer is = cc is
@@ -57,37 +61,37 @@ back_of read width number small = read width number ∙ mod-eq_of_lt small
 
 abbrev rows_step : PlainBody → Option Word → Environment → Lines → Option Step
 rows_step row name names lines =
-    option_map (λ more. record { value = Some (trees.Rows lines.rows); after = lines.after; names = also_rows row (length lines.rows) lines.places more; late = lines.late }) (claim_count name (length lines.rows) names)
+    option_map (λ more. record { value = Some (trees.Rows lines.rows); after = lines.after; names = also_rows row lines.ends more; late = lines.late }) (claim_count name (length lines.rows) names)
 
-array_found : (found : Option Lines) (row : PlainBody) (rows : List (List Tree)) (places : List ℤ) (after : ℕ) (late : Late) (name : Option Word) (names more : Environment) (value : Option Tree)
-    → found ≡ Some (record { rows = rows; places = places; after = after; late = late }) → claim_count name (length rows) names ≡ Some more → value ≡ Some (trees.Rows rows)
-    → option_and_then (rows_step row name names) found ≡ Some (record { value = value; after = after; names = also_rows row (length rows) places more; late = late })
-array_found found row rows places after late name names more value are claimed is =
+array_found : (found : Option Lines) (row : PlainBody) (rows : List (List Tree)) (lasts : List Environment) (after : ℕ) (late : Late) (name : Option Word) (names more : Environment) (value : Option Tree)
+    → found ≡ Some (record { rows = rows; ends = lasts; after = after; late = late }) → claim_count name (length rows) names ≡ Some more → value ≡ Some (trees.Rows rows)
+    → option_and_then (rows_step row name names) found ≡ Some (record { value = value; after = after; names = also_rows row lasts more; late = late })
+array_found found row rows lasts after late name names more value are claimed is =
     ap (option_and_then (rows_step row name names)) are
-    ∙ ap (option_map (λ more. let step : Step = record { value = Some (trees.Rows rows); after = after; names = also_rows row (length rows) places more; late = late } in step)) claimed
-    ∙ (λ i. Some (record { value = sym is i; after = after; names = also_rows row (length rows) places more; late = late }))
+    ∙ ap (option_map (λ more. let step : Step = record { value = Some (trees.Rows rows); after = after; names = also_rows row lasts more; late = late } in step)) claimed
+    ∙ (λ i. Some (record { value = sym is i; after = after; names = also_rows row lasts more; late = late }))
 
 -- a body, where its first field and the others are read
-abbrev others_of : Facts → List Bool → Names → PlainField → PlainBody → ℕ → Step → Option Found
-others_of facts all met field fields at step = with_label field at (with_value step.value (body_found facts all met fields step.names step.after step.late))
+abbrev others_of : Facts → List Bool → Names → PlainBody → Step → Option Found
+others_of facts all met fields step = with_value step.value (body_found facts all met fields step.names step.after step.late)
 
-fields_found : (facts : Facts) (all : List Bool) (met inner : Names) (field : PlainField) (fields : PlainBody) (at : ℕ) (found : Option Step) (value : Option Tree) (others line : List Tree) (places : List ℤ) (names more : Environment)
+fields_found : (facts : Facts) (all : List Bool) (met inner : Names) (fields : PlainBody) (found : Option Step) (value : Option Tree) (others line : List Tree) (names more : Environment)
     (mid : ℕ) (late_mid : Late) (after : ℕ) (late : Late) → found ≡ Some (record { value = value; after = mid; names = names; late = late_mid }) → inner ≡ met
-    → body_found facts all inner fields names mid late_mid ≡ Some (record { row = others; places = places; after = after; names = more; late = late }) → line ≡ put value others
-    → option_and_then (others_of facts all met field fields at) found ≡ Some (record { row = line; places = label_places field at ++ places; after = after; names = more; late = late })
-fields_found facts all met inner field fields at found value others line places names more mid late_mid after late is same rest own =
-    ap (option_and_then (others_of facts all met field fields at)) is
-    ∙ ap (λ (met : Names). with_label field at (with_value value (body_found facts all met fields names mid late_mid))) (sym same)
-    ∙ ap (λ (found : Option Found). with_label field at (with_value value found)) rest
-    ∙ (λ i. Some (record { row = sym own i; places = label_places field at ++ places; after = after; names = more; late = late }))
+    → body_found facts all inner fields names mid late_mid ≡ Some (record { row = others; after = after; names = more; late = late }) → line ≡ put value others
+    → option_and_then (others_of facts all met fields) found ≡ Some (record { row = line; after = after; names = more; late = late })
+fields_found facts all met inner fields found value others line names more mid late_mid after late is same rest own =
+    ap (option_and_then (others_of facts all met fields)) is
+    ∙ ap (λ (met : Names). with_value value (body_found facts all met fields names mid late_mid)) (sym same)
+    ∙ ap (with_value value) rest
+    ∙ (λ i. Some (record { row = sym own i; after = after; names = more; late = late }))
 
 abbrev choice_of : Word → Environment → Option Found → Option Step
 choice_of name names found = option_map (λ f. record { value = Some (trees.Choice name f.row); after = f.after; names = names; late = f.late }) found
 
-choice_found : (name : Word) (names : Environment) (found : Option Found) (line : List Tree) (places : List ℤ) (after : ℕ) (late : Late) (more : Environment) (value : Option Tree)
-    → found ≡ Some (record { row = line; places = places; after = after; names = more; late = late }) → value ≡ Some (trees.Choice name line)
+choice_found : (name : Word) (names : Environment) (found : Option Found) (line : List Tree) (after : ℕ) (late : Late) (more : Environment) (value : Option Tree)
+    → found ≡ Some (record { row = line; after = after; names = more; late = late }) → value ≡ Some (trees.Choice name line)
     → choice_of name names found ≡ Some (record { value = value; after = after; names = names; late = late })
-choice_found name names found line places after late more value is own =
+choice_found name names found line after late more value is own =
     ap (choice_of name names) is ∙ (λ i. Some (record { value = sym own i; after = after; names = names; late = late }))
 
 module _ (read : (width number : ℕ) → number_of (number_bits width number) ≡ number % 2 ^ width) (written : (bits : List Bool) → number_bits (length bits) (number_of bits) ≡ bits)
@@ -123,17 +127,22 @@ module _ (read : (width number : ℕ) → number_of (number_bits width number) �
         let goes = reaches false false row inside.0 (at_front row here) (names_inside (row_of name number) row names) line at late after late_after test.1 apart can.1
         (places_inside false row (row_of name number) env inside.0 test.1 inside.1 places) (knows_inside row (row_of name number) here names knows)
         (known_inside facts all row (row_of name number) names env inside.0 (at_front row here) line at late after late_after part inside.1 inside.2) inside.2 below (λ is. absurd (not_outer is)) in
-        record { places = goes.places; is = ap line_of goes.is; has = row_has row name env inside.0 number goes.places goes.are inside.1.places })
+        record {
+          own = goes.more;
+          is = ap line_of goes.is;
+          has = row_has row name env inside.0 goes.more number goes.part
+              (body_labels facts all row (at_front row here).met (names_inside (row_of name number) row names) at late (record { row = line; after = after; names = goes.more; late = late_after }) goes.is) inside.1.places;
+        })
         (λ number line at late after late_after inside.
         (body_wide facts all false row inside.0 (at_front row here) line at late after late_after test.1 (places_inside false row (row_of name number) env inside.0 test.1 inside.1 places) inside.2).grows)
         outermost all rest name it.0 names here at late after late_after refl (λ own. not_near (field_and (Array name count row) rest) (count_of own) refl) knows part it.5 within within
         count can.0 it.2 it.3 ahead.lies ahead.stops end in
         let claims = count_claims here env name (length it.0) names knows part it.3 in
         record {
-          names = also_rows row (length it.0) lines.places claims.more;
-          is = array_found (rows_by (row_at facts all name row passed.met names) (length all) rest names (count_known names name count) at late) row it.0 lines.places after late_after name names claims.more value lines.is claims.is it.1;
-          knows = rows_met row (length it.0) lines.places here name count claims.more claims.knows;
-          part = rows_known row (length it.0) lines.places claims.more env it.4 lines.have claims.part;
+          names = also_rows row lines.lasts claims.more;
+          is = array_found (rows_by (row_at facts all name row passed.met names) (length all) rest names (count_known names name count) at late) row it.0 lines.lasts after late_after name names claims.more value lines.is claims.is it.1;
+          knows = rows_met row lines.lasts here name count claims.more claims.knows;
+          part = rows_known row lines.lasts claims.more env (subst (λ (n : ℕ). AreRows row n env) (sym lines.long) it.4) lines.have claims.part;
         }
     step_goes outermost in_case (Switch cases) rest env passed names value at late after late_after shaped apart reads places ahead knows part it within end = record {
       names = names;
@@ -161,7 +170,7 @@ module _ (read : (width number : ℕ) → number_of (number_bits width number) �
         (known_inside facts all row None names env inside.0 (at_front row passed) this.0 at late after late_after part inside.1 inside.2) inside.2 within (λ is. absurd (not_outer is)) in
         if_true (has_keys all at (case_keys row)) (choice_of name names own) more
         (keys_found all at row others apart.0 (case_keys_there back facts all row inside.0 (at_front row passed) this.0 at late after late_after both.0 inner inside.2 within))
-        ∙ choice_found name names own this.0 goes.places after late_after goes.more value goes.is this.1)
+        ∙ choice_found name names own this.0 after late_after goes.more value goes.is this.1)
         (λ other.
         if_false (has_keys all at (case_keys row)) (choice_of name names own) more (keys_absent back facts all row others apart.0 env passed value at late after late_after both.1 places apart.2 other within)
         ∙ cases_go others env passed names value at late after late_after both.1 apart.2 can.1 places knows part other within)
@@ -172,7 +181,7 @@ module _ (read : (width number : ℕ) → number_of (number_bits width number) �
         → BodySpells plainly facts all body env passed line at late after late_after → after ≤ length all → (outermost ≡ true → length all < after + 8)
         → Reaches facts all passed.met body names env line at late after late_after
     reaches outermost in_case no_fields env passed names line at late after late_after shaped apart reads places knows part it within over =
-        record { places = []; more = names; is = λ i. Some (record { row = sym it.0 i; places = []; after = sym it.1 i; names = names; late = sym it.2 i }); are = refl }
+        record { more = names; is = λ i. Some (record { row = sym it.0 i; after = sym it.1 i; names = names; late = sym it.2 i }); part = part.part }
     reaches outermost in_case (field_and field fields) env passed names line at late after late_after shaped apart reads places knows part it within over =
         let test = both_true (is_shaped in_case field) (are_shaped in_case fields) shaped in
         let here = at_field (field_and field fields) passed in
@@ -184,11 +193,10 @@ module _ (read : (width number : ℕ) → number_of (number_bits width number) �
         (ahead_of facts all env places in_case field fields passed line at late after late_after shaped it within) knows part it.5 (omega (arith, grows, within)) end in
         let others = reaches outermost in_case fields env (behind field here) one.names it.1 it.2 it.3 after late_after test.1 apart.1 can.1 places one.knows one.part it.6 within over in
         record {
-          places = label_places field at ++ others.places;
           more = others.more;
-          is = fields_found facts all (met_behind field passed.met) (behind field here).met field fields at (field_found facts all fields passed.met field names at late) it.0 it.1 line others.places one.names others.more
+          is = fields_found facts all (met_behind field passed.met) (behind field here).met fields (field_found facts all fields passed.met field names at late) it.0 it.1 line one.names others.more
               it.2 it.3 after late_after one.is (met_field field here) others.is it.4;
-          are = places_more env field fields at others.places (field_stands facts all env places field here it.0 at late it.2 it.3 it.5) others.are;
+          part = others.part;
         }
 
 -- The end.
@@ -208,8 +216,8 @@ module _ (fewer : (unit place : ℕ) → 0 < unit → missing unit place < unit)
       let few = fewer 8 (length (take end all)) (omega (arith)) in
       omega (arith, long, size, few)
 
-  ended_is : (row : List Tree) (places : List ℤ) (more : Environment) (late : Late) → values_in row ≤ 1048576 → ended all (Some (record { row = row; places = places; after = end; names = more; late = late })) ≡ Some row
-  ended_is row places more late few =
+  ended_is : (row : List Tree) (more : Environment) (late : Late) → values_in row ≤ 1048576 → ended all (Some (record { row = row; after = end; names = more; late = late })) ≡ Some row
+  ended_is row more late few =
       let a : nat_le end (length all) ≡ true = at_most end (length all) within in
       let b : nat_lt (length all) (end + 8) ≡ true = below (length all) (end + 8) left_few in
       let c : (number_of (drop end all) == 0) ≡ true = ap (λ (n : ℕ). n == 0) left_is in
@@ -229,4 +237,4 @@ plain_row_read read written again fewer known body row bytes shaped apart reads 
     (places_inside false body None outside it.names shape it.own places_outside) (knows_inside body None nothing_passed outside knows_outside)
     (known_inside known (bits_of bytes) body None outside outside it.names (at_front body nothing_passed) row 0 [] it.end it.late known_outside it.own it.fields) it.fields it.within
     (λ outer. left_few fewer (bits_of bytes) it.end it.within it.filled) in
-    ap (ended (bits_of bytes)) goes.is ∙ ended_is fewer (bits_of bytes) it.end it.within it.filled row goes.places goes.more it.late plain.few
+    ap (ended (bits_of bytes)) goes.is ∙ ended_is fewer (bits_of bytes) it.end it.within it.filled row goes.more it.late plain.few

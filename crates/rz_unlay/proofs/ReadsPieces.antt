@@ -122,7 +122,7 @@ still_near (Some term) passed = refl
 -- the reader is after pieces, with their values
 record Finds (passed : Passed) (env : Environment) (values : List Tree) (after : ℕ) (late_after : Late) (found : Option Found) : Type 0 where
   names : Environment
-  is : found ≡ Some (record { row = values; places = []; after = after; names = names; late = late_after })
+  is : found ≡ Some (record { row = values; after = after; names = names; late = late_after })
   knows : Knows passed names
   part : IsKnownOf names env
 
@@ -151,7 +151,7 @@ module _ (back : (width number : ℕ) → number < 2 ^ width → number_of (numb
       → Finds (behind_pieces pieces passed) env values after late_after (pieces_found here pieces names at late)
   numbers_go [] passed names values at late after late_after are met_is near_is knows part reads it within = record {
     names = names;
-    is = λ i. Some (record { row = sym it.0 i; places = []; after = sym it.1 i; names = names; late = sym it.2 i });
+    is = λ i. Some (record { row = sym it.0 i; after = sym it.1 i; names = names; late = sym it.2 i });
     knows = knows;
     part = part;
   }
@@ -164,7 +164,7 @@ module _ (back : (width number : ℕ) → number < 2 ^ width → number_of (numb
         names = others.names;
         is = ap (option_and_then (λ step. with_value step.value (pieces_found here pieces step.names step.after step.late))) one.is
             ∙ ap (with_value it.0) others.is
-            ∙ (λ i. Some (record { row = sym it.4 i; places = []; after = after; names = others.names; late = late_after }));
+            ∙ (λ i. Some (record { row = sym it.4 i; after = after; names = others.names; late = late_after }));
         knows = others.knows;
         part = others.part;
       }

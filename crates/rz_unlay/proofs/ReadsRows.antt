@@ -1,6 +1,6 @@
 -- The rows of an array are read, and their number is known after it.
-use Rattle.std.proofs.Common.{◌≡◌, ℕ, zero, suc, ◌+◌, ◌-◌, ◌<◌, ◌≤◌, ◌==◌, ℤ, pos, Bool, true, false, ◌&&◌, ◌||◌, List, [], ◌∷◌, length, Option, Some, None, refl, sym, ap, ◌∙◌, subst, arith}
-use Rattle.std.specs.Prelude.{◌*◌, ◌++◌, if◌then◌else◌, int_le, nat_abs, nat_le, nat_lt, option_and_then, option_map, slice_get}
+use Rattle.std.proofs.Common.{◌≡◌, ℕ, zero, suc, ◌+◌, ◌-◌, ◌<◌, ◌≤◌, ◌==◌, ℤ, pos, negsuc, Bool, true, false, ◌&&◌, ◌||◌, List, [], ◌∷◌, length, Option, Some, None, refl, sym, ap, ◌∙◌, subst, arith}
+use Rattle.std.specs.Prelude.{if◌then◌else◌, int_le, nat_le, nat_lt, option_and_then, option_map, slice_get}
 use Rattle.std.specs.Option.{is_some}
 use Rattle.std.specs.Str.{str_to_ascii_lowercase}
 use Rattle.std.proofs.lemmas.Bool.Decides.{Decides-int_eq, nat_tests}
@@ -9,7 +9,7 @@ use Rattle.rz_expr.specs.Environment.{count_key, count_of, place_in, place_of, r
 use Rattle.rz_types_fields.specs.declared.tree.Tree.{Tree}
 use Rattle.rz_types_fields.specs.Row.{IsStated}
 use Rattle.rz_types_fields.specs.Sees.{Late}
-use Rattle.rz_types_fields.specs.RowLabels.{also_rows, label_index, labels_count, row_value}
+use Rattle.rz_types_fields.specs.RowLabels.{also_rows, rows_give}
 use Rattle.rz_types_fields.specs.Spells.{AreRows, IsCounted, RowSpells, RowsSpell}
 use Rattle.rz_types_fields.specs.Field.{Array, PlainBody}
 use Rattle.rz_types_fields.specs.Passed.{behind, declares, gives_count, gives_rows, has_label, is_held, Passed}
@@ -20,47 +20,72 @@ use Rattle.rz_unlay_pieces.specs.Pieces.{agrees, also, claim_count, known_count}
 use Rattle.rz_unlay.specs.Cursor.{and_lines, count_known, goes_on, is_over, most_rows, no_lines, open_until, rows_by, rows_over, rows_until, until_of, Line, Lines, ReadsRow}
 use Rattle.rz_unlay.specs.declared.rows.Until.{Until}
 use Rattle.rz_unlay.specs.declared.rows.Until.TheVariants as ends
-use Rattle.rz_types_fields.proofs.RowPlaces.{no_rows_have, row_value_is, rows_have, RowHas, RowsHave}
 use Rattle.rz_unlay.proofs.Asked.{is_asked}
 use Rattle.rz_unlay.proofs.Near.{told_there}
 use Rattle.rz_unlay.proofs.ReadsNumber.{Knows}
-use Rattle.rz_unlay.proofs.ReadsTests.{below, both_true, either_of, if_false, if_true, itself, not_below, right_true, some_is, there_is}
+use Rattle.rz_unlay.proofs.ReadsTests.{and_then, below, both_true, either_of, if_false, if_true, itself, none_is, not_below, right_true, some_is, some_same, there_is}
 use Rattle.rz_unlay.proofs.ReadsText.{EndsAt}
 use Rattle.rz_unlay.proofs.Sees.{IsKnownOf}
 use Rattle.rz_unlay.proofs.Told.{also_known}
 
--- a row is read, and the labels in it stand at these places
+-- the labels in a row have places by what names have at its end, and outside of it they have them by its number
+pub record RowHas (row : PlainBody) (names : Environment) (number : ℕ) (own : Environment) : Type 0 where
+  pub give : (label : List ℕ) → has_label row label ≡ true → (place : ℤ) × (own.give (place_of label) ≡ Some place) × (names.give (place_in label (pos number)) ≡ Some place)
+
+-- so have those in rows, of which the first has this number
+pub record RowsHave (row : PlainBody) (names : Environment) (number : ℕ) (lasts : List Environment) : Type 0 where
+  pub give : (label : List ℕ) (j : ℕ) (own : Environment) → has_label row label ≡ true → slice_get lasts j ≡ Some own
+      → (place : ℤ) × (own.give (place_of label) ≡ Some place) × (names.give (place_in label (pos (number + j))) ≡ Some place)
+
+rows_have : (row : PlainBody) (names : Environment) (number : ℕ) (own : Environment) (lasts : List Environment) → RowHas row names number own → RowsHave row names (number + 1) lasts → RowsHave row names number (own ∷ lasts)
+rows_have row names number own lasts one others = record { give = by }
+  where
+    by : (label : List ℕ) (j : ℕ) (last : Environment) → has_label row label ≡ true → slice_get (own ∷ lasts) j ≡ Some last
+        → (place : ℤ) × (last.give (place_of label) ≡ Some place) × (names.give (place_in label (pos (number + j))) ≡ Some place)
+    by label zero last has is =
+        let it = one.give label has in
+        let first : number + 0 ≡ number = omega (arith) in
+        (it.0, ap (λ (names : Environment). names.give (place_of label)) (sym (some_same own last is)) ∙ it.1, ap (λ (n : ℕ). names.give (place_in label (pos n))) first ∙ it.2)
+    by label (suc j) last has is =
+        let it = others.give label j last has is in
+        let next : number + suc j ≡ number + 1 + j = omega (arith) in
+        (it.0, it.1, ap (λ (n : ℕ). names.give (place_in label (pos n))) next ∙ it.2)
+
+-- a row is read
 pub record LineFound (row : PlainBody) (names : Environment) (number : ℕ) (line : List Tree) (after : ℕ) (late : Late) (found : Option Line) : Type 0 where
-  pub places : List ℤ
-  pub is : found ≡ Some (record { row = line; places = places; after = after; late = late })
-  pub has : RowHas row names number places
+  pub own : Environment
+  pub is : found ≡ Some (record { row = line; own = own; after = after; late = late })
+  pub has : RowHas row names number own
 
 -- so are rows, of which the first has this number
 pub record LinesFound (row : PlainBody) (names : Environment) (number : ℕ) (rows : List (List Tree)) (after : ℕ) (late : Late) (found : Option Lines) : Type 0 where
-  pub places : List ℤ
-  pub is : found ≡ Some (record { rows = rows; places = places; after = after; late = late })
-  pub have : RowsHave row names number (length rows) places
+  pub lasts : List Environment
+  pub is : found ≡ Some (record { rows = rows; ends = lasts; after = after; late = late })
+  pub have : RowsHave row names number lasts
+  pub long : length lasts ≡ length rows
 
 none_found : (row : PlainBody) (names : Environment) (number at : ℕ) (late : Late) (after : ℕ) (late_after : Late) (found : Option Lines) → found ≡ Some (no_lines at late) → after ≡ at → late_after ≡ late
     → LinesFound row names number [] after late_after found
-none_found row names number at late after late_after found is ends marks = record {
-  places = [];
-  is = is ∙ (λ i. Some (record { rows = []; places = []; after = sym ends i; late = sym marks i }));
-  have = no_rows_have row names number;
+none_found row names number at late after late_after found is over marks = record {
+  lasts = [];
+  is = is ∙ (λ i. Some (record { rows = []; ends = []; after = sym over i; late = sym marks i }));
+  have = record { give = λ label j own has there. absurd (none_is own there) };
+  long = refl;
 }
 
 -- one row and those after it
 and_found : (row : PlainBody) (names : Environment) (number : ℕ) (line : List Tree) (rows : List (List Tree)) (mid : ℕ) (late_mid : Late) (after : ℕ) (late : Late) (first : Option Line) (next : Line → Option Lines) (found : Option Lines)
     → found ≡ option_and_then (λ line. option_map (and_lines line) (next line)) first → LineFound row names number line mid late_mid first
-    → ((places : List ℤ) → LinesFound row names (number + 1) rows after late (next (record { row = line; places = places; after = mid; late = late_mid })))
+    → ((own : Environment) → LinesFound row names (number + 1) rows after late (next (record { row = line; own = own; after = mid; late = late_mid })))
     → LinesFound row names number (line ∷ rows) after late found
 and_found row names number line rows mid late_mid after late first next found so one others =
-    let own : Line = record { row = line; places = one.places; after = mid; late = late_mid } in
-    let more = others one.places in
+    let own : Line = record { row = line; own = one.own; after = mid; late = late_mid } in
+    let more = others one.own in
     record {
-      places = one.places ++ more.places;
+      lasts = one.own ∷ more.lasts;
       is = so ∙ ap (option_and_then (λ line. option_map (and_lines line) (next line))) one.is ∙ ap (option_map (and_lines own)) more.is;
-      have = rows_have row names number (length rows) one.places more.places one.has more.have;
+      have = rows_have row names number one.own more.lasts one.has more.have;
+      long = ap suc more.long;
     }
 
 -- Rows one after the other.
@@ -114,7 +139,7 @@ module _ (row : PlainBody) (env : Environment) (f : ReadsRow) (Row : ℕ → Lis
       and_found row env (done + 1) line rows it.0 it.1 after late_after (f (done + 1) at late) (λ line. rows_until f until most (done + 1) line.after line.late) (rows_until f until (suc most) done at late)
       (if_true (goes_on until done at) (option_and_then (λ line. option_map (and_lines line) (rows_until f until most (done + 1) line.after line.late)) (f (done + 1) at late)) (rows_over until done at late) on)
       (one (done + 1) line at late it.0 it.1 (omega (arith, rest, within)) it.2)
-      (λ places. until_again until total rows most (done + 1) it.0 it.1 after late_after within it.3 there (omega (arith, sum)) (omega (arith, fuel)))
+      (λ own. until_again until total rows most (done + 1) it.0 it.1 after late_after within it.3 there (omega (arith, sum)) (omega (arith, fuel)))
 
 -- Their number.
 
@@ -292,54 +317,63 @@ count_claims passed env (Some name) rows names knows part counted = record {
 
 -- The labels in its rows.
 
+last_there : (lasts : List Environment) (j : ℕ) → j < length lasts → (own : Environment) × (slice_get lasts j ≡ Some own)
+last_there [] j less = absurd (omega (arith, less))
+last_there (own ∷ lasts) zero less = (own, refl)
+last_there (own ∷ lasts) (suc j) less = last_there lasts j (omega (arith, less))
+
 -- they are known by the number of the rows and by their places in them
-pub rows_known : (row : PlainBody) (count : ℕ) (places : List ℤ) (names env : Environment) → AreRows row count env → RowsHave row env 1 count places → IsKnownOf names env → IsKnownOf (also_rows row count places names) env
-rows_known row count places names env are have stands = record {
+pub rows_known : (row : PlainBody) (lasts : List Environment) (names env : Environment) → AreRows row (length lasts) env → RowsHave row env 1 lasts → IsKnownOf names env → IsKnownOf (also_rows row lasts names) env
+rows_known row lasts names env are have stands = record {
   part = record { give = λ key v is. from key v (gives_rows row key) refl is };
   rows = record { give = λ label rows number is low high. fills label rows number low high (has_label row label) refl is };
   around = stands.around;
 }
   where
-    same_number : (v : ℤ) → Some (pos count) ≡ Some v → pos count ≡ v
-    same_number v is = some_is (pos count) v is
+    placed : (label : List ℕ) (number v : ℤ) → has_label row label ≡ true → rows_give lasts (place_in label number) ≡ Some v → env.give (place_in label number) ≡ Some v
+    placed label (negsuc n) v given is = absurd (none_is v is)
+    placed label (pos zero) v given is = absurd (none_is v is)
+    placed label (pos (suc j)) v given is =
+        let last = and_then (λ own. own.give (place_of label)) (slice_get lasts j) v is in
+        let it = have.give label j last.0 given last.1 in
+        let number : suc j ≡ 1 + j = omega (arith) in
+        ap (λ (n : ℕ). env.give (place_in label (pos n))) number ∙ it.2 ∙ sym it.1 ∙ last.2
 
-    placed : (label : List ℕ) (number v : ℤ) → has_label row label ≡ true → (low high : Bool) → int_le (pos 1) number ≡ low → int_le number (pos count) ≡ high
-        → (if low && high then slice_get places ((nat_abs number - 1) * labels_count row + label_index row label) else None) ≡ Some v → env.give (place_in label number) ≡ Some v
-    placed label number v given false high low_is high_is is = absurd cc
-    placed label number v given true false low_is high_is is = absurd cc
-    placed label number v given true true low_is high_is is =
-        let it = row_value_is row env count places have label number given low_is high_is in
-        let one : row_value row count places (place_in label number) ≡ Some v =
-        (λ i. if low_is i && high_is i then slice_get places ((nat_abs number - 1) * labels_count row + label_index row label) else None) ∙ is in
-        it.2 ∙ sym it.1 ∙ one
-
-    in_rows : (key : Key) (v : ℤ) → gives_rows row key ≡ true → row_value row count places key ≡ Some v → env.give key ≡ Some v
+    in_rows : (key : Key) (v : ℤ) → gives_rows row key ≡ true → rows_give lasts key ≡ Some v → env.give key ≡ Some v
     in_rows (place_of name) v given is = absurd cc
     in_rows (count_of name) v given is = absurd cc
     in_rows (rows_of label) v given is = are.give label given ∙ is
-    in_rows (place_in label number) v given is = placed label number v given (int_le (pos 1) number) (int_le number (pos count)) refl refl is
+    in_rows (place_in label number) v given is = placed label number v given is
     in_rows (row_in array) v given is = absurd cc
 
-    from : (key : Key) (v : ℤ) (test : Bool) → gives_rows row key ≡ test → (if test then row_value row count places key else names.give key) ≡ Some v → env.give key ≡ Some v
+    from : (key : Key) (v : ℤ) (test : Bool) → gives_rows row key ≡ test → (if test then rows_give lasts key else names.give key) ≡ Some v → env.give key ≡ Some v
     from key v true given is = in_rows key v given is
     from key v false none is = stands.part.give key v is
 
+    there : (label : List ℕ) (number : ℤ) → has_label row label ≡ true → int_le (pos 1) number ≡ true → int_le number (pos (length lasts)) ≡ true → (place : ℤ) × (rows_give lasts (place_in label number) ≡ Some place)
+    there label (negsuc n) given low high = absurd cc
+    there label (pos zero) given low high = absurd cc
+    there label (pos (suc j)) given low high =
+        let short : j < length lasts = grind (arith, nat_tests, high) in
+        let last = last_there lasts j short in
+        let it = have.give label j last.0 given last.1 in
+        (it.0, ap (option_and_then (λ (own : Environment). own.give (place_of label))) last.1 ∙ it.1)
+
     fills : (label : List ℕ) (rows number : ℤ) → int_le (pos 1) number ≡ true → int_le number rows ≡ true → (test : Bool) → has_label row label ≡ test
-        → (if test then Some (pos count) else names.give (rows_of label)) ≡ Some rows
-        → (place : ℤ) × ((if test then row_value row count places (place_in label number) else names.give (place_in label number)) ≡ Some place)
-    fills label rows number low high true given is =
-        let it = row_value_is row env count places have label number given low (ap (int_le number) (same_number rows is) ∙ high) in (it.0, it.1)
+        → (if test then Some (pos (length lasts)) else names.give (rows_of label)) ≡ Some rows
+        → (place : ℤ) × ((if test then rows_give lasts (place_in label number) else names.give (place_in label number)) ≡ Some place)
+    fills label rows number low high true given is = there label number given low (ap (int_le number) (some_is (pos (length lasts)) rows is) ∙ high)
     fills label rows number low high false none is = stands.rows.give label rows number is low high
 
 -- and so they are met
-pub rows_met : (row : PlainBody) (count : ℕ) (places : List ℤ) (passed : Passed) (name : Option Word) (stated : Option ℤ) (names : Environment) → Knows (passed_behind passed name) names
-    → Knows (behind (Array name stated row) passed) (also_rows row count places names)
-rows_met row count places passed name stated names knows key asked is = by (gives_rows row key) refl
+pub rows_met : (row : PlainBody) (lasts : List Environment) (passed : Passed) (name : Option Word) (stated : Option ℤ) (names : Environment) → Knows (passed_behind passed name) names
+    → Knows (behind (Array name stated row) passed) (also_rows row lasts names)
+rows_met row lasts passed name stated names knows key asked is = by (gives_rows row key) refl
   where
-    in_rows : (key : Key) → is_asked key ≡ true → gives_rows row key ≡ true → (v : ℤ) × (row_value row count places key ≡ Some v)
+    in_rows : (key : Key) → is_asked key ≡ true → gives_rows row key ≡ true → (v : ℤ) × (rows_give lasts key ≡ Some v)
     in_rows (place_of name) asked given = absurd cc
     in_rows (count_of name) asked given = absurd cc
-    in_rows (rows_of label) asked given = (pos count, refl)
+    in_rows (rows_of label) asked given = (pos (length lasts), refl)
     in_rows (place_in label number) asked given = absurd cc
     in_rows (row_in array) asked given = absurd cc
 
@@ -348,6 +382,6 @@ rows_met row count places passed name stated names knows key asked is = by (give
     without_rows false true met told none is = absurd cc
     without_rows false false met told none is = is
 
-    by : (test : Bool) → gives_rows row key ≡ test → (v : ℤ) × ((if test then row_value row count places key else names.give key) ≡ Some v)
+    by : (test : Bool) → gives_rows row key ≡ test → (v : ℤ) × ((if test then rows_give lasts key else names.give key) ≡ Some v)
     by true given = in_rows key asked given
     by false none = knows key asked (without_rows (gives_count name key) (gives_rows row key) (passed.met key) (passed.told key) none is)

@@ -5,14 +5,14 @@ use Rattle.rz_core.specs.declared.facts.Facts.{Facts}
 use Rattle.rz_core.specs.declared.resource.Word.{Word}
 use Rattle.rz_bits.specs.BitBuf.{missing}
 use Rattle.rz_bits.specs.View.{number_at}
-use Rattle.rz_expr.specs.Environment.{count_key, place_key, Environment, Key}
+use Rattle.rz_expr.specs.Environment.{count_key, place_key, Environment, IsPartOf, Key}
 use Rattle.rz_expr.specs.Term.{Term}
 use Rattle.rz_expr.specs.Value.{value_of}
 use Rattle.rz_types_fields.specs.Field.{case_and, no_cases, Align, Array, Fill, Label, Number, PlainBody, PlainCases, PlainField, PlainText, Points, Switch, Text}
 use Rattle.rz_types_fields.specs.Front.{names_inside}
 use Rattle.rz_types_fields.specs.Passed.{gives_count, gives_key, gives_rows, met_inside, Names}
 use Rattle.rz_types_fields.specs.Piece.{pieces_of, terms_of_text, Filler, OneNumber, OneText, Piece, Place, Zeros}
-use Rattle.rz_types_fields.specs.RowLabels.{also_rows, row_of, row_value}
+use Rattle.rz_types_fields.specs.RowLabels.{also_rows, row_of, rows_give}
 use Rattle.rz_types_fields.specs.Sees.{is_late, Late}
 use Rattle.rz_types_fields.specs.Solve.{has_key}
 use Rattle.rz_types_fields.specs.Spells.{is_one_late, put}
@@ -30,17 +30,25 @@ use Rattle.rz_unlay.proofs.RowsRead.{if_either}
 use Rattle.rz_unlay.proofs.Sees.{KeepsRows}
 use Rattle.rz_unlay.proofs.Solved.{all_solved}
 use Rattle.rz_unlay.proofs.SpelledNear.{near_keeps}
+use Rattle.rz_unlay.proofs.Told.{part_of_part, same_part}
 
 -- Pieces.
 
-stay_same : (names : Environment) → KeepsRows names names
-stay_same names = record { give = λ key of. refl }
+-- what is known stays so, and of rows no more is known
+pub record Stay (names more : Environment) : Type 0 where
+  pub kept : IsPartOf names more
+  pub rows : KeepsRows names more
 
-stay_then : (a b c : Environment) → KeepsRows a b → KeepsRows b c → KeepsRows a c
-stay_then a b c one other = record { give = λ key of. other.give key of ∙ one.give key of }
+stay_same : (names : Environment) → Stay names names
+stay_same names = record { kept = same_part names; rows = record { give = λ key of. refl } }
 
-claim_stays : (key : Key) (value : ℤ) (names more : Environment) → of_rows key ≡ false → claim key value names ≡ Some more → KeepsRows names more
-claim_stays key value names more plain is = record { give = λ other of. (claim_came key value names more is).same other (apart_from_rows key other plain of) }
+stay_then : (a b c : Environment) → Stay a b → Stay b c → Stay a c
+stay_then a b c one other = record { kept = part_of_part a b c one.kept other.kept; rows = record { give = λ key of. other.rows.give key of ∙ one.rows.give key of } }
+
+claim_stays : (key : Key) (value : ℤ) (names more : Environment) → of_rows key ≡ false → claim key value names ≡ Some more → Stay names more
+claim_stays key value names more plain is =
+    let it = claim_came key value names more is in
+    record { kept = it.kept; rows = record { give = λ other of. it.same other (apart_from_rows key other plain of) } }
 
 -- no name of rows stands in an expression to be told
 not_in : (key : Key) (term : Term) → of_rows key ≡ true → has_key key term ≡ false
@@ -52,7 +60,7 @@ not_in key term of = by (has_key key term) refl
 
 module _ (here : Here) where
   abbrev Stays : Environment → Step → Type 0
-  Stays names step = KeepsRows names step.names
+  Stays names step = Stay names step.names
 
   number_stays : (form : NumForm) (width : ℤ) (fixed : Option Term) (names : Environment) (at : ℕ) (late : Late) (step : Step) → number_step here form width fixed names at late ≡ Some step → Stays names step
   number_stays form width None names at late step is =
@@ -64,9 +72,8 @@ module _ (here : Here) where
       let more : Environment = two.0 in
       let three = if_some (is_stored form width (value_of term (seen_at here more at)) one.0)
       (record { value = None; after = at + nat_abs width; names = more; late = late_behind late (nat_abs width) (is_late here.met late term (seen_at here more at)) }) step two.2 in
-      subst (Stays names) three.1 (record {
-        give = λ key of. (all_solved (with_near here) (λ key now. solved_at (length here.all) (nat_abs width) key (seen_at here now at) term one.0) (near_keeps here) term names more two.1).same key (not_in key term of);
-      })
+      let solved = all_solved (with_near here) (λ key now. solved_at (length here.all) (nat_abs width) key (seen_at here now at) term one.0) (near_keeps here) term names more two.1 in
+      subst (Stays names) three.1 (record { kept = solved.kept; rows = record { give = λ key of. solved.same key (not_in key term of) } })
 
   early_stays : (text : PlainText) (names : Environment) (at : ℕ) (late : Late) (step : Step) → early_text here text names at late ≡ Some step → Stays names step
   early_stays text names at late step is =
@@ -101,17 +108,17 @@ module _ (here : Here) where
   piece_stays (Filler unit) names at late step is = zeros_stay (missing unit at) names at late step is
   piece_stays (Place name) names at late step is = label_stays name names at late step is
 
-  pieces_stay : (pieces : List Piece) (names : Environment) (at : ℕ) (late : Late) (found : Found) → pieces_found here pieces names at late ≡ Some found → KeepsRows names found.names
+  pieces_stay : (pieces : List Piece) (names : Environment) (at : ℕ) (late : Late) (found : Found) → pieces_found here pieces names at late ≡ Some found → Stay names found.names
   pieces_stay [] names at late found is =
-      subst (λ (f : Found). KeepsRows names f.names) (some_same (record { row = []; places = []; after = at; names = names; late = late }) found is) (stay_same names)
+      subst (λ (f : Found). Stay names f.names) (some_same (record { row = []; after = at; names = names; late = late }) found is) (stay_same names)
   pieces_stay (piece ∷ pieces) names at late found is =
       let one = and_then (λ step. with_value step.value (pieces_found here pieces step.names step.after step.late)) (piece_step here piece names at late) found is in
       let step : Step = one.0 in
-      let more = mapped (λ f. record { row = put step.value f.row; places = f.places; after = f.after; names = f.names; late = f.late }) (pieces_found here pieces step.names step.after step.late) found one.2 in
+      let more = mapped (λ f. record { row = put step.value f.row; after = f.after; names = f.names; late = f.late }) (pieces_found here pieces step.names step.after step.late) found one.2 in
       let inner : Found = more.0 in
-      subst (λ (f : Found). KeepsRows names f.names) more.2 (stay_then names step.names inner.names (piece_stays piece names at late step one.1) (pieces_stay pieces step.names step.after step.late inner more.1))
+      subst (λ (f : Found). Stay names f.names) more.2 (stay_then names step.names inner.names (piece_stays piece names at late step one.1) (pieces_stay pieces step.names step.after step.late inner more.1))
 
-  of_pieces_stays : (field : PlainField) (names : Environment) (at : ℕ) (late : Late) (step : Step) → field_of_pieces here field names at late ≡ Some step → Stays names step
+  pub of_pieces_stays : (field : PlainField) (names : Environment) (at : ℕ) (late : Late) (step : Step) → field_of_pieces here field names at late ≡ Some step → Stays names step
   of_pieces_stays field names at late step is =
       let it = mapped (λ f. record { value = value_of_field field f.row; after = f.after; names = f.names; late = f.late }) (pieces_found here (pieces_of field) names at late) step is in
       let found : Found = it.0 in
@@ -120,38 +127,38 @@ module _ (here : Here) where
 -- Fields.
 
 -- the name of an array has the number of its rows
-count_stays : (name : Option Word) (rows : ℕ) (names more : Environment) → claim_count name rows names ≡ Some more → KeepsRows names more
-count_stays None rows names more is = subst (KeepsRows names) (some_same names more is) (stay_same names)
+pub count_stays : (name : Option Word) (rows : ℕ) (names more : Environment) → claim_count name rows names ≡ Some more → Stay names more
+count_stays None rows names more is = subst (Stay names) (some_same names more is) (stay_same names)
 count_stays (Some name) rows names more is = claim_stays (count_key name.bytes) (pos rows) names more refl is
 
 module _ (facts : Facts) (all : List Bool) where
-  cases_stay : (met : Names) (cases : PlainCases) (names : Environment) (at : ℕ) (late : Late) (step : Step) → case_found facts all met cases names at late ≡ Some step → KeepsRows names step.names
+  pub cases_stay : (met : Names) (cases : PlainCases) (names : Environment) (at : ℕ) (late : Late) (step : Step) → case_found facts all met cases names at late ≡ Some step → Stay names step.names
   cases_stay met no_cases names at late step is = absurd (none_is step is)
   cases_stay met (case_and name row others) names at late step is =
       if_either (has_keys all at (case_keys row)) _ (case_found facts all met others names at late) step
       (λ chosen.
       let it = mapped (λ f. record { value = Some (trees.Choice name f.row); after = f.after; names = names; late = f.late }) (body_found facts all (met_inside row met) row (names_inside None row names) at late) step chosen in
-      subst (λ (s : Step). KeepsRows names s.names) it.2 (stay_same names))
+      subst (λ (s : Step). Stay names s.names) it.2 (stay_same names))
       (λ later. cases_stay met others names at late step later) is
 
   -- after a field the names of rows that it doesn't give have the values that they had
   pub field_stays : (rest : PlainBody) (met : Names) (field : PlainField) (names : Environment) (at : ℕ) (late : Late) (step : Step) → field_found facts all rest met field names at late ≡ Some step
       → (key : Key) → of_rows key ≡ true → gives_key field key ≡ false → step.names.give key ≡ names.give key
-  field_stays rest met (Number number) names at late step is key of none = (of_pieces_stays (here_at facts all (Number number) rest at met) (Number number) names at late step is).give key of
-  field_stays rest met (Text text) names at late step is key of none = (of_pieces_stays (here_at facts all (Text text) rest at met) (Text text) names at late step is).give key of
-  field_stays rest met (Points points) names at late step is key of none = (of_pieces_stays (here_at facts all (Points points) rest at met) (Points points) names at late step is).give key of
-  field_stays rest met (Fill unit count) names at late step is key of none = (of_pieces_stays (here_at facts all (Fill unit count) rest at met) (Fill unit count) names at late step is).give key of
-  field_stays rest met (Align unit) names at late step is key of none = (of_pieces_stays (here_at facts all (Align unit) rest at met) (Align unit) names at late step is).give key of
-  field_stays rest met (Label name) names at late step is key of none = (of_pieces_stays (here_at facts all (Label name) rest at met) (Label name) names at late step is).give key of
+  field_stays rest met (Number number) names at late step is key of none = (of_pieces_stays (here_at facts all (Number number) rest at met) (Number number) names at late step is).rows.give key of
+  field_stays rest met (Text text) names at late step is key of none = (of_pieces_stays (here_at facts all (Text text) rest at met) (Text text) names at late step is).rows.give key of
+  field_stays rest met (Points points) names at late step is key of none = (of_pieces_stays (here_at facts all (Points points) rest at met) (Points points) names at late step is).rows.give key of
+  field_stays rest met (Fill unit count) names at late step is key of none = (of_pieces_stays (here_at facts all (Fill unit count) rest at met) (Fill unit count) names at late step is).rows.give key of
+  field_stays rest met (Align unit) names at late step is key of none = (of_pieces_stays (here_at facts all (Align unit) rest at met) (Align unit) names at late step is).rows.give key of
+  field_stays rest met (Label name) names at late step is key of none = (of_pieces_stays (here_at facts all (Label name) rest at met) (Label name) names at late step is).rows.give key of
   field_stays rest met (Array name count row) names at late step is key of none =
       let reads : ReadsRow = λ number place marks. line_of (body_found facts all (met_inside row met) row (names_inside (row_of name number) row names) place marks) in
-      let one = and_then (λ lines. option_map (λ more. record { value = Some (trees.Rows lines.rows); after = lines.after; names = also_rows row (length lines.rows) lines.places more; late = lines.late }) (claim_count name (length lines.rows) names))
+      let one = and_then (λ lines. option_map (λ more. record { value = Some (trees.Rows lines.rows); after = lines.after; names = also_rows row lines.ends more; late = lines.late }) (claim_count name (length lines.rows) names))
       (rows_by reads (length all) rest names (count_known names name count) at late) step is in
       let lines : Lines = one.0 in
-      let two = mapped (λ more. record { value = Some (trees.Rows lines.rows); after = lines.after; names = also_rows row (length lines.rows) lines.places more; late = lines.late }) (claim_count name (length lines.rows) names) step one.2 in
+      let two = mapped (λ more. record { value = Some (trees.Rows lines.rows); after = lines.after; names = also_rows row lines.ends more; late = lines.late }) (claim_count name (length lines.rows) names) step one.2 in
       let more : Environment = two.0 in
       let absent : gives_rows row key ≡ false = (neither (gives_count name key) (gives_rows row key) none).1 in
       ap (λ (s : Step). s.names.give key) (sym two.2)
-      ∙ if_false (gives_rows row key) (row_value row (length lines.rows) lines.places key) (more.give key) absent
-      ∙ (count_stays name (length lines.rows) names more two.1).give key of
-  field_stays rest met (Switch cases) names at late step is key of none = (cases_stay met cases names at late step is).give key of
+      ∙ if_false (gives_rows row key) (rows_give lines.ends key) (more.give key) absent
+      ∙ (count_stays name (length lines.rows) names more two.1).rows.give key of
+  field_stays rest met (Switch cases) names at late step is key of none = (cases_stay met cases names at late step is).rows.give key of

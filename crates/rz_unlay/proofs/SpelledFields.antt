@@ -1,17 +1,17 @@
 -- What is read is spelled plainly: fields, rows, cases and bodies.
-use Rattle.std.proofs.Common.{◌≡◌, ℕ, ◌≤◌, ℤ, pos, Bool, true, false, ◌&&◌, List, [], ◌++◌, length, Option, Some, None, refl, sym, ap, ◌∙◌, subst}
+use Rattle.std.proofs.Common.{◌≡◌, ℕ, ◌≤◌, ℤ, Bool, true, false, ◌&&◌, List, [], length, Option, Some, None, refl, sym, ap, ◌∙◌, subst}
 use Rattle.std.specs.Prelude.{option_map}
 use Rattle.std.specs.List.{AllByRecursion}
 use Rattle.std.specs.Str.{str_eq_ignore_ascii_case}
 use Rattle.rz_core.proofs.Folds.{same_lower}
 use Rattle.rz_core.specs.declared.facts.Facts.{Facts}
 use Rattle.rz_core.specs.declared.resource.Word.{Word}
-use Rattle.rz_expr.specs.Environment.{place_key, Environment, IsPartOf, Key}
+use Rattle.rz_expr.specs.Environment.{Environment, IsPartOf, Key}
 use Rattle.rz_types_fields.specs.Field.{case_and, field_and, no_cases, no_fields, Align, Array, Fill, Label, Number, PlainBody, PlainCases, PlainField, Points, Switch, Text}
 use Rattle.rz_types_fields.specs.Front.{names_inside}
 use Rattle.rz_types_fields.specs.Passed.{at_field, at_front, behind, declares, gives_key, is_held, met_behind, met_inside, Passed}
 use Rattle.rz_types_fields.specs.Row.{By}
-use Rattle.rz_types_fields.specs.RowLabels.{also_rows, label_places, row_of, RowOf}
+use Rattle.rz_types_fields.specs.RowLabels.{also_rows, row_of, RowOf}
 use Rattle.rz_types_fields.specs.Sees.{Late}
 use Rattle.rz_types_fields.specs.Shape.{are_cases_shaped, are_shaped, is_none_or, is_own_name, is_shaped}
 use Rattle.rz_types_fields.specs.Spells.{choice_of_tree, is_case, most_bits, plainly, put, BodySpells, CaseSpells, FieldSpells, Inside}
@@ -25,15 +25,14 @@ use Rattle.rz_types.specs.Rules.{case_names}
 use Rattle.rz_types.specs.Walk.{and_names, around_names, names_of, Own}
 use Rattle.rz_unlay.specs.Pieces.{with_value, Found}
 use Rattle.rz_unlay_pieces.specs.Pieces.{claim_count, Step}
-use Rattle.rz_unlay.specs.Cursor.{body_found, case_found, count_known, field_found, has_keys, line_of, rows_by, with_label, Line, Lines, ReadsRow}
-use Rattle.rz_types_fields.proofs.RowPlaces.{places_more, FieldStands, PlacesAre}
-use Rattle.rz_types_fields.proofs.SameNames.{key_itself}
+use Rattle.rz_unlay.specs.Cursor.{body_found, case_found, count_known, field_found, has_keys, line_of, rows_by, Line, Lines, ReadsRow}
 use Rattle.rz_unlay.proofs.Ahead.{HasPlaces}
 use Rattle.rz_unlay.proofs.Fresh.{fresh_front, Fresh}
+use Rattle.rz_unlay.proofs.Labelled.{body_labels}
 use Rattle.rz_unlay.proofs.MetBehind.{met_field}
 use Rattle.rz_unlay.proofs.Onward.{body_on, field_on, near_read, places_stay, places_within}
 use Rattle.rz_unlay.proofs.ReadsTests.{and_then, both_true, mapped, neither, none_is, not_both, right_true, some_same}
-use Rattle.rz_unlay.proofs.RowsRead.{if_either, lines_read}
+use Rattle.rz_unlay.proofs.RowsRead.{by_long, if_either, lines_read}
 use Rattle.rz_unlay.proofs.RowsStay.{field_stays}
 use Rattle.rz_unlay.proofs.SpelledNames.{Came, CameNear, Grows, Knows, NearShort}
 use Rattle.rz_unlay.proofs.SpelledPieces.{field_pieces, then_came, wide, Tells}
@@ -61,10 +60,9 @@ module _ (tells : Tells) (facts : Facts) (all : List Bool) (short : length all �
     pub has : HasPlaces names
     pub inside : at ≤ length all
 
-  -- what is read of a body, with the places of its labels
+  -- what is read of a body
   abbrev pub BodyRead : Passed → PlainBody → Environment → ℕ → Late → Found → Type 0
-  BodyRead passed body names at late found =
-      Came (declares body) names found.names at late found.after found.late (λ env. BodySpells plainly facts all body env passed found.row) × PlacesAre found.names body found.places
+  BodyRead passed body names at late found = Came (declares body) names found.names at late found.after found.late (λ env. BodySpells plainly facts all body env passed found.row)
 
   -- a body is read so, whatever stands before it
   abbrev pub BodyCame : Passed → PlainBody → Type 0
@@ -100,27 +98,28 @@ module _ (tells : Tells) (facts : Facts) (all : List Bool) (short : length all �
       → (line.after ≤ length all) × RowRead facts all name row (at_front row passed) names number line at late
   line_came row passed shaped came name names number at late line before is =
       let which = row_of name number in
-      let it = mapped (λ f. record { row = f.row; places = f.places; after = f.after; late = f.late }) (body_found facts all (met_inside row passed.met) row (names_inside which row names) at late) line is in
+      let it = mapped (λ f. record { row = f.row; own = f.names; after = f.after; late = f.late }) (body_found facts all (met_inside row passed.met) row (names_inside which row names) at late) line is in
       let found : Found = it.0 in
       let within = before_row false row which passed names at shaped before in
       let goes = (body_on facts all row false (met_inside row passed.met) (names_inside which row names) at late found shaped within.has before.inside it.1).goes in
       let read = came (names_inside which row names) at late found within (fresh_front which row names) it.1 in
       subst (λ (l : Line). (l.after ≤ length all) × RowRead facts all name row (at_front row passed) names number l at late) it.2 (
         goes.within,
-        row_read facts all name row (at_front row passed) names found.names number at late
-            (record { row = found.row; places = found.places; after = found.after; late = found.late }) read.1 read.0,
+        row_read facts all name row (at_front row passed) names number at late (record { row = found.row; own = found.names; after = found.after; late = found.late })
+            (body_labels facts all row (met_inside row passed.met) (names_inside which row names) at late found it.1) read,
       )
 
   array_came : (rest : PlainBody) (passed : Passed) (name : Option Word) (count : Option ℤ) (row : PlainBody) → are_shaped false row ≡ true → BodyCame (at_front row passed) row → FieldCame rest passed (Array name count row)
   array_came rest passed name count row shaped came names at late step before fresh near is =
       let here = at_field (field_and (Array name count row) rest) passed in
       let reads : ReadsRow = λ number place marks. line_of (body_found facts all (met_inside row passed.met) row (names_inside (row_of name number) row names) place marks) in
-      let one = and_then (λ lines. option_map (λ more. record { value = Some (trees.Rows lines.rows); after = lines.after; names = also_rows row (length lines.rows) lines.places more; late = lines.late }) (claim_count name (length lines.rows) names))
+      let one = and_then (λ lines. option_map (λ more. record { value = Some (trees.Rows lines.rows); after = lines.after; names = also_rows row lines.ends more; late = lines.late }) (claim_count name (length lines.rows) names))
       (rows_by reads (length all) rest names (count_known names name count) at late) step is in
       let lines : Lines = one.0 in
-      let two = mapped (λ more. record { value = Some (trees.Rows lines.rows); after = lines.after; names = also_rows row (length lines.rows) lines.places more; late = lines.late }) (claim_count name (length lines.rows) names) step one.2 in
+      let two = mapped (λ more. record { value = Some (trees.Rows lines.rows); after = lines.after; names = also_rows row lines.ends more; late = lines.late }) (claim_count name (length lines.rows) names) step one.2 in
       let more : Environment = two.0 in
-      let known = rows_came name count row rest (length lines.rows) lines.places here names more before.knows fresh two.1 in
+      let long = by_long reads (length all) rest names (count_known names name count) at late lines one.1 in
+      let known = rows_came name count row rest (length lines.rows) lines.ends here names more long before.knows fresh two.1 in
       let come = lines_read (length all) reads (λ number line at late. RowRead facts all name row (at_front row here) names number line at late)
       (λ number place marks line inside found. line_came row passed shaped came name names number place marks line (record { knows = before.knows; has = before.has; inside = inside }) found)
       rest names name count at late lines before.inside one.1 in
@@ -133,8 +132,8 @@ module _ (tells : Tells) (facts : Facts) (all : List Bool) (short : length all �
             come.0,
             known.counted env part,
             known.labelled env part,
-            rows_spelled facts all name row (at_front row here) names more env lines.rows lines.places at late lines.after lines.late
-                (part_of_part names (also_rows row (length lines.rows) lines.places more) env known.grows.kept part) part come.1.1,
+            rows_spelled facts all name row (at_front row here) names more env lines.rows lines.ends at late lines.after lines.late
+                (part_of_part names (also_rows row lines.ends more) env known.grows.kept part) part come.1.1,
           );
         },
         known.knows,
@@ -165,7 +164,7 @@ module _ (tells : Tells) (facts : Facts) (all : List Bool) (short : length all �
         differs = λ other differ. choice_name other name found.row ∙ differ.0;
         spells = λ env part.
             let inside = inside_came facts all row None (at_front row passed) names found.names env at late found.after found.late found.row
-            (came (names_inside None row names) at late found (before_row true row None passed names at shaped before) (fresh_front None row names) it.1).0 part (λ label has. tt) in
+            (came (names_inside None row names) at late found (before_row true row None passed names at shaped before) (fresh_front None row names) it.1) part (λ label has. tt) in
             subst (λ (test : Bool). By test
             ((line : List Tree) × (value ≡ Some (trees.Choice name line)) × Inside row None env (λ own. BodySpells plainly facts all row own (at_front row passed) line) at late found.after found.late)
             (CaseSpells plainly facts all others env passed value at late found.after found.late))
@@ -192,27 +191,6 @@ module _ (tells : Tells) (facts : Facts) (all : List Bool) (short : length all �
       let goes = (field_on facts all field in_case fields passed.met names at late step shaped before.has before.inside is).goes in
       record { knows = came.1; has = places_stay names step.names goes.kept before.has; inside = goes.within }
 
-  -- a label has its place after all fields of its body
-  label_stands : (in_case : Bool) (field : PlainField) (fields : PlainBody) (passed : Passed) (names : Environment) (at : ℕ) (late : Late) (step : Step) (more : Environment) → is_shaped in_case field ≡ true → Before passed names at
-      → field_found facts all fields passed.met field names at late ≡ Some step → IsPartOf step.names more → FieldStands field more at
-  label_stands in_case (Number number) fields passed names at late step more shaped before is kept = tt
-  label_stands in_case (Text text) fields passed names at late step more shaped before is kept = tt
-  label_stands in_case (Points points) fields passed names at late step more shaped before is kept = tt
-  label_stands in_case (Fill unit count) fields passed names at late step more shaped before is kept = tt
-  label_stands in_case (Align unit) fields passed names at late step more shaped before is kept = tt
-  label_stands in_case (Label name) fields passed names at late step more shaped before is kept =
-      kept.give (place_key name.bytes) (pos at)
-      ((field_on facts all (Label name) in_case fields passed.met names at late step shaped before.has before.inside is).label (place_key name.bytes) (key_itself (place_key name.bytes)))
-  label_stands in_case (Array name count row) fields passed names at late step more shaped before is kept = tt
-  label_stands in_case (Switch cases) fields passed names at late step more shaped before is kept = tt
-
-  -- what was read of a body, and of the fields after its first one
-  labelled : (field : PlainField) (at : ℕ) (value : Option Tree) (others : Option Found) (found : Found) → with_label field at (with_value value others) ≡ Some found
-      → (inner : Found) × (others ≡ Some inner) × (record { row = put value inner.row; places = label_places field at ++ inner.places; after = inner.after; names = inner.names; late = inner.late } ≡ found)
-  labelled field at value None found is = absurd (none_is found is)
-  labelled field at value (Some inner) found is =
-      (inner, refl, some_same (record { row = put value inner.row; places = label_places field at ++ inner.places; after = inner.after; names = inner.names; late = inner.late }) found is)
-
   -- names of rows that the fields after one give are unknown there, too
   fresh_behind : (field : PlainField) (fields : PlainBody) (passed : Passed) (names : Environment) (at : ℕ) (late : Late) (step : Step) → AreOwn (names_of (field_and field fields)) → Fresh (field_and field fields) names
       → field_found facts all fields passed.met field names at late ≡ Some step → Fresh fields step.names
@@ -231,9 +209,9 @@ module _ (tells : Tells) (facts : Facts) (all : List Bool) (short : length all �
   body_and in_case field fields passed shaped own one others names at late found before fresh is =
       let here = at_field (field_and field fields) passed in
       let near = near_read facts all in_case (field_and field fields) passed.met names at late found shaped before.has before.inside is in
-      let first = and_then (λ step. with_label field at (with_value step.value (body_found facts all (met_behind field passed.met) fields step.names step.after step.late))) (field_found facts all fields passed.met field names at late) found is in
+      let first = and_then (λ step. with_value step.value (body_found facts all (met_behind field passed.met) fields step.names step.after step.late)) (field_found facts all fields passed.met field names at late) found is in
       let step : Step = first.0 in
-      let more = labelled field at step.value (body_found facts all (met_behind field passed.met) fields step.names step.after step.late) found first.2 in
+      let more = mapped (λ f. record { row = put step.value f.row; after = f.after; names = f.names; late = f.late }) (body_found facts all (met_behind field passed.met) fields step.names step.after step.late) found first.2 in
       let inner : Found = more.0 in
       let test = both_true (is_shaped in_case field) (are_shaped in_case fields) shaped in
       let came = one names at late step before fresh (λ key place there. (near key place there).1) first.1 in
@@ -241,19 +219,16 @@ module _ (tells : Tells) (facts : Facts) (all : List Bool) (short : length all �
       let read : body_found facts all (behind field here).met fields step.names step.after step.late ≡ Some inner =
       ap (λ (met : Key → Bool). body_found facts all met fields step.names step.after step.late) (met_field field here) ∙ more.1 in
       let behind_it = others step.names step.after step.late inner there (fresh_behind field fields passed names at late step own fresh first.1) read in
-      let stands = label_stands in_case field fields passed names at late step inner.names test.0 before first.1 behind_it.0.grows.kept in
       let names_same : inner.names ≡ found.names = ap (λ (f : Found). f.names) more.2 in
-      subst (BodyRead passed (field_and field fields) names at late) more.2 (
-        then_came all (field_and field fields) at (declares (field_and field fields)) (λ env. FieldSpells plainly facts all field env here) (λ env. BodySpells plainly facts all fields env (behind field here))
-            step.value inner.row names step.names inner.names at late step.after step.late inner.after inner.late
-            (λ env part key place so.
-            let it = near key place so in
-            (part.give key _ (ap (λ (known : Environment). known.give key) names_same ∙ it.0), it.1))
-            came.0
-            (wide (declares fields) (declares (field_and field fields)) (λ key none. (neither (gives_key field key) (declares fields key) none).1)
-            step.names inner.names step.after step.late inner.after inner.late (λ env. BodySpells plainly facts all fields env (behind field here) inner.row) behind_it.0),
-        places_more inner.names field fields at inner.places stands behind_it.1,
-      )
+      subst (BodyRead passed (field_and field fields) names at late) more.2
+      (then_came all (field_and field fields) at (declares (field_and field fields)) (λ env. FieldSpells plainly facts all field env here) (λ env. BodySpells plainly facts all fields env (behind field here))
+      step.value inner.row names step.names inner.names at late step.after step.late inner.after inner.late
+      (λ env part key place so.
+      let it = near key place so in
+      (part.give key _ (ap (λ (known : Environment). known.give key) names_same ∙ it.0), it.1))
+      came.0
+      (wide (declares fields) (declares (field_and field fields)) (λ key none. (neither (gives_key field key) (declares fields key) none).1)
+      step.names inner.names step.after step.late inner.after inner.late (λ env. BodySpells plainly facts all fields env (behind field here) inner.row) behind_it))
 
   mutual
     field_came : (scope : Own) (in_case outermost : Bool) (rest : PlainBody) (passed : Passed) (field : PlainField) → IsKeptWithin scope field → is_shaped in_case field ≡ true
@@ -292,8 +267,8 @@ module _ (tells : Tells) (facts : Facts) (all : List Bool) (short : length all �
 
     pub body_came : (scope : Own) (in_case outermost : Bool) (passed : Passed) (body : PlainBody) → AreOwn (names_of body) → AreKept scope body → are_shaped in_case body ≡ true → are_read outermost passed body ≡ true → BodyCame passed body
     body_came scope in_case outermost passed no_fields own kept shaped reads names at late found before fresh is =
-        subst (BodyRead passed no_fields names at late) (some_same (record { row = []; places = []; after = at; names = names; late = late }) found is)
-        (record { grows = record { kept = same_part names; same = λ key none. refl }; spells = λ env part. (refl, refl, refl) }, refl)
+        subst (BodyRead passed no_fields names at late) (some_same (record { row = []; after = at; names = names; late = late }) found is)
+        (record { grows = record { kept = same_part names; same = λ key none. refl }; spells = λ env part. (refl, refl, refl) })
     body_came scope in_case outermost passed (field_and field fields) own kept shaped reads names at late found before fresh is =
         let here = at_field (field_and field fields) passed in
         let test = both_true (is_shaped in_case field) (are_shaped in_case fields) shaped in

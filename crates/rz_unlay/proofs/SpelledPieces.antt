@@ -154,7 +154,7 @@ module _ (tells : Tells) (facts : Facts) (all : List Bool) (short : length all �
 
   and_pieces : (piece : Piece) (pieces : List Piece) (passed : Passed) (names : Environment) (at : ℕ) (late : Late) (step : Step) (inner found : Found) → CamePiece passed (behind_piece piece passed) piece names at late step
       → CamePieces (behind_piece piece passed) pieces step.names step.after step.late inner
-      → record { row = put step.value inner.row; places = inner.places; after = inner.after; names = inner.names; late = inner.late } ≡ found → CamePieces passed (piece ∷ pieces) names at late found
+      → record { row = put step.value inner.row; after = inner.after; names = inner.names; late = inner.late } ≡ found → CamePieces passed (piece ∷ pieces) names at late found
   and_pieces piece pieces passed names at late step inner found one others made = subst (CamePieces passed (piece ∷ pieces) names at late) made (
     record {
       grows = grows_then (declares body) names step.names inner.names one.0.grows others.0.grows;
@@ -174,13 +174,13 @@ module _ (tells : Tells) (facts : Facts) (all : List Bool) (short : length all �
   pieces_came : (pieces : List Piece) (passed : Passed) (names : Environment) (at : ℕ) (late : Late) (found : Found) → AllByRecursion IsLaid pieces → IsNearTo passed → are_pieces_read outermost rest passed pieces ≡ true
       → Knows (is_held passed) names → pieces_found (here passed.met) pieces names at late ≡ Some found → CamePieces passed pieces names at late found
   pieces_came [] passed names at late found laid near_is reads knows is =
-      subst (CamePieces passed [] names at late) (some_same (record { row = []; places = []; after = at; names = names; late = late }) found is)
+      subst (CamePieces passed [] names at late) (some_same (record { row = []; after = at; names = names; late = late }) found is)
       (record { grows = record { kept = same_part names; same = λ key none. refl }; spells = λ env part near_in. (refl, refl, refl) }, knows)
   pieces_came (piece ∷ pieces) passed names at late found laid near_is reads knows is =
       let each = both_true (is_piece_read outermost rest passed piece) (are_pieces_read outermost rest (behind_piece piece passed) pieces) reads in
       let one = and_then (λ step. with_value step.value (pieces_found (here passed.met) pieces step.names step.after step.late)) (piece_step (here passed.met) piece names at late) found is in
       let step : Step = one.0 in
-      let more = mapped (λ f. record { row = put step.value f.row; places = f.places; after = f.after; names = f.names; late = f.late }) (pieces_found (here passed.met) pieces step.names step.after step.late) found one.2 in
+      let more = mapped (λ f. record { row = put step.value f.row; after = f.after; names = f.names; late = f.late }) (pieces_found (here passed.met) pieces step.names step.after step.late) found one.2 in
       let inner : Found = more.0 in
       let first_piece = piece_came piece passed names at late step laid.0 near_is each.0 knows one.1 in
       let others = pieces_came pieces (behind_piece piece passed) step.names step.after step.late inner laid.1 (λ key. ap (λ (n : Names). n key) (near_piece piece passed) ∙ near_is key) each.1 first_piece.1
@@ -221,7 +221,7 @@ module _ (tells : Tells) (facts : Facts) (all : List Bool) (short : length all �
   single_row met piece names at late found is =
       let one = and_then (λ step. with_value step.value (pieces_found (here met) [] step.names step.after step.late)) (piece_step (here met) piece names at late) found is in
       let step : Step = one.0 in
-      let same = some_same (record { row = put step.value []; places = []; after = step.after; names = step.names; late = step.late }) found one.2 in
+      let same = some_same (record { row = put step.value []; after = step.after; names = step.names; late = step.late }) found one.2 in
       subst (λ (f : Found). option_to_list (first_of_row f.row) ≡ f.row) same (by step.value)
     where
       by : (value : Option Tree) → option_to_list (first_of_row (put value [])) ≡ put value []
@@ -230,7 +230,7 @@ module _ (tells : Tells) (facts : Facts) (all : List Bool) (short : length all �
 
   -- a number in front of others
   number_and : (n : ℕ) (step : Step) (inner found : Found) → Some (trees.Number n) ≡ step.value → map trees.Number (numbers_of_values inner.row) ≡ inner.row
-      → record { row = put step.value inner.row; places = inner.places; after = inner.after; names = inner.names; late = inner.late } ≡ found → map trees.Number (numbers_of_values found.row) ≡ found.row
+      → record { row = put step.value inner.row; after = inner.after; names = inner.names; late = inner.late } ≡ found → map trees.Number (numbers_of_values found.row) ≡ found.row
   number_and n step inner found value others made =
       subst (λ (f : Found). map trees.Number (numbers_of_values f.row) ≡ f.row) made
       (subst (λ (v : Option Tree). map trees.Number (numbers_of_values (put v inner.row)) ≡ put v inner.row) value
@@ -239,11 +239,11 @@ module _ (tells : Tells) (facts : Facts) (all : List Bool) (short : length all �
   numbers_row : (met : Names) (count : ℕ) (names : Environment) (at : ℕ) (late : Late) (found : Found) → pieces_found (here met) (replicate count free_integer) names at late ≡ Some found
       → map trees.Number (numbers_of_values found.row) ≡ found.row
   numbers_row met zero names at late found is =
-      subst (λ (f : Found). map trees.Number (numbers_of_values f.row) ≡ f.row) (some_same (record { row = []; places = []; after = at; names = names; late = late }) found is) refl
+      subst (λ (f : Found). map trees.Number (numbers_of_values f.row) ≡ f.row) (some_same (record { row = []; after = at; names = names; late = late }) found is) refl
   numbers_row met (suc count) names at late found is =
       let one = and_then (λ step. with_value step.value (pieces_found (here met) (replicate count free_integer) step.names step.after step.late)) (piece_step (here met) free_integer names at late) found is in
       let step : Step = one.0 in
-      let more = mapped (λ f. record { row = put step.value f.row; places = f.places; after = f.after; names = f.names; late = f.late }) (pieces_found (here met) (replicate count free_integer) step.names step.after step.late) found one.2 in
+      let more = mapped (λ f. record { row = put step.value f.row; after = f.after; names = f.names; late = f.late }) (pieces_found (here met) (replicate count free_integer) step.names step.after step.late) found one.2 in
       let inner : Found = more.0 in
       let number = mapped (λ n. record { value = Some (trees.Number n); after = at + nat_abs (pos 16); names = names; late = late_behind late (nat_abs (pos 16)) false }) (number_at all at (nat_abs (pos 16))) step one.1 in
       number_and number.0 step inner found (ap (λ (s : Step). s.value) number.2) (numbers_row met count step.names step.after step.late inner more.1) more.2
@@ -262,15 +262,15 @@ module _ (tells : Tells) (facts : Facts) (all : List Bool) (short : length all �
       fixed_value (here met) form width term at late n two.0 step two.2
 
   nothing_and : (step : Step) (inner found : Found) → None ≡ step.value → [] ≡ inner.row
-      → record { row = put step.value inner.row; places = inner.places; after = inner.after; names = inner.names; late = inner.late } ≡ found → [] ≡ found.row
+      → record { row = put step.value inner.row; after = inner.after; names = inner.names; late = inner.late } ≡ found → [] ≡ found.row
   nothing_and step inner found value others made = others ∙ ap (λ (v : Option Tree). put v inner.row) value ∙ ap (λ (f : Found). f.row) made
 
   fixed_row : (met : Names) (terms : List Term) (names : Environment) (at : ℕ) (late : Late) (found : Found) → pieces_found (here met) (map fixed_integer terms) names at late ≡ Some found → [] ≡ found.row
-  fixed_row met [] names at late found is = ap (λ (f : Found). f.row) (some_same (record { row = []; places = []; after = at; names = names; late = late }) found is)
+  fixed_row met [] names at late found is = ap (λ (f : Found). f.row) (some_same (record { row = []; after = at; names = names; late = late }) found is)
   fixed_row met (term ∷ terms) names at late found is =
       let one = and_then (λ step. with_value step.value (pieces_found (here met) (map fixed_integer terms) step.names step.after step.late)) (piece_step (here met) (fixed_integer term) names at late) found is in
       let step : Step = one.0 in
-      let more = mapped (λ f. record { row = put step.value f.row; places = f.places; after = f.after; names = f.names; late = f.late }) (pieces_found (here met) (map fixed_integer terms) step.names step.after step.late) found one.2 in
+      let more = mapped (λ f. record { row = put step.value f.row; after = f.after; names = f.names; late = f.late }) (pieces_found (here met) (map fixed_integer terms) step.names step.after step.late) found one.2 in
       nothing_and step more.0 found (no_value met Integer (pos 16) term names at late step one.1) (fixed_row met terms step.names step.after step.late more.0 more.1) more.2
 
   points_fit : (met : Names) (rect : Bool) (fixed : Option (List Term)) (names : Environment) (at : ℕ) (late : Late) (found : Found) → pieces_found (here met) (integers rect fixed) names at late ≡ Some found
@@ -303,7 +303,7 @@ no_marks (mark ∷ late) = ap (λ (l : Late). mark ∷ l) (no_marks late)
 
 label_found : (at : ℕ) (late : Late) (claimed : Option Environment) (step : Step)
     → option_map (λ (f : Found). record { value = first_of_row f.row; after = f.after; names = f.names; late = f.late })
-    (option_and_then (λ (s : Step). with_value s.value (Some (record { row = []; places = []; after = s.after; names = s.names; late = s.late }))) (option_map (λ (more : Environment). record { value = None; after = at; names = more; late = late }) claimed)) ≡ Some step
+    (option_and_then (λ (s : Step). with_value s.value (Some (record { row = []; after = s.after; names = s.names; late = s.late }))) (option_map (λ (more : Environment). record { value = None; after = at; names = more; late = late }) claimed)) ≡ Some step
     → (more : Environment) × (claimed ≡ Some more) × (record { value = None; after = at; names = more; late = late } ≡ step)
 label_found at late None step is = absurd (none_is step is)
 label_found at late (Some more) step is = (more, refl, some_same (record { value = None; after = at; names = more; late = late }) step is)

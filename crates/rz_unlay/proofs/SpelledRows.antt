@@ -1,7 +1,6 @@
 -- The rows that were read: their number, the labels in them, and the names inside each.
-use Rattle.std.proofs.Common.{◌≡◌, ℕ, suc, ◌+◌, ◌-◌, ◌*◌, ◌<◌, ℤ, pos, Bool, true, false, ◌&&◌, ◌||◌, not, List, [], ◌∷◌, length, Option, Some, None, refl, sym, ap, ◌∙◌, subst, arith}
-use Rattle.std.specs.Prelude.{if◌then◌else◌, int_le, slice_get}
-use Rattle.std.proofs.lemmas.Bool.Decides.{nat_tests}
+use Rattle.std.proofs.Common.{◌≡◌, ℕ, suc, ◌+◌, ℤ, pos, Bool, true, false, ◌&&◌, ◌||◌, not, List, [], ◌∷◌, length, Option, Some, None, refl, sym, ap, ◌∙◌, subst, arith}
+use Rattle.std.specs.Prelude.{if◌then◌else◌, option_and_then, slice_get}
 use Rattle.rz_core.specs.Lists.{or_else}
 use Rattle.rz_core.specs.declared.facts.Facts.{Facts}
 use Rattle.rz_core.specs.declared.resource.Word.{Word}
@@ -9,18 +8,18 @@ use Rattle.rz_expr.specs.Environment.{count_key, place_in, place_of, rows_of, En
 use Rattle.rz_types_fields.specs.Field.{field_and, no_fields, Align, Array, Fill, Label, Number, PlainBody, PlainField, Points, Switch, Text}
 use Rattle.rz_types_fields.specs.Front.{names_inside, stated_in, stated_value}
 use Rattle.rz_types_fields.specs.Passed.{at_front, behind, declares, gives_count, gives_key, gives_rows, has_label, is_held, is_label, states, states_count, Passed}
-use Rattle.rz_types_fields.specs.RowLabels.{also_rows, is_row, label_index, labels_count, row_number, row_of, row_value, RowOf}
+use Rattle.rz_types_fields.specs.RowLabels.{also_rows, is_row, row_number, row_of, rows_give, RowOf}
 use Rattle.rz_types_fields.specs.Sees.{Late}
 use Rattle.rz_types_fields.specs.Spells.{plainly, AreRows, BodySpells, HasPlace, Inside, IsCounted, RowSpells, RowsSpell, Within}
 use Rattle.rz_types_fields.specs.declared.tree.Tree.{Tree}
 use Rattle.rz_types_fields.proofs.RowKeys.{row_keys}
-use Rattle.rz_types_fields.proofs.RowPlaces.{get_behind, get_front, index_short, place_there, places_length, PlacesAre}
 use Rattle.rz_types_fields.proofs.SameNames.{key_itself}
 use Rattle.rz_unlay_pieces.specs.Pieces.{claim_count}
 use Rattle.rz_unlay.specs.Cursor.{Line}
 use Rattle.rz_unlay.proofs.Asked.{asked_no_row, is_asked}
 use Rattle.rz_unlay.proofs.Claims.{claim_came, claimed_knows}
 use Rattle.rz_unlay.proofs.Fresh.{rows_kept, rows_unknown, Fresh}
+use Rattle.rz_unlay.proofs.Labelled.{AreLabelled}
 use Rattle.rz_unlay.proofs.ReadsRows.{passed_behind, rows_met}
 use Rattle.rz_unlay.proofs.ReadsTests.{by_case, if_false, if_true, left_true, neither, none_is, right_true, some_same}
 use Rattle.rz_unlay.proofs.RowsRead.{LinesRead}
@@ -51,25 +50,25 @@ count_came (Some name) rows passed names more knows is =
     }
 
 -- and after the labels in them
-pub record Rowed (name : Option Word) (count : Option ℤ) (row : PlainBody) (rows : ℕ) (places : List ℤ) (passed : Passed) (names more : Environment) : Type 0 where
-  pub grows : Grows (gives_key (Array name count row)) names (also_rows row rows places more)
-  pub counted : (env : Environment) → IsPartOf (also_rows row rows places more) env → IsCounted name rows env
-  pub labelled : (env : Environment) → IsPartOf (also_rows row rows places more) env → AreRows row rows env
-  pub knows : Knows (is_held (behind (Array name count row) passed)) (also_rows row rows places more)
+pub record Rowed (name : Option Word) (count : Option ℤ) (row : PlainBody) (rows : ℕ) (lasts : List Environment) (passed : Passed) (names more : Environment) : Type 0 where
+  pub grows : Grows (gives_key (Array name count row)) names (also_rows row lasts more)
+  pub counted : (env : Environment) → IsPartOf (also_rows row lasts more) env → IsCounted name rows env
+  pub labelled : (env : Environment) → IsPartOf (also_rows row lasts more) env → AreRows row rows env
+  pub knows : Knows (is_held (behind (Array name count row) passed)) (also_rows row lasts more)
 
 -- the names of rows alone change
-behind_rows : (row : PlainBody) (rows : ℕ) (places : List ℤ) (more env : Environment) → IsPartOf (also_rows row rows places more) env → (key : Key) (value : ℤ) → gives_rows row key ≡ false → more.give key ≡ Some value
+behind_rows : (row : PlainBody) (lasts : List Environment) (more env : Environment) → IsPartOf (also_rows row lasts more) env → (key : Key) (value : ℤ) → gives_rows row key ≡ false → more.give key ≡ Some value
     → env.give key ≡ Some value
-behind_rows row rows places more env part key value none is = part.give key value (if_false (gives_rows row key) (row_value row rows places key) (more.give key) none ∙ is)
+behind_rows row lasts more env part key value none is = part.give key value (if_false (gives_rows row key) (rows_give lasts key) (more.give key) none ∙ is)
 
-labelled_by : (row : PlainBody) (rows : ℕ) (places : List ℤ) (more env : Environment) → IsPartOf (also_rows row rows places more) env → AreRows row rows env
-labelled_by row rows places more env part = record {
-  give = λ label has. part.give (rows_of label) (pos rows) (if_true (has_label row label) (Some (pos rows)) (more.give (rows_of label)) has);
+labelled_by : (row : PlainBody) (rows : ℕ) (lasts : List Environment) (more env : Environment) → length lasts ≡ rows → IsPartOf (also_rows row lasts more) env → AreRows row rows env
+labelled_by row rows lasts more env long part = record {
+  give = λ label has. part.give (rows_of label) (pos rows) (if_true (has_label row label) (Some (pos (length lasts))) (more.give (rows_of label)) has ∙ ap (λ (n : ℕ). Some (pos n)) long);
 }
 
-rows_know : (name : Option Word) (count : Option ℤ) (row : PlainBody) (rows : ℕ) (places : List ℤ) (passed : Passed) (more : Environment) → Knows (is_held (passed_behind passed name)) more
-    → Knows (is_held (behind (Array name count row) passed)) (also_rows row rows places more)
-rows_know name count row rows places passed more knows = record { covers = rows_met row rows places passed name count more knows.covers; only = only }
+rows_know : (name : Option Word) (count : Option ℤ) (row : PlainBody) (lasts : List Environment) (passed : Passed) (more : Environment) → Knows (is_held (passed_behind passed name)) more
+    → Knows (is_held (behind (Array name count row) passed)) (also_rows row lasts more)
+rows_know name count row lasts passed more knows = record { covers = rows_met row lasts passed name count more knows.covers; only = only }
   where
     held : (own in_rows met told : Bool) → in_rows ≡ true → (((own || in_rows) || met) || told) ≡ true
     held true in_rows met told is = refl
@@ -81,33 +80,33 @@ rows_know name count row rows places passed more knows = record { covers = rows_
     still false true met told is = refl
     still false false met told is = is
 
-    only : (key : Key) (value : ℤ) → is_asked key ≡ true → (also_rows row rows places more).give key ≡ Some value → is_held (behind (Array name count row) passed) key ≡ true
+    only : (key : Key) (value : ℤ) → is_asked key ≡ true → (also_rows row lasts more).give key ≡ Some value → is_held (behind (Array name count row) passed) key ≡ true
     only key value asked found = by_case (gives_rows row key)
         (λ given. held (gives_count name key) (gives_rows row key) (passed.met key) (passed.told key) given)
         (λ none. still (gives_count name key) (gives_rows row key) (passed.met key) (passed.told key)
-        (knows.only key value asked (sym (if_false (gives_rows row key) (row_value row rows places key) (more.give key) none) ∙ found)))
+        (knows.only key value asked (sym (if_false (gives_rows row key) (rows_give lasts key) (more.give key) none) ∙ found)))
 
-pub rows_came : (name : Option Word) (count : Option ℤ) (row fields : PlainBody) (rows : ℕ) (places : List ℤ) (passed : Passed) (names more : Environment) → Knows (is_held passed) names
-    → Fresh (field_and (Array name count row) fields) names → claim_count name rows names ≡ Some more → Rowed name count row rows places passed names more
-rows_came name count row fields rows places passed names more knows fresh is =
+pub rows_came : (name : Option Word) (count : Option ℤ) (row fields : PlainBody) (rows : ℕ) (lasts : List Environment) (passed : Passed) (names more : Environment) → length lasts ≡ rows → Knows (is_held passed) names
+    → Fresh (field_and (Array name count row) fields) names → claim_count name rows names ≡ Some more → Rowed name count row rows lasts passed names more
+rows_came name count row fields rows lasts passed names more long knows fresh is =
     let it = count_came name rows passed names more knows is in
     record {
       grows = record {
-        kept = rows_kept row rows places names more (rows_unknown name count row fields names fresh) it.grows.kept;
+        kept = rows_kept row lasts names more (rows_unknown name count row fields names fresh) it.grows.kept;
         same = λ key none.
             let each = neither (gives_count name key) (gives_rows row key) none in
-            if_false (gives_rows row key) (row_value row rows places key) (more.give key) each.1 ∙ it.grows.same key each.0;
+            if_false (gives_rows row key) (rows_give lasts key) (more.give key) each.1 ∙ it.grows.same key each.0;
       };
       counted = counted_by name it.counted;
-      labelled = λ env part. labelled_by row rows places more env part;
-      knows = rows_know name count row rows places passed more it.knows;
+      labelled = λ env part. labelled_by row rows lasts more env long part;
+      knows = rows_know name count row lasts passed more it.knows;
     }
   where
-    counted_by : (name : Option Word) → ((env : Environment) → IsPartOf more env → IsCounted name rows env) → (env : Environment) → IsPartOf (also_rows row rows places more) env → IsCounted name rows env
+    counted_by : (name : Option Word) → ((env : Environment) → IsPartOf more env → IsCounted name rows env) → (env : Environment) → IsPartOf (also_rows row lasts more) env → IsCounted name rows env
     counted_by None counted env part = tt
     counted_by (Some own) counted env part =
         let has = counted more (same_part more) in
-        behind_rows row rows places more env part (count_key own.bytes) (pos rows) refl has
+        behind_rows row lasts more env part (count_key own.bytes) (pos rows) refl has
 
 -- At the front of a body.
 
@@ -239,75 +238,61 @@ inside_came facts all row which passed names found env at late after late_after 
 
 -- Rows one after the other.
 
--- a row was read: its labels have these places, and it is spelled so where they have them outside of it by its number
+-- a row was read: it is spelled so where its labels have the places outside of it, by its number, that they have at its end
 pub record RowRead (facts : Facts) (all : List Bool) (name : Option Word) (row : PlainBody) (passed : Passed) (names : Environment) (number : ℕ) (line : Line) (at : ℕ) (late : Late) : Type 0 where
-  pub long : length line.places ≡ labels_count row
   pub spells : (env : Environment) → IsPartOf names env
-      → ((label : List ℕ) (place : ℤ) → has_label row label ≡ true → slice_get line.places (label_index row label) ≡ Some place → env.give (place_in label (pos number)) ≡ Some place)
+      → ((label : List ℕ) (place : ℤ) → has_label row label ≡ true → line.own.give (place_of label) ≡ Some place → env.give (place_in label (pos number)) ≡ Some place)
       → Inside row (row_of name number) env (λ own. BodySpells plainly facts all row own passed line.row) at late line.after line.late
 
-pub row_read : (facts : Facts) (all : List Bool) (name : Option Word) (row : PlainBody) (passed : Passed) (names found : Environment) (number at : ℕ) (late : Late) (line : Line) → PlacesAre found row line.places
-    → Came (declares row) (names_inside (row_of name number) row names) found at late line.after line.late (λ own. BodySpells plainly facts all row own passed line.row)
+pub row_read : (facts : Facts) (all : List Bool) (name : Option Word) (row : PlainBody) (passed : Passed) (names : Environment) (number at : ℕ) (late : Late) (line : Line) → AreLabelled row line.own
+    → Came (declares row) (names_inside (row_of name number) row names) line.own at late line.after line.late (λ own. BodySpells plainly facts all row own passed line.row)
     → RowRead facts all name row passed names number line at late
-row_read facts all name row passed names found number at late line are came = record {
-  long = places_length found row line.places are;
+row_read facts all name row passed names number at late line labels came = record {
   spells = λ env part given.
-      inside_came facts all row (row_of name number) passed names found env at late line.after line.late line.row came part
-      (λ label has. let there = place_there found row line.places label are has in given label there.0 has there.1 ∙ sym there.2);
+      inside_came facts all row (row_of name number) passed names line.own env at late line.after line.late line.row came part
+      (λ label has. let there = labels label has in given label there.0 has there.1 ∙ sym there.1);
 }
 
-module _ (facts : Facts) (all : List Bool) (name : Option Word) (row : PlainBody) (passed : Passed) (names env : Environment) (part : IsPartOf names env) (count : ℕ) (whole : List ℤ)
-    (given : (label : List ℕ) (n : ℕ) (place : ℤ) → has_label row label ≡ true → n < count → slice_get whole (n * labels_count row + label_index row label) ≡ Some place → env.give (place_in label (pos (suc n))) ≡ Some place) where
+module _ (facts : Facts) (all : List Bool) (name : Option Word) (row : PlainBody) (passed : Passed) (names env : Environment) (part : IsPartOf names env) (whole : List Environment)
+    (given : (label : List ℕ) (n : ℕ) (own : Environment) (place : ℤ) → has_label row label ≡ true → slice_get whole n ≡ Some own → own.give (place_of label) ≡ Some place → env.give (place_in label (pos (suc n))) ≡ Some place) where
   abbrev Spelt : ℕ → List (List Tree) → RowSpells
   Spelt number rows = RowsSpell (λ number line. Inside row (row_of name number) env (λ own. BodySpells plainly facts all row own passed line)) number rows
 
-  -- the places of the labels in rows that were read are in a whole: each row is spelled so
-  rows_on : (n number : ℕ) (rows : List (List Tree)) (places : List ℤ) (at : ℕ) (late : Late) (after : ℕ) (late_after : Late) → number ≡ suc n → n + length rows ≡ count
-      → ((m : ℕ) → slice_get whole (n * labels_count row + m) ≡ slice_get places m)
-      → LinesRead (λ number line at late. RowRead facts all name row passed names number line at late) number rows places at late after late_after → Spelt number rows at late after late_after
-  rows_on n number [] places at late after late_after is full stand it = (it.1, it.2)
-  rows_on n number (values ∷ rows) places at late after late_after is full stand it =
+  -- what names have at the ends of rows that were read is in a whole: each row is spelled so
+  rows_on : (n number : ℕ) (rows : List (List Tree)) (lasts : List Environment) (at : ℕ) (late : Late) (after : ℕ) (late_after : Late) → number ≡ suc n → ((m : ℕ) → slice_get whole (n + m) ≡ slice_get lasts m)
+      → LinesRead (λ number line at late. RowRead facts all name row passed names number line at late) number rows lasts at late after late_after → Spelt number rows at late after late_after
+  rows_on n number [] lasts at late after late_after is stand it = (it.1, it.2)
+  rows_on n number (values ∷ rows) lasts at late after late_after is stand it =
       let line : Line = it.0 in
-      let others : List ℤ = it.1 in
-      let k = labels_count row in
-      let own = it.4 in
-      let long = own.long in
-      let few : n < count = omega (arith, full) in
-      let place_is : (label : List ℕ) (place : ℤ) → has_label row label ≡ true → slice_get line.places (label_index row label) ≡ Some place → env.give (place_in label (pos number)) ≡ Some place =
-      (λ label place has there.
-      let i = label_index row label in
-      let short = index_short row label has in
-      let less : i < length line.places = omega (arith, short, long) in
-      ap (λ (m : ℕ). env.give (place_in label (pos m))) is
-      ∙ given label n place has few (stand i ∙ ap (λ (ps : List ℤ). slice_get ps i) it.3 ∙ get_front line.places others i less ∙ there)) in
-      let next : (m : ℕ) → slice_get whole (suc n * k + m) ≡ slice_get others m =
-      (λ m. ap (slice_get whole) (shift n k m) ∙ stand (k + m) ∙ ap (λ (ps : List ℤ). slice_get ps (k + m)) it.3 ∙ get_behind line.places others m (k + m) (let same = long in omega (arith, same))) in (
+      let others : List Environment = it.1 in
+      let one = it.4 in
+      let this : n ≡ n + 0 = omega (arith) in
+      let first : slice_get whole n ≡ Some line.own = ap (slice_get whole) this ∙ stand 0 ∙ ap (λ (es : List Environment). slice_get es 0) it.3 in
+      let place_is : (label : List ℕ) (place : ℤ) → has_label row label ≡ true → line.own.give (place_of label) ≡ Some place → env.give (place_in label (pos number)) ≡ Some place =
+      (λ label place has there. ap (λ (m : ℕ). env.give (place_in label (pos m))) is ∙ given label n line.own place has first there) in
+      let next : (m : ℕ) → slice_get whole (suc n + m) ≡ slice_get others m = (λ m. ap (slice_get whole) (shift n m) ∙ stand (suc m) ∙ ap (λ (es : List Environment). slice_get es (suc m)) it.3) in (
         line.after,
         line.late,
-        subst (λ (r : List Tree). Inside row (row_of name number) env (λ own. BodySpells plainly facts all row own passed r) at late line.after line.late) it.2 (own.spells env part place_is),
-        rows_on (suc n) (number + 1) rows others line.after line.late after late_after (omega (arith, is)) (omega (arith, full)) next it.5,
+        subst (λ (r : List Tree). Inside row (row_of name number) env (λ own. BodySpells plainly facts all row own passed r) at late line.after line.late) it.2 (one.spells env part place_is),
+        rows_on (suc n) (number + 1) rows others line.after line.late after late_after (omega (arith, is)) next it.5,
       )
     where
-      shift : (n k m : ℕ) → suc n * k + m ≡ n * k + (k + m)
-      shift n k m = omega (arith)
+      shift : (n m : ℕ) → suc n + m ≡ n + suc m
+      shift n m = omega (arith)
 
 -- all rows of an array
-pub rows_spelled : (facts : Facts) (all : List Bool) (name : Option Word) (row : PlainBody) (passed : Passed) (names more env : Environment) (rows : List (List Tree)) (places : List ℤ) (at : ℕ) (late : Late) (after : ℕ)
-    (late_after : Late) → IsPartOf names env → IsPartOf (also_rows row (length rows) places more) env
-    → LinesRead (λ number line at late. RowRead facts all name row passed names number line at late) 1 rows places at late after late_after
+pub rows_spelled : (facts : Facts) (all : List Bool) (name : Option Word) (row : PlainBody) (passed : Passed) (names more env : Environment) (rows : List (List Tree)) (lasts : List Environment) (at : ℕ) (late : Late)
+    (after : ℕ) (late_after : Late) → IsPartOf names env → IsPartOf (also_rows row lasts more) env
+    → LinesRead (λ number line at late. RowRead facts all name row passed names number line at late) 1 rows lasts at late after late_after
     → RowsSpell (λ number line. Inside row (row_of name number) env (λ own. BodySpells plainly facts all row own passed line)) 1 rows at late after late_after
-rows_spelled facts all name row passed names more env rows places at late after late_after part behind it =
-    rows_on facts all name row passed names env part (length rows) places given 0 1 rows places at late after late_after (omega (arith)) (omega (arith)) (λ m. ap (slice_get places) (none m (labels_count row))) it
+rows_spelled facts all name row passed names more env rows lasts at late after late_after part behind it =
+    rows_on facts all name row passed names env part lasts given 0 1 rows lasts at late after late_after (omega (arith)) (λ m. ap (slice_get lasts) (none m)) it
   where
-    none : (m k : ℕ) → 0 * k + m ≡ m
-    none m k = omega (arith)
+    none : (m : ℕ) → 0 + m ≡ m
+    none m = omega (arith)
 
-    given : (label : List ℕ) (n : ℕ) (place : ℤ) → has_label row label ≡ true → n < length rows → slice_get places (n * labels_count row + label_index row label) ≡ Some place → env.give (place_in label (pos (suc n))) ≡ Some place
-    given label n place has less is =
-        let low : int_le (pos 1) (pos (suc n)) ≡ true = grind (arith, nat_tests) in
-        let high : int_le (pos (suc n)) (pos (length rows)) ≡ true = grind (arith, nat_tests, less) in
-        let index : suc n - 1 ≡ n = omega (arith) in
+    given : (label : List ℕ) (n : ℕ) (own : Environment) (place : ℤ) → has_label row label ≡ true → slice_get lasts n ≡ Some own → own.give (place_of label) ≡ Some place → env.give (place_in label (pos (suc n))) ≡ Some place
+    given label n own place has there is =
         behind.give (place_in label (pos (suc n))) place
-        (if_true (has_label row label) (row_value row (length rows) places (place_in label (pos (suc n)))) (more.give (place_in label (pos (suc n)))) has
-        ∙ (λ i. if low i && high i then slice_get places ((suc n - 1) * labels_count row + label_index row label) else None)
-        ∙ ap (λ (m : ℕ). slice_get places (m * labels_count row + label_index row label)) index ∙ is)
+        (if_true (has_label row label) (rows_give lasts (place_in label (pos (suc n)))) (more.give (place_in label (pos (suc n)))) has
+        ∙ ap (option_and_then (λ (own : Environment). own.give (place_of label))) there ∙ is)

@@ -102,7 +102,7 @@ was_read tells facts body row bytes shaped kept reads few are is = by (body_foun
         let short : length all ≤ most_bits = omega (arith, long, few) in
         let came = body_came tells facts all short (names_of body) false true front body kept.0 kept.1 shaped reads (names_inside None body outside) 0 [] found
         (record { knows = inside_knows body None nothing_passed outside outside_knows; has = places_within false None body outside shaped places_outside; inside = omega (arith) }) (fresh_front None body outside) so in
-        let spelled = came.0 in
+        let spelled = came in
         subst (λ (r : List Tree). SpellsPlainly facts body r bytes) end.same (record {
           spelling = record {
             names = found.names;

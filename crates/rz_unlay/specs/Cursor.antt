@@ -1,6 +1,6 @@
 -- What is read from left to right: rows of arrays, cases by their keys, fields one after the other, and the row that bytes tell.
 -- (Inside Macintosh: More Macintosh Toolbox, Resource Manager; MPW Rez.)
-use Rattle.std.specs.Prelude.{ℕ, zero, suc, ◌+◌, ◌-◌, ◌==◌, ℤ, pos, negsuc, nat_le, nat_lt, Bool, true, false, ◌&&◌, if◌then◌else◌, List, [], ◌∷◌, ◌++◌, length, drop, Option, Some, None, option_and_then, option_map}
+use Rattle.std.specs.Prelude.{ℕ, zero, suc, ◌+◌, ◌-◌, ◌==◌, ℤ, pos, negsuc, nat_le, nat_lt, Bool, true, false, ◌&&◌, if◌then◌else◌, List, [], ◌∷◌, length, drop, Option, Some, None, option_and_then, option_map}
 use Rattle.rz_core.specs.declared.facts.Facts.{Facts}
 use Rattle.rz_core.specs.declared.resource.Word.{Word}
 use Rattle.rz_expr.specs.Environment.{Environment}
@@ -20,36 +20,36 @@ use Rattle.rz_unlay.specs.declared.rows.Until.{Until}
 use Rattle.rz_unlay.specs.declared.rows.Until.TheVariants as ends
 use Rattle.rz_unlay_pieces.specs.Pieces.{claim_count, here_at, known_count, Step}
 use Rattle.rz_types_fields.specs.Front.{names_inside}
-use Rattle.rz_types_fields.specs.RowLabels.{also_rows, label_places, row_of}
+use Rattle.rz_types_fields.specs.RowLabels.{also_rows, row_of}
 
 -- Rows.
 
--- a row of an array, the places of the labels that stand directly in it, the place after it, and the late bits before that
+-- a row of an array, what names have at its end, the place after it, and the late bits before that
 pub record Line : Type 0 where
   pub row : List Tree
-  pub places : List ℤ
+  pub own : Environment
   pub after : ℕ
   pub late : Late
 
--- rows, with the places of the labels in them, row by row
+-- rows, with what names have at the end of each
 pub record Lines : Type 0 where
   pub rows : List (List Tree)
-  pub places : List ℤ
+  pub ends : List Environment
   pub after : ℕ
   pub late : Late
 
 abbrev pub line_of : Option Found → Option Line
-line_of found = option_map (λ f. record { row = f.row; places = f.places; after = f.after; late = f.late }) found
+line_of found = option_map (λ f. record { row = f.row; own = f.names; after = f.after; late = f.late }) found
 
 -- how a row is read that has this number, from 1, from a place on, with the late bits before it
 abbrev pub ReadsRow : Type 0
 ReadsRow = ℕ → ℕ → Late → Option Line
 
 abbrev pub no_lines : ℕ → Late → Lines
-no_lines at late = record { rows = []; places = []; after = at; late = late }
+no_lines at late = record { rows = []; ends = []; after = at; late = late }
 
 abbrev pub and_lines : Line → Lines → Lines
-and_lines line lines = record { rows = line.row ∷ lines.rows; places = line.places ++ lines.places; after = lines.after; late = lines.late }
+and_lines line lines = record { rows = line.row ∷ lines.rows; ends = line.own ∷ lines.ends; after = lines.after; late = lines.late }
 
 -- whether one row more is read at a place, where so many rows are done
 abbrev pub goes_on : Until → (done at : ℕ) → Bool
@@ -105,11 +105,6 @@ until_of len rest names None = open_until len (told_label len rest names) (fixed
 abbrev pub rows_by : ReadsRow → ℕ → PlainBody → Environment → Option ℤ → ℕ → Late → Option Lines
 rows_by row len rest names count at late = option_and_then (λ until. rows_until row until (most_rows until len) 0 at late) (until_of len rest names count)
 
--- the place of a label in front of others
-abbrev pub with_label : PlainField → ℕ → Option Found → Option Found
-with_label field at found =
-    option_map (λ f. record { row = f.row; places = label_places field at ++ f.places; after = f.after; names = f.names; late = f.late }) found
-
 -- the bits at the place of a key are its own
 abbrev pub has_bits : Option ℕ → ℕ → Bool
 has_bits None bits = false
@@ -147,7 +142,7 @@ abbrev mutual
   field_found known all rest met (Align unit) names at late = field_of_pieces (here_at known all (Align unit) rest at met) (Align unit) names at late
   field_found known all rest met (Label name) names at late = field_of_pieces (here_at known all (Label name) rest at met) (Label name) names at late
   field_found known all rest met (Array name count row) names at late =
-      option_and_then (λ lines. option_map (λ more. record { value = Some (trees.Rows lines.rows); after = lines.after; names = also_rows row (length lines.rows) lines.places more; late = lines.late }) (claim_count name (length lines.rows) names))
+      option_and_then (λ lines. option_map (λ more. record { value = Some (trees.Rows lines.rows); after = lines.after; names = also_rows row lines.ends more; late = lines.late }) (claim_count name (length lines.rows) names))
       (rows_by (λ number place marks. line_of (body_found known all (met_inside row met) row (names_inside (row_of name number) row names) place marks)) (length all) rest names (count_known names name count) at late)
   field_found known all rest met (Switch cases) names at late = case_found known all met cases names at late
 
@@ -160,9 +155,9 @@ abbrev mutual
       else case_found known all met others names at late
 
   pub body_found : Facts → List Bool → Names → PlainBody → Environment → ℕ → Late → Option Found
-  body_found known all met no_fields names at late = Some (record { row = []; places = []; after = at; names = names; late = late })
+  body_found known all met no_fields names at late = Some (record { row = []; after = at; names = names; late = late })
   body_found known all met (field_and field fields) names at late =
-      option_and_then (λ step. with_label field at (with_value step.value (body_found known all (met_behind field met) fields step.names step.after step.late))) (field_found known all fields met field names at late)
+      option_and_then (λ step. with_value step.value (body_found known all (met_behind field met) fields step.names step.after step.late)) (field_found known all fields met field names at late)
 
 -- the row that bytes tell: after it are fewer than eight bits, all zero, and it has at most 1,048,576 values
 abbrev pub ended : List Bool → Option Found → Option (List Tree)

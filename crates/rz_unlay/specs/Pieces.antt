@@ -1,6 +1,6 @@
 -- What stands at a place as a piece of whatever kind, and as all pieces of a field. (Inside Macintosh: More Macintosh Toolbox,
 -- Resource Manager; MPW Rez.)
-use Rattle.std.specs.Prelude.{ℕ, ℤ, ◌+◌, ◌*◌, false, ◌||◌, if◌then◌else◌, List, [], ◌∷◌, length, Option, Some, None, option_and_then, option_map}
+use Rattle.std.specs.Prelude.{ℕ, ◌+◌, ◌*◌, false, ◌||◌, if◌then◌else◌, List, [], ◌∷◌, length, Option, Some, None, option_and_then, option_map}
 use Rattle.rz_expr.specs.Environment.{Environment}
 use Rattle.rz_expr.specs.Term.{Term}
 use Rattle.rz_bits.specs.BitBuf.{missing}
@@ -59,19 +59,18 @@ piece_step here (Place name) names at late = label_step name names at late
 
 -- Pieces in order.
 
--- what is read of pieces or of a body: its row, the places of the labels that stand directly in it, the place after it, and what is known there of names and of late bits
+-- what is read of pieces or of a body: its row, the place after it, and what is known there of names and of late bits
 pub record Found : Type 0 where
   pub row : List Tree
-  pub places : List ℤ
   pub after : ℕ
   pub names : Environment
   pub late : Late
 
 abbrev pub with_value : Option Tree → Option Found → Option Found
-with_value value found = option_map (λ f. record { row = put value f.row; places = f.places; after = f.after; names = f.names; late = f.late }) found
+with_value value found = option_map (λ f. record { row = put value f.row; after = f.after; names = f.names; late = f.late }) found
 
 abbrev pub pieces_found : Here → List Piece → Environment → ℕ → Late → Option Found
-pieces_found here [] names at late = Some (record { row = []; places = []; after = at; names = names; late = late })
+pieces_found here [] names at late = Some (record { row = []; after = at; names = names; late = late })
 pieces_found here (piece ∷ pieces) names at late =
     option_and_then (λ step. with_value step.value (pieces_found here pieces step.names step.after step.late)) (piece_step here piece names at late)
 

@@ -20,4 +20,4 @@ fixed_read here terms names at late =
 
 -- after numbers that were read
 abbrev pub behind_numbers : List ℕ → Option Found → Option Found
-behind_numbers numbers found = option_map (λ f. record { row = map trees.Number numbers ++ f.row; places = f.places; after = f.after; names = f.names; late = f.late }) found
+behind_numbers numbers found = option_map (λ f. record { row = map trees.Number numbers ++ f.row; after = f.after; names = f.names; late = f.late }) found

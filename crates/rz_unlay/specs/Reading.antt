@@ -5,7 +5,7 @@ use Rattle.rz_core.specs.declared.facts.Facts.{Facts}
 use Rattle.rz_core.specs.declared.moment.Moment.{Moment}
 use Rattle.rz_core.specs.declared.resource.Resource.{Resource}
 use Rattle.rz_types_fields.specs.declared.tree.Tree.{Tree}
-use Rattle.rz_types_fields.specs.Spells.{plainly, SpellsPlainly}
+use Rattle.rz_types_fields.specs.Spells.{SpellsPlainly}
 use Rattle.rz_types.specs.Field.{PlainBody}
 use Rattle.rz_types.specs.Readable.{is_readable}
 use Rattle.rz_types.specs.Rules.{keeps_rules}

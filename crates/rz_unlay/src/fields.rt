@@ -4,12 +4,13 @@ ghost use Rattle.std.specs.Prelude.{◌≡◌, ◌+◌, ◌≤◌, pos, suc, len
 ghost use Rattle.rz_bits.specs.View.{seen};
 ghost use Rattle.rz_types_fields.specs.Spells.{values_in};
 ghost use Rattle.rz_types.specs.Field.{field_and, plain_array, plain_body, plain_case, plain_cases, plain_field};
-ghost use Rattle.rz_unlay.specs.Came.{array_row, chosen, found_of, line_at, line_in, lines_in};
+ghost use Rattle.rz_unlay.specs.Came.{array_row, chosen, found_of, line_at, row_body, AreLines, IsLine};
 ghost use Rattle.rz_unlay_pieces.specs.Came.{met_of};
 ghost use Rattle.rz_unlay.specs.Cursor.{body_found, case_found, field_found, most_rows, rows_until};
 ghost use Rattle.rz_unlay_pieces.specs.Few.{few, step_count, value_count};
 ghost use Rattle.rz_unlay.specs.Few.{found_count, line_count, lines_count, rows_count};
 ghost use Rattle.rz_unlay.specs.Fits.{AreFit, CasesFit, Fits};
+ghost use Rattle.rz_types_fields.specs.FlatRows.{PlacesAre};
 ghost use Rattle.rz_types_fields.specs.Known.{known, met, which_of, Grew};
 ghost use Rattle.rz_types_fields.specs.Passed.{met_behind};
 ghost use Rattle.rz_types_fields.specs.Sees.{marked};
@@ -42,12 +43,13 @@ impl Reader<'_> {
     ghost use Rattle.rz_bits.specs.View.{seen};
     ghost use Rattle.rz_types_fields.specs.Spells.{values_in};
     ghost use Rattle.rz_types.specs.Field.{field_and, plain_array, plain_body, plain_case, plain_cases, plain_field};
-    ghost use Rattle.rz_unlay.specs.Came.{array_row, chosen, found_of, line_at, line_in, lines_in};
+    ghost use Rattle.rz_unlay.specs.Came.{array_row, chosen, found_of, line_at, row_body, AreLines, IsLine};
     ghost use Rattle.rz_unlay_pieces.specs.Came.{met_of};
     ghost use Rattle.rz_unlay.specs.Cursor.{body_found, case_found, field_found, most_rows, rows_until};
     ghost use Rattle.rz_unlay_pieces.specs.Few.{few, step_count, value_count};
     ghost use Rattle.rz_unlay.specs.Few.{found_count, line_count, lines_count, rows_count};
     ghost use Rattle.rz_unlay.specs.Fits.{AreFit, CasesFit, Fits};
+    ghost use Rattle.rz_types_fields.specs.FlatRows.{PlacesAre};
     ghost use Rattle.rz_types_fields.specs.Known.{known, met, which_of, Grew};
     ghost use Rattle.rz_types_fields.specs.Passed.{met_behind};
     ghost use Rattle.rz_types_fields.specs.Sees.{marked};
@@ -66,8 +68,8 @@ impl Reader<'_> {
         requires fits { AreFit (plain_body fields.now) }
         requires at { at ≤ length (seen self.now.view.now) }
         requires marks { length learnt.old.marks ≤ at }
-        ensures row { IfOk result (λ came. option_map (line_in learnt.new) came
-            ≡ few line_count left (line_at self.now.facts.now (seen self.now.view.now) (which_of which.entry) (plain_body fields.now) (met learnt.old.notes.items) (known learnt.old.notes.items) at (marked at learnt.old.marks))) }
+        ensures row { IfOk result (λ came. IsLine (plain_body fields.now) learnt.new.marks came
+            (few line_count left (line_at self.now.facts.now (seen self.now.view.now) (which_of which.entry) (plain_body fields.now) (met learnt.old.notes.items) (known learnt.old.notes.items) at (marked at learnt.old.marks)))) }
         ensures left { IfOk result (λ came. IfSome came (λ r. r.left + values_in r.row ≡ left)) }
         ensures within { IfOk result (λ came. IfSome came (λ r. r.after ≤ length (seen self.now.view.now))) }
         ensures marks { IfOk result (λ came. IfSome came (λ r. length learnt.new.marks ≤ r.after)) }
@@ -94,6 +96,7 @@ impl Reader<'_> {
         requires marks { length learnt.old.marks ≤ at }
         ensures row { IfOk result (λ came. option_map (found_of learnt.new) came
             ≡ few found_count left (body_found self.now.facts.now (seen self.now.view.now) (met learnt.old.notes.items) (plain_body fields.now) (known learnt.old.notes.items) at (marked at learnt.old.marks))) }
+        ensures places { IfOk result (λ came. IfSome came (λ r. PlacesAre (known learnt.new.notes.items) (plain_body fields.now) r.places.items)) }
         ensures left { IfOk result (λ came. IfSome came (λ r. r.left + values_in r.row ≡ left)) }
         ensures within { IfOk result (λ came. IfSome came (λ r. r.after ≤ length (seen self.now.view.now))) }
         ensures marks { IfOk result (λ came. IfSome came (λ r. length learnt.new.marks ≤ r.after)) }
@@ -237,9 +240,9 @@ impl Reader<'_> {
         requires fits { Fits (plain_array array.now) }
         requires at { at ≤ length (seen self.now.view.now) }
         requires marks { length learnt.old.marks ≤ at }
-        ensures rows { IfOk result (λ came. option_map (lines_in learnt.new) came
-            ≡ few lines_count left (rows_until (array_row self.now.facts.now (seen self.now.view.now) array.now (met learnt.old.notes.items) (known learnt.old.notes.items)) until
-            (most_rows until (length (seen self.now.view.now))) 0 at (marked at learnt.old.marks))) }
+        ensures rows { IfOk result (λ came. AreLines (row_body array.now) learnt.new.marks came
+            (few lines_count left (rows_until (array_row self.now.facts.now (seen self.now.view.now) array.now (met learnt.old.notes.items) (known learnt.old.notes.items)) until
+            (most_rows until (length (seen self.now.view.now))) 0 at (marked at learnt.old.marks)))) }
         ensures left { IfOk result (λ came. IfSome came (λ r. r.left + rows_count r.rows ≡ left)) }
         ensures within { IfOk result (λ came. IfSome came (λ r. r.after ≤ length (seen self.now.view.now))) }
         ensures marks { IfOk result (λ came. IfSome came (λ r. length learnt.new.marks ≤ r.after)) }

@@ -2,8 +2,7 @@
 
 ghost use Rattle.std.specs.Prelude.{◌≡◌, ◌≤◌, ◌++◌, length, drop, OnOk};
 ghost use Rattle.rz_types_fields.specs.Field.{plain_field};
-ghost use Rattle.rz_types_fields.specs.RowLabels.{label_places};
-ghost use Rattle.rz_unlay.specs.Rows.{pushed};
+ghost use Rattle.rz_unlay.specs.Rows.{label_places, pushed};
 
 use rz_core::NoMemory;
 use rz_types_fields::{Field, Row, Tree};

@@ -1,9 +1,10 @@
 -- What is known and met after notes more.
-use Rattle.std.proofs.Common.{◌≡◌, ℕ, Bool, true, ℤ, List, [], ◌∷◌, ◌++◌, Option, Some, None, refl, ap, ◌∙◌}
+use Rattle.std.proofs.Common.{◌≡◌, ℕ, Bool, true, ℤ, List, [], ◌∷◌, ◌++◌, length, Option, Some, None, refl, ap, ◌∙◌}
 use Rattle.std.specs.Option.{is_some}
 use Rattle.std.specs.Prelude.{if◌then◌else◌}
-use Rattle.rz_expr.specs.Environment.{Key}
+use Rattle.rz_expr.specs.Environment.{Environment, Key}
 use Rattle.rz_types_fields.specs.Field.{PlainBody}
+use Rattle.rz_types_fields.specs.FlatRows.{AllPlacesAre}
 use Rattle.rz_types_fields.specs.Known.{known, meeting, met, met_noted, noting, AreRowsNoted}
 use Rattle.rz_types_fields.specs.Passed.{outside}
 use Rattle.rz_types_fields.specs.RowLabels.{also_rows}
@@ -37,10 +38,10 @@ module _ (notes new : List Note) (note : Note) (is : new ≡ notes ++ note ∷ [
 
 -- all rows of an array were read
 module _ (row : PlainBody) (count : ℕ) (places : List ℤ) (old new : List Note) (noted_rows : AreRowsNoted row count places old new) where
-  pub rows_known : known new ≡ also_rows row count places (known old)
-  rows_known =
+  pub rows_known : (ends : List Environment) → length ends ≡ count → AllPlacesAre row ends places → known new ≡ also_rows row ends (known old)
+  rows_known ends long are =
       ap known noted_rows.grew
-      ∙ (λ i. record { give = λ key. (noted_append (outside.give key) old noted_rows.more key ∙ noted_rows.values key ((known old).give key)) i })
+      ∙ (λ i. record { give = λ key. (noted_append (outside.give key) old noted_rows.more key ∙ noted_rows.values ends long are key ((known old).give key)) i })
 
   pub rows_met : met new ≡ met_in_rows row (met old)
   rows_met = ap met noted_rows.grew ∙ (λ i key. (met_append (is_some (outside.give key)) old noted_rows.more key ∙ noted_rows.all_met key (met old key)) i)

@@ -1,9 +1,10 @@
 //! What is known of the names of arrays and of labels. What a claim tells is in `specs/Pieces`, what notes mean in
 //! `rz_types_fields`, in `specs/Known`.
 
-ghost use Rattle.std.specs.Prelude.{◌≡◌, IfOk, OnOk, Some, pos, true};
-ghost use Rattle.rz_expr.specs.Environment.{count_key, place_key};
+ghost use Rattle.std.specs.Prelude.{◌≡◌, IfOk, List, OnOk, Some, length, pos, true};
+ghost use Rattle.rz_expr.specs.Environment.{count_key, place_key, Environment};
 ghost use Rattle.rz_types_fields.specs.Field.{plain_body};
+ghost use Rattle.rz_types_fields.specs.FlatRows.{AllPlacesAre};
 ghost use Rattle.rz_types_fields.specs.Front.{names_inside};
 ghost use Rattle.rz_types_fields.specs.Known.{known, met, which_of, Grew};
 ghost use Rattle.rz_types_fields.specs.Passed.{met_inside, stands_at};
@@ -77,7 +78,7 @@ pub fn learn_rows<'a>(
     places: Vec<i32>,
     learnt: &mut Learnt<'a>,
 ) -> Result<(), NoMemory>
-    ensures known { OnOk result (known learnt.new.notes.items ≡ also_rows (plain_body row.now) count places.items (known learnt.old.notes.items)) }
+    ensures known { (ends : List Environment) → length ends ≡ count → AllPlacesAre (plain_body row.now) ends places.items → OnOk result (known learnt.new.notes.items ≡ also_rows (plain_body row.now) ends (known learnt.old.notes.items)) }
     ensures met { OnOk result (met learnt.new.notes.items ≡ met_in_rows (plain_body row.now) (met learnt.old.notes.items)) }
     ensures grew { OnOk result (Grew learnt.old.notes.items learnt.new.notes.items) }
     ensures marks { OnOk result (learnt.new.marks ≡ learnt.old.marks) }

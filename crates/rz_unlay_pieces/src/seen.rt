@@ -2,7 +2,6 @@
 
 ghost use Rattle.std.specs.Prelude.{◌≡◌, ◌≤◌, ◌&&◌, if◌then◌else◌, None, option_map, pos};
 ghost use Rattle.rz_bits.specs.View.{seen};
-ghost use Rattle.rz_expr.specs.Environment.{IsSeenIn};
 ghost use Rattle.rz_expr.specs.NameKey.{key_of};
 ghost use Rattle.rz_types_fields.specs.Known.{known};
 ghost use Rattle.rz_types_fields.specs.Sees.{bits_before, hit};
@@ -32,8 +31,6 @@ pub struct SpotEnv<'a> {
 impl Env for SpotEnv<'_> {
     ghost view = { λ env. env_sight env };
 
-    ghost belongs = { λ env finished. IsSeenIn (env_sight env) finished };
-
     fn give(&self, key: Key<'_>) -> Option<i128> {
         value_seen(key, self.spot, self.learnt)
     }
@@ -52,8 +49,6 @@ impl Env for SpotEnv<'_> {
     fn fact(&self, which: FactWord) -> i32 {
         fact_of(self.spot.facts, which)
     }
-
-    ghost law = { λ env finished seen. seen };
 }
 
 /// The value of a key: what is noted, or the place of a label ahead.

@@ -1,11 +1,11 @@
-use Rattle.std.proofs.Common.{◌≡◌, ◌+◌, drop}
+use Rattle.std.proofs.Common.{◌≡◌, drop}
 use Rattle.std.specs.List.{AllByRecursion}
 use Rattle.rz_layout.specs.Laid.{draft_of, IsNotedBy, IsShort}
 use Rattle.rz_layout.specs.Sound.{AreSound}
-use Rattle.rz_types_fields.specs.Laid.{body_laid, row_laid, rows_laid}
+use Rattle.rz_types_fields.specs.Laid.{body_laid}
 use Rattle.rz_types_fields.specs.Passed.{declares}
-use Rattle.rz_types_fields.specs.RowLabels.{row_of}
 use Rattle.rz_types_fields.specs.Field.{plain_body}
+use Rattle.rz_layout.proofs.Arrays.{RowsSoFar}
 use Rattle.rz_layout.proofs.fields.+lay.Given as goal
 
 abbrev pub invariant-lay_fields-loop-field : goal.invariant-lay_fields-loop-field
@@ -19,8 +19,7 @@ invariant-lay_fields-loop-field l = record {
 
 abbrev pub invariant-lay_rows-loop-before : goal.invariant-lay_rows-loop-before
 invariant-lay_rows-loop-before l = record {
-  laid : rows_laid (λ number. row_laid l.facts (row_of l.name number) (plain_body l.fields)) (l.before + 1) (draft_of l.laid) (drop l.before l.rows)
-      ≡ rows_laid (λ number. row_laid l.facts (row_of l.name number) (plain_body l.fields)) 1 (draft_of l.fn.laid) l.rows;
+  laid : RowsSoFar l.facts l.name (plain_body l.fields) l.rows (draft_of l.fn.laid) l.before (draft_of l.laid) l.places.items;
   sound : AllByRecursion (AreSound (plain_body l.fields)) (drop l.before l.rows);
   notes : l.laid.notes.items ≡ l.fn.laid.notes.items;
   short : IsShort l.laid;

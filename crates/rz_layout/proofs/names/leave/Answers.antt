@@ -12,7 +12,6 @@ returns-then-not-keeps_names c = record {
   piece = refl;
   bits = refl;
   marks = refl;
-  places = refl;
   notes = c.truncate-then-not-keeps_names.ensures.items;
   late = ap numbers_in c.in_ok-push_lates.ensures
       ∙ numbers_append c.replace-inner.new.dest c.replace-inner.result
@@ -26,7 +25,6 @@ returns c =
       piece = refl;
       bits = refl;
       marks = refl;
-      places = refl;
       notes = c.in_ok-own.ensures.items;
       late = ap numbers_in c.in_ok-push.ensures.ok
           ∙ numbers_more c.replace-inner.new.dest _

@@ -19,7 +19,7 @@ pub returns-clause-laid : goal.returns-clause-laid
 returns-clause-laid c =
     put_is (draft_of c.args.laid.now) c.args.form c.args.size c.args.bytes.now c.in_default.ensures
     ∙ put_draft c.args.laid.now.piece c.one_more-laid.result c.args.laid.now.bits (text_bits (draft_of c.args.laid.now) c.args.form c.args.size c.args.bytes.now) c.push_text.new.bits c.args.laid.now.marks
-    (known c.args.laid.now.notes.items) (numbers_in c.args.laid.now.late) c.args.laid.now.places.items c.one_more-laid.ensures
+    (known c.args.laid.now.notes.items) (numbers_in c.args.laid.now.late) c.one_more-laid.ensures
     (pushed (draft_of c.args.laid.now) c.args.form c.args.size c.args.bytes.now c.unsigned-size.result c.push_text.new.bits c.unsigned-size.ensures c.in_ok-push_text.ensures)
     c.requires.short.marks (8 * c.stored_length.result)
     (text_count (draft_of c.args.laid.now) c.args.form c.args.size c.args.bytes.now c.unsigned-size.result c.stored_length.result c.unsigned-size.ensures c.stored_length.ensures.length)

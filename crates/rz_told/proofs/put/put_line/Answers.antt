@@ -1,6 +1,5 @@
-use Rattle.std.proofs.Common.{◌∙◌}
 use Rattle.rz_told.proofs.Putting.{puts_as}
 use Rattle.rz_told.proofs.put.put_line.Goals as goal
 
 pub returns : goal.returns
-returns g c = puts_as g.O.Sink c.args.line (c.as_slice.ensures.value ∙ c.into_bytes-bytes.ensures) c.put_bytes.ensures
+returns g c = puts_as g.O.Sink c.args.line c.as_slice.ensures c.put_bytes.ensures

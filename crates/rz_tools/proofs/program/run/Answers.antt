@@ -39,7 +39,7 @@ returns-in-Ok g c =
             (λ so. stays_usage _ _ result made.0 carried (IsText c.in-Ok.reply) (record { position = position }) (ends ∙ so)
             (subst (λ (o : Outcome). (result ≡ o) ⊎ (result ≡ WriteFault) ⊎ ((result ≡ NoMemory) × IsText c.in-Ok.reply)) (sym ends) c.carry_out.ensures.ended));
       };
-      quiet = c.carry_out.ensures.quiet;
+      tried = c.carry_out.ensures.tried;
       inverse = λ is. inverse words moment _ _ result told
           (λ asked as_asked. shows_again c.one_command.ensures.command c.shown_forks_are_read_again.ensures c.reserved_words_are_spared.ensures words moment _ _ made.0 result is carried
           asked as_asked (derez_free c.definitions_are_free.ensures words asked as_asked) answers)
@@ -61,7 +61,7 @@ returns-in-Err-ReadFault g c =
         only = λ is. absurd (cc is);
         always = λ is. or_else (c.in-Err-ReadFault.ensures.every_usage position is) (λ e. cc) (λ never. absurd never);
       };
-      quiet = λ is. absurd (cc is);
+      tried = refl;
       inverse = λ is. absurd (cc is);
     }
 
@@ -75,6 +75,6 @@ returns-in-Err-NoMemory g c =
           (over_none words c.args.moment _ _ reads.unchanged reads.unwritten refl c.one_answer.ensures c.every_answer.ensures c.put_line-in-Err-NoMemory.ensures);
       fileless = λ none. over_none words c.args.moment _ _ reads.unchanged reads.unwritten refl c.one_answer.ensures c.every_answer.ensures c.put_line-in-Err-NoMemory.ensures;
       usage = λ position. record { only = λ is. absurd (cc is); always = λ is. inr refl };
-      quiet = λ is. absurd (cc is);
+      tried = refl;
       inverse = λ is. absurd (cc is);
     }

@@ -21,11 +21,11 @@ catalogue_of-output-requires g c =
     let asked = strings c.args.words.now in
     c.in_ok-compiled.ensures.reads.allowed asked.file (may_read_these g.F.Folder (StringsAsk asked) c.requires.may (λ name. name ≡ asked.file) (λ files told name is. inr is) asked.file refl)
 
-pub say_beside-requires-clause-fault : goal.say_beside-requires-clause-fault
-say_beside-requires-clause-fault g c = placed_at (length c.in_ok-compiled.compiled.files) c.catalogue_of-output.result c.catalogue_of-output.ensures.bad
+pub say_beside-made-requires-clause-fault : goal.say_beside-made-requires-clause-fault
+say_beside-made-requires-clause-fault g c = placed_at (length c.in_ok-compiled.compiled.files) c.catalogue_of-output.result c.catalogue_of-output.ensures.bad
 
-pub say_beside-requires-clause-warnings : goal.say_beside-requires-clause-warnings
-say_beside-requires-clause-warnings g c = c.in_ok-compiled.ensures.good
+pub say_beside-made-requires-clause-warnings : goal.say_beside-made-requires-clause-warnings
+say_beside-made-requires-clause-warnings g c = c.in_ok-compiled.ensures.good
 
 pub returns-in_err-compiled : goal.returns-in_err-compiled
 returns-in_err-compiled g c =
@@ -36,7 +36,7 @@ returns-in_err-compiled g c =
 pub returns : goal.returns
 returns g c =
     let asked = strings c.args.words.now in
-    let result = seen making_of c.say_beside.result in
+    let result = seen making_of c.say_beside-made.result in
     after_types g.F.Folder asked.from asked.file (TypesAre c.args.moment asked.types) (HasStrings c.args.moment asked) result c.in_ok-compiled.ensures
-    (finds_so g.F.Folder result (finds_said g.F.Folder asked.from asked.file c.say_beside.result c.catalogue_of-output.ensures c.say_beside.ensures)
+    (finds_so g.F.Folder result (finds_said g.F.Folder asked.from asked.file c.say_beside-made.result c.catalogue_of-output.ensures c.say_beside-made.ensures)
     (λ files answer is. is) (λ making good. good.1) (λ failing bad. bad))

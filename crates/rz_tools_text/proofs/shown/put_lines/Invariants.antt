@@ -1,13 +1,12 @@
-use Rattle.std.proofs.Common.{◌≡◌, ◌≤◌, length}
+use Rattle.std.proofs.Common.{◌≡◌, length}
 use Rattle.rz_tools_text.proofs.Lists.{ArePut}
 use Rattle.rz_tools_text.proofs.shown.put_lines.Given as goal
 
-abbrev pub invariant-loop-line : goal.invariant-loop-line
-invariant-loop-line g l = record {
+abbrev pub invariant-lines : goal.invariant-lines
+invariant-lines g l = record {
   put : ArePut l.fn.lines l.left (g.O.Sink.stream l.fn.out) (g.O.Sink.stream l.out);
-  counted : g.O.Sink.faults l.fn.out ≤ g.O.Sink.faults l.out;
   quiet : g.O.Sink.faults l.out ≡ g.O.Sink.faults l.fn.out;
 }
 
-abbrev pub decreases-loop-line : goal.decreases-loop-line
-decreases-loop-line g l = length l.left
+abbrev pub decreases-lines : goal.decreases-lines
+decreases-lines g l = length l.left

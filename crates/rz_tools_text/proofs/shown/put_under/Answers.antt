@@ -1,4 +1,4 @@
-use Rattle.std.proofs.Common.{ap, subst, ◌∙◌}
+use Rattle.std.proofs.Common.{refl, ap, subst, ◌∙◌}
 use Rattle.std.proofs.lemmas.Result.{err_from_is_err_and}
 use Rattle.rz_core.specs.Decided.{Decided}
 use Rattle.rz_fork.specs.View.{lent}
@@ -35,3 +35,6 @@ returns-in-None-clause-told g c text shown =
     (template_of c.args.template.now) c.requires.declared
     (subst (Decided (TellsRow (known_of c.args.known.now) (lent c.args.view.now) (template_of c.args.template.now))) c.in-None.is c.in_ok-row.ensures)
     c.of_bytes.result c.of_bytes.ensures c.put_lines-in-None.ensures.told
+
+pub returns-in_err-row-clause-counted : goal.returns-in_err-row-clause-counted
+returns-in_err-row-clause-counted g c = (let p = err_from_is_err_and c.from_residual.result c.from_residual.ensures.1 in rw p.1 refl)

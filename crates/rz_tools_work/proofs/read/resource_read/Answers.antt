@@ -4,7 +4,6 @@ use Rattle.std.proofs.lemmas.Result.{err_from_is_err_and}
 use Rattle.rz_core.specs.Message.{IsNameable}
 use Rattle.rz_core.specs.declared.facts.Facts.{Facts}
 use Rattle.rz_core.specs.declared.resource.Resource.{Resource}
-use Rattle.rz_core.specs.declared.stop.Halt.TheVariants.{Refused}
 use Rattle.rz_stmt_data.specs.Head.{head_of}
 use Rattle.rz_core.specs.Stop.{IsReadFault, Yields}
 use Rattle.rz_folder.proofs.Found.{if_some}
@@ -12,7 +11,7 @@ use Rattle.rz_tools_values.specs.Contents.{short_bytes, with_bytes}
 use Rattle.rz_tools_values.specs.Files.{file_named}
 use Rattle.rz_tools_values.specs.Head.{facts_of}
 use Rattle.rz_tools_work.specs.Read.{contents_named, with_file}
-use Rattle.rz_tools_values.proofs.Calls.{reads_nothing, refuses_so, stop_unread, yields_halt, yields_on, yields_stop}
+use Rattle.rz_tools_values.proofs.Calls.{reads_first, reads_nothing, refuses_so, stop_unread, yields_halt, yields_on, yields_same, yields_stop}
 use Rattle.rz_folder.specs.MayRead.{IsOneOf, MayRead}
 use Rattle.rz_folder.specs.Names.{names_of, utf8_name}
 use Rattle.rz_tools_work.proofs.read.resource_read.Goals as goal
@@ -20,8 +19,8 @@ use Rattle.rz_tools_work.proofs.read.resource_read.Goals as goal
 pub file_named-requires : goal.file_named-requires
 file_named-requires g c = subst (λ (own : List ℕ). MayRead g.F.Folder c.args.folder.now (IsOneOf (names_of c.args.around.paths.now (utf8_name own)))) (sym c.as_slice-name.ensures) c.requires
 
-pub returns-in-Ok-clause-read : goal.returns-in-Ok-clause-read
-returns-in-Ok-clause-read g c =
+pub returns-clause-read : goal.returns-clause-read
+returns-clause-read g c =
     let mark = c.args.around.mark in
     let known = c.in_ok-known.known in
     let made = Ok c.with_bytes.result in
@@ -31,22 +30,34 @@ returns-in-Ok-clause-read g c =
     let file = file_named c.args.around.paths.now files mark c.args.stmt.now.file in
     yields_on (facts_of c.args.around.setting mark c.args.stmt.now.kind.code (head_of c.args.stmt.now.head)) (with_file c.args.around.paths.now files mark c.args.stmt.now.file)
     known made (sym c.in_ok-known.ensures.facts)
-    (yields_on (contents_named c.args.around.paths.now files mark c.args.stmt.now.file) (λ (bytes : List ℕ). Ok (with_bytes known bytes)) c.in-Ok.bytes made
-    (yields_on file (short_bytes mark) c.in_ok-bytes.bytes (Ok c.in-Ok.bytes) yields c.in-Ok.ensures.bytes) (ap (λ (r : Resource). Ok r) c.with_bytes.ensures)))
+    (yields_on (contents_named c.args.around.paths.now files mark c.args.stmt.now.file) (λ (bytes : List ℕ). Ok (with_bytes known bytes)) c.in_ok-short.short made
+    (yields_on file (short_bytes mark) c.in_ok-bytes.bytes (Ok c.in_ok-short.short) yields (sym c.in_ok-short.ensures.bytes)) (ap (λ (r : Resource). Ok r) c.with_bytes.ensures)))
 
-pub returns-in-Err-clause-read : goal.returns-in-Err-clause-read
-returns-in-Err-clause-read g c =
+pub returns-in_err-short-clause-read : goal.returns-in_err-short-clause-read
+returns-in_err-short-clause-read g c =
     let mark = c.args.around.mark in
     let known = c.in_ok-known.known in
-    let halt = Refused c.in-Err.fault in
+    let bytes = c.in_ok-bytes.bytes in
+    let p = err_from_is_err_and c.from_residual-in_err-short.result c.from_residual-in_err-short.ensures.1 in
     let read = subst (λ (name : List ℕ). IfSome (g.F.Folder.files c.args.folder.now) (λ files.
-    Yields {X = List ℕ} (Ok c.in_ok-bytes.bytes) (λ answer. answer ≡ file_named c.args.around.paths.now files mark name))) c.as_slice-name.ensures c.in_ok-bytes.ensures.read in
+    Yields {X = List ℕ} (Ok bytes) (λ answer. answer ≡ file_named c.args.around.paths.now files mark name))) c.as_slice-name.ensures c.in_ok-bytes.ensures.read in
     IfSome_then (g.F.Folder.files c.args.folder.now) read (λ files yields.
     let file = file_named c.args.around.paths.now files mark c.args.stmt.now.file in
-    yields_on {Y = Resource} (facts_of c.args.around.setting mark c.args.stmt.now.kind.code (head_of c.args.stmt.now.head)) (with_file c.args.around.paths.now files mark c.args.stmt.now.file)
-    known (Err halt) (sym c.in_ok-known.ensures.facts)
-    (yields_halt (contents_named c.args.around.paths.now files mark c.args.stmt.now.file) (λ (bytes : List ℕ). Ok (with_bytes known bytes)) halt
-    (yields_on file (short_bytes mark) c.in_ok-bytes.bytes (Err halt) yields c.in-Err.ensures.bytes)))
+    rw p.1 (yields_on {Y = Resource} (facts_of c.args.around.setting mark c.args.stmt.now.kind.code (head_of c.args.stmt.now.head)) (with_file c.args.around.paths.now files mark c.args.stmt.now.file)
+    known (Err p.0) (sym c.in_ok-known.ensures.facts)
+    (yields_halt (contents_named c.args.around.paths.now files mark c.args.stmt.now.file) (λ (bytes : List ℕ). Ok (with_bytes known bytes)) p.0
+    (yields_on file (short_bytes mark) bytes (Err p.0) yields (yields_same (List ℕ) (short_bytes mark bytes) c.in_err-short.field-0.0 p.0 p.2 c.in_err-short.ensures.bytes)))))
+
+pub returns-in_err-short-clause-nameable : goal.returns-in_err-short-clause-nameable
+returns-in_err-short-clause-nameable g c files within =
+    let p = err_from_is_err_and c.from_residual-in_err-short.result c.from_residual-in_err-short.ensures.1 in
+    rw p.1 (refuses_so (List ℕ) Resource c.in_err-short.field-0.0 p.0 (IsNameable files) p.2 (c.in_err-short.ensures.nameable files within))
+
+pub returns-in_err-short-clause-reads : goal.returns-in_err-short-clause-reads
+returns-in_err-short-clause-reads g c =
+    let p = err_from_is_err_and c.from_residual-in_err-short.result c.from_residual-in_err-short.ensures.1 in
+    reads_first g.F.Folder c.args.folder.now c.file_named.new.folder (IsReadFault c.from_residual-in_err-short.result)
+    (rw p.1 (stop_unread Resource c.in_err-short.field-0.0 p.0 p.2)) c.in_ok-bytes.ensures.reads
 
 pub returns-in_err-bytes-clause-read : goal.returns-in_err-bytes-clause-read
 returns-in_err-bytes-clause-read g c =

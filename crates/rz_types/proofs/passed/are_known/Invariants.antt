@@ -8,5 +8,5 @@ use Rattle.rz_types.proofs.passed.are_known.Given as goal
 
 abbrev pub invariant-loop-expr : goal.invariant-loop-expr
 invariant-loop-expr l =
-    list_all (all_known (passed l.notes).met (known (plain_body l.fields) l.notes)) (map (λ expr. term_of expr.now) (drop l.expr-index l.exprs))
-    ≡ list_all (all_known (passed l.notes).met (known (plain_body l.fields) l.notes)) (map (λ expr. term_of expr.now) l.exprs)
+    list_all (all_known (passed l.notes).met (known (plain_body l.ahead.fields.now) l.notes)) (map (λ expr. term_of expr.now) (drop l.expr-index l.exprs))
+    ≡ list_all (all_known (passed l.notes).met (known (plain_body l.ahead.fields.now) l.notes)) (map (λ expr. term_of expr.now) l.exprs)

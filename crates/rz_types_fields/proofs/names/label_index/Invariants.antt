@@ -1,7 +1,7 @@
 use Rattle.std.proofs.Common.{◌≡◌, ◌+◌, ◌≤◌, drop}
 use Rattle.std.specs.Str.{str_to_ascii_lowercase}
 use Rattle.rz_types_fields.specs.Field.{plain_body}
-use Rattle.rz_types_fields.specs.RowLabels.{label_index}
+use Rattle.rz_types_fields.specs.FlatRows.{label_index}
 use Rattle.rz_types_fields.proofs.names.label_index.Given as goal
 
 abbrev pub invariant-loop-field : goal.invariant-loop-field

@@ -1,6 +1,6 @@
 use Rattle.std.proofs.Common.{◌≡◌, ◌+◌, ◌≤◌, drop}
 use Rattle.rz_types_fields.specs.Field.{plain_body}
-use Rattle.rz_types_fields.specs.RowLabels.{labels_count}
+use Rattle.rz_types_fields.specs.FlatRows.{labels_count}
 use Rattle.rz_types_fields.proofs.names.labels_count.Given as goal
 
 abbrev pub invariant-loop-field : goal.invariant-loop-field

@@ -1,4 +1,4 @@
-use Rattle.std.proofs.Common.{◌≡◌, ◌-◌, List, drop, take, sym, ap, subst, ◌∙◌}
+use Rattle.std.proofs.Common.{◌-◌, List, take, sym, subst, ◌∙◌}
 use Rattle.rz_types_fields.specs.Newest.{AreHeld}
 use Rattle.rz_types_fields.specs.declared.names.Note.{Note}
 use Rattle.rz_types_fields.proofs.HeldNotes.{others_kept}

@@ -1,5 +1,4 @@
-use Rattle.std.proofs.Common.{◌≤◌, Bool, List, [], Option, IfSome, None, length, sym, ap, ◌∙◌, subst}
-use Rattle.std.specs.Prelude.{option_map}
+use Rattle.std.proofs.Common.{◌≤◌, Bool, List, [], Option, IfSome, None, Some, length, sym, ap, ◌∙◌, subst}
 use Rattle.rz_bits.specs.View.{seen}
 use Rattle.rz_types_fields.specs.declared.field.Field.{Field}
 use Rattle.rz_core.specs.declared.facts.Facts.{Facts}
@@ -15,6 +14,7 @@ use Rattle.rz_unlay_pieces.specs.Few.{few}
 use Rattle.rz_unlay.specs.Few.{line_count}
 use Rattle.rz_unlay.specs.Fits.{AreFit}
 use Rattle.rz_unlay.proofs.EndSteps.{ended_so, none_ended, not_ended}
+use Rattle.rz_unlay.proofs.FieldSteps.{is_line}
 use Rattle.rz_unlay.proofs.Fitting.{template_fits}
 use Rattle.rz_unlay.proofs.row.read_row.Goals as goal
 
@@ -33,8 +33,9 @@ returns-then-is_end c =
     let all = seen c.over-view.result in
     let body = plain_body c.args.body.now in
     let came = c.in-Some.came in
-    ended_so all (whole_found c.args.facts.now body all) (line_in c.read_body.new.learnt came)
-    (ap (option_map (line_in c.read_body.new.learnt)) (sym c.in-Some.is) ∙ c.in_ok-came.ensures.row
+    let line = is_line (plain_body c.as_slice-fields.result.now) c.read_body.new.learnt.marks _ (Some came) _ c.in-Some.is c.in_ok-came.ensures.row in
+    ended_so all (whole_found c.args.facts.now body all) (line_in c.read_body.new.learnt.marks came line.0)
+    (line.1
     ∙ (λ i. few line_count 1048576 (line_at c.args.facts.now all None (plain_body (c.as_slice-fields.ensures i)) (met (c.new-learnt.ensures.notes i)) (known (c.new-learnt.ensures.notes i)) 0 (marked 0 (c.new-learnt.ensures.marks i)))))
     (subst (λ o. IfSome o (λ r. r.after ≤ length all)) c.in-Some.is c.in_ok-came.ensures.within)
     (sym c.if-is_end.ensures)
@@ -45,8 +46,9 @@ returns-in-Some c =
     let all = seen c.over-view.result in
     let body = plain_body c.args.body.now in
     let came = c.in-Some.came in
-    not_ended all (whole_found c.args.facts.now body all) (line_in c.read_body.new.learnt came)
-    (ap (option_map (line_in c.read_body.new.learnt)) (sym c.in-Some.is) ∙ c.in_ok-came.ensures.row
+    let line = is_line (plain_body c.as_slice-fields.result.now) c.read_body.new.learnt.marks _ (Some came) _ c.in-Some.is c.in_ok-came.ensures.row in
+    not_ended all (whole_found c.args.facts.now body all) (line_in c.read_body.new.learnt.marks came line.0)
+    (line.1
     ∙ (λ i. few line_count 1048576 (line_at c.args.facts.now all None (plain_body (c.as_slice-fields.ensures i)) (met (c.new-learnt.ensures.notes i)) (known (c.new-learnt.ensures.notes i)) 0 (marked 0 (c.new-learnt.ensures.marks i)))))
     (subst (λ o. IfSome o (λ r. r.after ≤ length all)) c.in-Some.is c.in_ok-came.ensures.within)
     (sym c.if-is_end.ensures)
@@ -57,6 +59,6 @@ returns c =
     let all = seen c.over-view.result in
     let body = plain_body c.args.body.now in
     none_ended all (whole_found c.args.facts.now body all)
-    (ap (option_map (line_in c.read_body.new.learnt)) (sym c.in-None.is) ∙ c.in_ok-came.ensures.row
+    (is_line (plain_body c.as_slice-fields.result.now) c.read_body.new.learnt.marks _ None _ c.in-None.is c.in_ok-came.ensures.row
     ∙ (λ i. few line_count 1048576 (line_at c.args.facts.now all None (plain_body (c.as_slice-fields.ensures i)) (met (c.new-learnt.ensures.notes i)) (known (c.new-learnt.ensures.notes i)) 0 (marked 0 (c.new-learnt.ensures.marks i)))))
     ∙ ap (λ (bits : List Bool). ended bits (whole_found c.args.facts.now body bits)) c.over-view.ensures.bits

@@ -14,7 +14,7 @@ pub returns-clause-laid : goal.returns-clause-laid
 returns-clause-laid c =
     let wide = to_z-of_z w32 c.args.width c.ranges.width in
     late_draft c.args.self.now.piece c.one_more-self.result c.args.self.now.bits c.args.self.now.marks c.push_many.new.self c.push_many-2.new.self c.push_many-3.new.self
-    (known c.args.self.now.notes.items) (numbers_in c.args.self.now.late) (numbers_in c.push.new.self) c.args.self.now.places.items c.args.form c.args.width (term_of c.args.term.now) _ _ _
+    (known c.args.self.now.notes.items) (numbers_in c.args.self.now.late) (numbers_in c.push.new.self) c.args.form c.args.width (term_of c.args.term.now) _ _ _
     c.one_more-self.ensures c.requires.short.marks c.in_ok-push_many.ensures.ok (omega (arith, c.len-at.ensures.is, c.len.ensures.is)) c.in_ok-push_many-2.ensures.ok (ap nat_abs wide)
     c.in_ok-push_many-3.ensures.ok (ap nat_abs wide) (subst (λ (n : ℕ). length c.args.self.now.bits + n ≤ most_bits) (ap nat_abs wide) c.in-Ok.ensures)
     (ap numbers_in c.in_ok-push.ensures.ok ∙ numbers_more c.args.self.now.late _

@@ -13,7 +13,7 @@ returns-in-Err-clause-laid c =
 pub returns-clause-laid : goal.returns-clause-laid
 returns-clause-laid c =
     put_draft c.args.self.now.piece c.one_more-self.result c.args.self.now.bits (number_bits c.args.width c.args.number) c.push.new.self c.args.self.now.marks
-    (known c.args.self.now.notes.items) (numbers_in c.args.self.now.late) c.args.self.now.places.items c.one_more-self.ensures c.in_ok-push.ensures.ok c.requires.short.marks c.args.width
+    (known c.args.self.now.notes.items) (numbers_in c.args.self.now.late) c.one_more-self.ensures c.in_ok-push.ensures.ok c.requires.short.marks c.args.width
     (length_number c.args.width c.args.number) c.in-Ok.ensures
 
 pub returns-clause-short : goal.returns-clause-short

@@ -12,4 +12,4 @@ returns c =
     let short = (subst (AllByRecursion IsShort) gives.1 c.self.invariant.short).0 in
     sym c.self.view_is
     ∙ ap (map as_line) gives.1
-    ∙ ap (λ (line : List ℕ). line ∷ map as_line (lines_left c.next.new.self)) (sym (cut_short (as_line gives.0) short) ∙ sym gives.2 ∙ sym c.into_bytes.ensures)
+    ∙ ap (λ (line : List ℕ). line ∷ map as_line (lines_left c.next.new.self)) (sym (cut_short (as_line gives.0) short) ∙ sym gives.2)
