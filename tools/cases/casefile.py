@@ -74,13 +74,17 @@ class Book:
             self.lines += content(stream, "", text) if text else []
         self.lines.append("")
 
-    def table(self, rows, add):
-        """The cases that `add` makes of each line of a table. A line that begins with `//` says what is tried."""
-        for line in rows.strip("\n").split("\n"):
+    def table(self, rows, add=None):
+        """The cases that `add`, or else `line`, makes of each line of a table. A line after `//` says what is tried."""
+        for line in map(str.strip, rows.strip().split("\n")):
             if line.startswith("//"):
                 self.say(line[2:].strip())
             else:
-                add(line)
+                (add or self.line)(line)
+
+    def lines_of(self, says, rows, add=None):
+        """Makes a table the next part of the file, after a comment."""
+        self.part(says)(lambda: self.table(rows, add))
 
     def refused(self, name, words, says, files=(), gone=(), keys=(), status=2):
         """A case with a line on `err` alone, as it stands after the program's name."""

@@ -36,58 +36,35 @@ def kinds():
                 values + [b""] + values + values + [b""])
 
 
-@ENDS.part("Several fields up to the label.")
-def several():
-    case = ENDS.shows
-    case("a string at its label at once", "byte = e / 8; string; e: pstring;", "rrddd", "01 00", '03 "ab" 01 "c"',
-         "00 00", "02 00", '04 "ab" 01 "c"')
-    case("a string, a byte and a label", "byte = e / 8; string; byte; e: pstring;", "rrdd", "02 07 00", '04 "ab" 07 00',
-         "01 00", "01 07 00")
-    case("a string, five fields and a label", [byte(LENGTH), Label("s"), text("string"), byte(), Fill("bit", 4),
-            field_bits(4, 9), points(1, -1), text("pstring", 2), Label("e"), LAST], "rrdddd", '09 05 09 0001FFFF 01 "a" 00 00',
-        '0B "xy" 05 09 0001FFFF 02 "ab" 00', '08 05 09 0001FFFF 01 "a" 00 00', '09 05 0A 0001FFFF 01 "a" 00 00',
-        '09 05 19 0001FFFF 01 "a" 00 00', '09 05 09 0001FFFF 03 "ab" 00')
-    case("an array, five fields and a label", [byte(LENGTH), Label("s"), Array(None, None, [integer()]), byte(), Fill("bit", 4),
-            field_bits(4, 9), Array(None, 2, [byte()]), Label("e"), LAST], "rrddd", "04 05 09 01 02 00",
-        "08 0102 0304 05 09 01 02 00", "07 0102 03 05 09 01 02 00", "03 05 09 01 00", "04 05 08 01 02 00")
-    case("labels between a string and its label", "byte = e / 8; string; a: byte = a; b: c: byte = c; e: pstring;",
-         "rrd", "03 08 10 00", '04 "x" 10 18 00', '04 "x" 10 19 00')
-    case("a string up to the second of two labels", "byte = e / 8; string; a: byte; e: pstring;", "rd", '03 "x" 07 00',
-         "01 00")
-    case("a string up to two labels that are solved", "byte = a / 8; byte = b / 8; string; a: integer; b: pstring;",
-         "rrddd", '03 05 "x" 0007 00', "02 04 0007 00", '03 06 "x" 0007 00', '04 05 "x" 0007 00', "02 02 0007 00")
-    case("a string up to two labels of which the second is solved first",
-         "byte = b / 8; byte = a / 8; string; a: integer; b: pstring;", "rrddd", '05 03 "x" 0007 00', "04 02 0007 00",
-         '06 03 "x" 0007 00', '05 04 "x" 0007 00', "02 02 0007 00")
-    case("two labels at one place of which both are solved", "byte = a / 8; byte = b / 8; string; a: b: pstring;",
-         "rdd", '03 03 "x" 00', '03 04 "x" 00', '04 03 "x" 00')
-    case("a string behind a string by two lengths",
-         "byte = a / 8; byte = (b - s) / 8; string; a: byte; s: string; b: pstring;", "d", '03 02 "x" 07 "yz" 00')
-    case("a string behind a string by two places", "byte = a / 8; byte = b / 8; string; a: byte; string; b: pstring;",
-         "rrdrdd", '03 06 "x" 07 "yz" 00', "02 03 07 00", '03 07 "x" 07 "yz" 00', '04 06 "x" 07 "yz" 00',
-         '03 03 "x" 07 "yz" 00', '06 03 "x" 07 "yz" 00')
-    case("two strings of which one alone ends", "byte = b / 8; string; string; b: pstring;", "d", '03 "xy" 00')
-    case("a string and an array up to one label", "byte = b / 8; string; array { byte; }; b: pstring;", "d",
-         '03 "xy" 00')
-    case("an array up to a label behind a string with a size", [byte(), Label("p"), byte(at("b") / 8), BYTES, text("string", 2),
-        Label("b"), LAST], "rrdd", "00 04 6162 00", "00 05 07 6162 00", "00 03 61 00", "00 06 07 6162 00")
-    case("a string with a size that is read stands between",
-         "n: byte; byte = b / 8; string; string[$$Byte(n)]; b: pstring;", "d", '01 04 "x" "y" 00')
+ENDS.lines_of("Several fields up to the label.", r"""
+a string at its label at once @ byte = e / 8; string; e: pstring; => r 01 00 | r 03 "ab" 01 "c" | d 00 00 | d 02 00 | d 04 "ab" 01 "c"
+a string, a byte and a label @ byte = e / 8; string; byte; e: pstring; => r 02 07 00 | r 04 "ab" 07 00 | d 01 00 | d 01 07 00
+a string, five fields and a label @ byte = (e - s) / 8; s: string; byte; fill bit[4]; bitstring[4] = 9; point = {1, -1}; pstring[2]; e: pstring; => r 09 05 09 0001FFFF 01 "a" 00 00 | r 0B "xy" 05 09 0001FFFF 02 "ab" 00 | d 08 05 09 0001FFFF 01 "a" 00 00 | d 09 05 0A 0001FFFF 01 "a" 00 00 | d 09 05 19 0001FFFF 01 "a" 00 00 | d 09 05 09 0001FFFF 03 "ab" 00
+an array, five fields and a label @ byte = (e - s) / 8; s: array { integer; }; byte; fill bit[4]; bitstring[4] = 9; array[2] { byte; }; e: pstring; => r 04 05 09 01 02 00 | r 08 0102 0304 05 09 01 02 00 | d 07 0102 03 05 09 01 02 00 | d 03 05 09 01 00 | d 04 05 08 01 02 00
+labels between a string and its label @ byte = e / 8; string; a: byte = a; b: c: byte = c; e: pstring; => r 03 08 10 00 | r 04 "x" 10 18 00 | d 04 "x" 10 19 00
+a string up to the second of two labels @ byte = e / 8; string; a: byte; e: pstring; => r 03 "x" 07 00 | d 01 00
+a string up to two labels that are solved @ byte = a / 8; byte = b / 8; string; a: integer; b: pstring; => r 03 05 "x" 0007 00 | r 02 04 0007 00 | d 03 06 "x" 0007 00 | d 04 05 "x" 0007 00 | d 02 02 0007 00
+a string up to two labels of which the second is solved first @ byte = b / 8; byte = a / 8; string; a: integer; b: pstring; => r 05 03 "x" 0007 00 | r 04 02 0007 00 | d 06 03 "x" 0007 00 | d 05 04 "x" 0007 00 | d 02 02 0007 00
+two labels at one place of which both are solved @ byte = a / 8; byte = b / 8; string; a: b: pstring; => r 03 03 "x" 00 | d 03 04 "x" 00 | d 04 03 "x" 00
+a string behind a string by two lengths @ byte = a / 8; byte = (b - s) / 8; string; a: byte; s: string; b: pstring; => d 03 02 "x" 07 "yz" 00
+a string behind a string by two places @ byte = a / 8; byte = b / 8; string; a: byte; string; b: pstring; => r 03 06 "x" 07 "yz" 00 | r 02 03 07 00 | d 03 07 "x" 07 "yz" 00 | r 04 06 "x" 07 "yz" 00 | d 03 03 "x" 07 "yz" 00 | d 06 03 "x" 07 "yz" 00
+two strings of which one alone ends @ byte = b / 8; string; string; b: pstring; => d 03 "xy" 00
+a string and an array up to one label @ byte = b / 8; string; array { byte; }; b: pstring; => d 03 "xy" 00
+an array up to a label behind a string with a size @ byte; p: byte = b / 8; array { byte; }; string[2]; b: pstring; => r 00 04 6162 00 | r 00 05 07 6162 00 | d 00 03 61 00 | d 00 06 07 6162 00
+a string with a size that is read stands between @ n: byte; byte = b / 8; string; string[$$Byte(n)]; b: pstring; => d 01 04 "x" "y" 00
+""")
 
 
 @ENDS.part("Labels in front of the beginning, behind the end, and within bytes.")
 def places():
     case = ENDS.shows
-    case("a string whose label stands before its beginning", "byte = e; byte; string; e: pstring;", "rdddd", "10 07 00",
-         "08 07 00", "00 07 00", "0F 07 00", "09 07 00")
-    case("a string whose label stands behind the end", "byte = e / 8; string; e: byte;", "rrddd", '04 "abc" 07',
-         "01 07", '05 "abc" 07', '06 "abc" 07', 'FF "abc" 07')
-    case("a string whose label stands at the end", "byte = e / 8; string; e:", "rrdd", "01", '04 "abc"', '05 "abc"',
-         '03 "abc"')
-    case("an array whose label stands before its beginning", "byte = e; byte; array { byte; }; e: pstring;", "rdddd",
-         "10 07 00", "08 07 00", "00 07 00", "0F 07 00", "11 07 00")
-    case("an array whose label stands behind the end", "byte = e / 8; array { byte; }; e: byte;", "rrddd",
-         '04 "abc" 07', "01 07", '05 "abc" 07', '06 "abc" 07', 'FF "abc" 07')
+    ENDS.table(r"""
+        a string whose label stands before its beginning @ byte = e; byte; string; e: pstring; => r 10 07 00 | d 08 07 00 | d 00 07 00 | d 0F 07 00 | d 09 07 00
+        a string whose label stands behind the end @ byte = e / 8; string; e: byte; => r 04 "abc" 07 | r 01 07 | d 05 "abc" 07 | d 06 "abc" 07 | d FF "abc" 07
+        a string whose label stands at the end @ byte = e / 8; string; e: => r 01 | r 04 "abc" | d 05 "abc" | d 03 "abc"
+        an array whose label stands before its beginning @ byte = e; byte; array { byte; }; e: pstring; => r 10 07 00 | d 08 07 00 | d 00 07 00 | d 0F 07 00 | d 11 07 00
+        an array whose label stands behind the end @ byte = e / 8; array { byte; }; e: byte; => r 04 "abc" 07 | r 01 07 | d 05 "abc" 07 | d 06 "abc" 07 | d FF "abc" 07
+    """)
     for bits in range(8, 25):
         case("a string up to bit %d" % bits, "byte = e; string; e: align byte; pstring;", "r" if bits % 8 == 0 else "d",
              "%02X %s 00" % (bits, "EE" * (bits // 8 - 1)) if bits % 8 == 0 else "%02X %s 00"
@@ -102,18 +79,13 @@ def places():
              + ["%02X %s 00" % (width + 1, "00" * (width // 8 + 1))])
         case("rows of %d bits in bytes" % width, "byte = e / 8 - 1; array { bitstring[%d]; }; e: align byte; pstring;"
              % width, "rr", *[[[[1]] * count, b""] for count in (0, 8)])
-    case("rows of two widths up to a label",
-         "byte = (e - s) / 8; s: array { switch { case A: key byte = 1; case B: key byte = 2; integer; }; }; e: pstring;",
-         "rrrdddd", "00 00", "01 01 00", "05 02 0007 01 01 00", "04 02 0007 02 00", "02 02 0007 00", "03 03 0007 00",
-         "05 02 0007 01 00")
-    case("rows of strings up to a label", "byte = (e - s) / 8; s: array { pstring; }; e: pstring;", "rrddd",
-         '05 01 "a" 02 "bc" 00', "00 00", '04 01 "a" 02 "bc" 00', '06 01 "a" 02 "bc" 00', '03 01 "a" 02 "bc" 00')
-    case("rows with an align up to a label", "byte = (e - s) / 8; s: array { byte; align word; }; e: pstring;", "rrrdd",
-         "01 05 00", "00 00", "03 05 06 00 00", "02 05 06 00", "03 05 06 01 00")
-    case("the last row is cut", "byte = (e - s) / 8; s: array { integer; byte; }; e: pstring;", "rddr", "03 0001 02 00",
-         "04 0001 02 03 00", "02 0001 02 00", "06 0001 02 0003 04 00")
-    case("rows that end behind the label", "byte = (e - s) / 8; s: array { cstring; }; e: pstring;", "rrdd",
-         '03 "a" 00 00 00', "02 00 00 00", '02 "a" 00 00 00 00', '01 "a" 00 00 00')
+    ENDS.table(r"""
+        rows of two widths up to a label @ byte = (e - s) / 8; s: array { switch { case A: key byte = 1; case B: key byte = 2; integer; }; }; e: pstring; => r 00 00 | r 01 01 00 | r 05 02 0007 01 01 00 | d 04 02 0007 02 00 | d 02 02 0007 00 | d 03 03 0007 00 | d 05 02 0007 01 00
+        rows of strings up to a label @ byte = (e - s) / 8; s: array { pstring; }; e: pstring; => r 05 01 "a" 02 "bc" 00 | r 00 00 | d 04 01 "a" 02 "bc" 00 | d 06 01 "a" 02 "bc" 00 | d 03 01 "a" 02 "bc" 00
+        rows with an align up to a label @ byte = (e - s) / 8; s: array { byte; align word; }; e: pstring; => r 01 05 00 | r 00 00 | r 03 05 06 00 00 | d 02 05 06 00 | d 03 05 06 01 00
+        the last row is cut @ byte = (e - s) / 8; s: array { integer; byte; }; e: pstring; => r 03 0001 02 00 | d 04 0001 02 03 00 | d 02 0001 02 00 | r 06 0001 02 0003 04 00
+        rows that end behind the label @ byte = (e - s) / 8; s: array { cstring; }; e: pstring; => r 03 "a" 00 00 00 | r 02 00 00 00 | d 02 "a" 00 00 00 00 | d 01 "a" 00 00 00
+    """)
 
 
 @ENDS.part("The least width of the rows.")
@@ -202,37 +174,22 @@ def not_ended():
 @ENDS.part("Numbers of rows, labels and the end of the resource together.")
 def both():
     case = ENDS.shows
-    case("rows by their number and a label that says the same",
-         "byte = $$CountOf(a); byte = e / 8; array a { byte; }; e: pstring;", "rdd", "02 04 01 02 00", "02 03 01 02 00",
-         "01 04 01 02 00")
-    case("rows by a stated number and a label", "byte = e / 8; cstring; array[2] { byte; }; e: pstring;", "rdd",
-         "04 00 01 02 00", "03 00 01 02 00", "05 00 01 02 00")
-    case("a string up to a label and the end of the resource", "byte = e / 8; string; e: byte;", "rdd", '03 "ab" 07',
-         '02 "ab" 07', '04 "ab" 07')
-    case("a string up to the end, and labels behind it", "byte; string; e: byte = e; f: integer = f - e;", "rdd",
-         '01 "ab" 18 0008', '01 "ab" 19 0008', '01 "ab" 18 0000')
-    case("a string up to the end, and a label that a number behind the string solves", "cstring; string; byte = f; f:",
-         "rrd", "00 10", '"a" 00 "b" 20', '"a" 00 "b" 18')
-    case("a string up to the end, and a label in front of it", "p: byte; string; byte = $$Byte(p);", "rrd", "07 07",
-         '07 "abc" 07', '07 "abc" 06')
-    case("a string up to the end behind one up to a label", "byte = e / 8; string; e: string;", "rrrd", '03 "ab" "cd"',
-         '05 "abcd"', '01 "abcd"', '06 "abcd"')
-    case("an array up to the end behind one up to a label", "byte = e / 8; array { byte; }; e: array { integer; };",
-         "rrdd", "03 0102 0304", "05 01020304", "04 010203 04", "00 01020304")
-    case("an array up to the end and bits behind a label",
-         "byte = e; bitstring[3]; string; e: bitstring[5]; array { byte; };", "rrd", "0B 2A", "13 20 2A 07", "10 20 2A")
-    case("rows of rows up to a label, each with its number",
-         "byte = (e - s) / 8; s: array { byte = $$CountOf(in); array in { byte; }; }; e: pstring;", "rrddd",
-         "03 02 05 06 00", "04 01 05 01 06 00", "02 02 05 06 00", "04 02 05 06 01 00", "00 02 05 06 00")
-    case("rows of stated rows up to a label", "byte = (e - s) / 8; s: array { array[2] { byte; }; }; e: pstring;",
-         "rrd", "04 01 02 03 04 00", "00 00", "03 01 02 03 00")
-    case("rows up to a label with a late number in each",
-         "byte = (e - s) / 8; s: array { byte; byte = f; }; e: pstring; f:", "d", "02 07 28 00")
-    case("rows up to a label with its place in each",
-         "byte = (e - s) / 8; s: array { byte; integer = e; }; e: pstring;", "rrrd", "03 07 0020 00",
-         "06 07 0038 08 0038 00", "00 00", "06 07 0038 08 0039 00")
-    case("rows up to a label with formats of its place",
-         'byte = (e - s) / 8; s: array { byte; pstring = $$Format("%d", e); }; e: pstring;', "d", '04 07 02 "40" 00')
+    ENDS.table(r"""
+        rows by their number and a label that says the same @ byte = $$CountOf(a); byte = e / 8; array a { byte; }; e: pstring; => r 02 04 01 02 00 | d 02 03 01 02 00 | d 01 04 01 02 00
+        rows by a stated number and a label @ byte = e / 8; cstring; array[2] { byte; }; e: pstring; => r 04 00 01 02 00 | d 03 00 01 02 00 | d 05 00 01 02 00
+        a string up to a label and the end of the resource @ byte = e / 8; string; e: byte; => r 03 "ab" 07 | d 02 "ab" 07 | d 04 "ab" 07
+        a string up to the end, and labels behind it @ byte; string; e: byte = e; f: integer = f - e; => r 01 "ab" 18 0008 | d 01 "ab" 19 0008 | d 01 "ab" 18 0000
+        a string up to the end, and a label that a number behind the string solves @ cstring; string; byte = f; f: => r 00 10 | r "a" 00 "b" 20 | d "a" 00 "b" 18
+        a string up to the end, and a label in front of it @ p: byte; string; byte = $$Byte(p); => r 07 07 | r 07 "abc" 07 | d 07 "abc" 06
+        a string up to the end behind one up to a label @ byte = e / 8; string; e: string; => r 03 "ab" "cd" | r 05 "abcd" | r 01 "abcd" | d 06 "abcd"
+        an array up to the end behind one up to a label @ byte = e / 8; array { byte; }; e: array { integer; }; => r 03 0102 0304 | r 05 01020304 | d 04 010203 04 | d 00 01020304
+        an array up to the end and bits behind a label @ byte = e; bitstring[3]; string; e: bitstring[5]; array { byte; }; => r 0B 2A | r 13 20 2A 07 | d 10 20 2A
+        rows of rows up to a label, each with its number @ byte = (e - s) / 8; s: array { byte = $$CountOf(in); array in { byte; }; }; e: pstring; => r 03 02 05 06 00 | r 04 01 05 01 06 00 | d 02 02 05 06 00 | d 04 02 05 06 01 00 | d 00 02 05 06 00
+        rows of stated rows up to a label @ byte = (e - s) / 8; s: array { array[2] { byte; }; }; e: pstring; => r 04 01 02 03 04 00 | r 00 00 | d 03 01 02 03 00
+        rows up to a label with a late number in each @ byte = (e - s) / 8; s: array { byte; byte = f; }; e: pstring; f: => d 02 07 28 00
+        rows up to a label with its place in each @ byte = (e - s) / 8; s: array { byte; integer = e; }; e: pstring; => r 03 07 0020 00 | r 06 07 0038 08 0038 00 | r 00 00 | d 06 07 0038 08 0039 00
+        rows up to a label with formats of its place @ byte = (e - s) / 8; s: array { byte; pstring = $$Format("%d", e); }; e: pstring; => d 04 07 02 "40" 00
+    """)
     for count in (1, 2, 16, 17, 64, 65, 200):
         case("a string of %d bytes up to a label" % count, "byte = (e - s) / 8; s: string; e: byte;", "r",
              [b"\\'\"\0" * (count // 4) + b"q" * (count % 4), 7])

@@ -1,7 +1,7 @@
 """Writes known.cases: what `derez` shows of types with labels whose places are known without solving."""
 from label_book import FUNCTIONS, KINDS, Shown
-from model.label_types import (Align, Array, Fill, Format, Label, Switch, at, bits_at, byte, byte_at, field_bits, key,
-                               longint, number, rows_of, text)
+from model.label_types import (Align, Array, Fill, Label, at, bits_at, byte, byte_at, field_bits, longint, number,
+                               rows_of, text)
 from model.labels import width_of
 
 KNOWN = Shown("known.cases", "known_cases.py", "What derez shows of types with labels whose places are known.")
@@ -30,38 +30,33 @@ def near():
 @KNOWN.part("What is known needs not solve: a number that can't be undone exactly is right if its value is.")
 def far():
     case = KNOWN.shows
-    case("a place in words that is near", "byte = e / 16; byte; e: byte;", "rdd", "01 07 08", "02 07 08", "01 07")
-    case("a place in words that is far", "byte = e / 16; cstring; e: byte;", "rd", "01 00 08", '01 "a" 00 08')
-    case("a near place over 31 bits", "longint = e << 26; byte; e:", "rd", "A0000000 07", "20000000 07")
-    case("a near place over 32 bits", "longint = e << 27; byte; e:", "rd", "40000000 07", "00000000 07")
-    case("a near place times 0", "byte = e * 0; byte; e:", "rd", "00 07", "01 07")
-    case("a near place twice", "byte = e + e; e: byte;", "rd", "10 07", "08 07")
-    case("two near places", "byte = e * f / 8; e: byte; f:", "rd", "10 07", "11 07")
-    case("a near place and one that is solved", "byte = e + f; e: cstring; f: byte;", "rrdd", "18 00 07",
-         '20 "a" 00 07', '18 "a" 00 07', '21 "a" 00 07')
-    case("a near place that is negative", "byte = -e; byte; e:", "rd", "F0 07", "10 07")
-    case("a near place out of range", "bitstring[4] = e * 2; byte; e:", "dd", "80 70", "00 70")
-    case("a near place out of range of a number with a sign", "byte = e * 16; e:", "rd", "80", "00")
-    case("a near place in a boolean", "boolean = e > 6; bitstring[6]; e: bitstring[1];", "rd", "83", "03")
-    case("a near place by a zero divisor", "byte = e / 0; e:", "dd", "00", "08")
-    case("a near place to the left by 32", "byte = e << 32; e:", "dd", "00", "08")
-    case("places before, in front and behind", "byte = a; a: byte = a + b; b: byte = a - b;", "rdd", "08 18 F8",
-         "08 18 08", "10 18 F8")
-    case("a near place in a point", "point = {e, e - 1}; e: byte;", "rdd", "0020 001F 07", "0020 0020 07",
-         "0021 001F 07")
-    case("a near place of the end of its own point", "byte; point = {e, e}; e:", "rd", "07 0028 0028", "07 0028 0020")
-    case("a near place in rows, of the fields around", "byte; array[2] { byte = e; byte; }; e:", "d", "07 28 01 28 02")
-    case("a near place in a case, of the fields around", "switch { case A: key byte = 1; byte = e & 255; }; e:", "d",
-         "01 10")
-    case("a near place in a case", "switch { case A: key byte = 1; byte = e & 255; byte; e: }; byte;", "rd",
-         "01 18 07 08", "01 10 07 08")
-    case("a near place of a case's key", "switch { case A: byte = e & 255; key byte = 1; e: byte; };", "rd", "10 01 07",
-         "18 01 07")
-    case("a near place with the id", "byte = e + $$ID; byte; e:", "rd", "11 07", "11 07")
-    case("labels alone", "a: b:", "rd", "", "00")
-    case("a label of which nothing is asked, behind a string up to the end", "string; e:", "rr", "", "616263")
-    case("labels between all fields", "a: byte; b: cstring; c: d: align word; f: string; g:", "rrd", "01 00",
-         '01 "ab" 00 "c"', "01 02")
+    KNOWN.table(r"""
+        a place in words that is near @ byte = e / 16; byte; e: byte; => r 01 07 08 | d 02 07 08 | d 01 07
+        a place in words that is far @ byte = e / 16; cstring; e: byte; => r 01 00 08 | d 01 "a" 00 08
+        a near place over 31 bits @ longint = e << 26; byte; e: => r A0000000 07 | d 20000000 07
+        a near place over 32 bits @ longint = e << 27; byte; e: => r 40000000 07 | d 00000000 07
+        a near place times 0 @ byte = e * 0; byte; e: => r 00 07 | d 01 07
+        a near place twice @ byte = e + e; e: byte; => r 10 07 | d 08 07
+        two near places @ byte = e * f / 8; e: byte; f: => r 10 07 | d 11 07
+        a near place and one that is solved @ byte = e + f; e: cstring; f: byte; => r 18 00 07 | r 20 "a" 00 07 | d 18 "a" 00 07 | d 21 "a" 00 07
+        a near place that is negative @ byte = -e; byte; e: => r F0 07 | d 10 07
+        a near place out of range @ bitstring[4] = e * 2; byte; e: => d 80 70 | d 00 70
+        a near place out of range of a number with a sign @ byte = e * 16; e: => r 80 | d 00
+        a near place in a boolean @ boolean = e > 6; bitstring[6]; e: bitstring[1]; => r 83 | d 03
+        a near place by a zero divisor @ byte = e / 0; e: => d 00 | d 08
+        a near place to the left by 32 @ byte = e << 32; e: => d 00 | d 08
+        places before, in front and behind @ byte = a; a: byte = a + b; b: byte = a - b; => r 08 18 F8 | d 08 18 08 | d 10 18 F8
+        a near place in a point @ point = {e, e - 1}; e: byte; => r 0020 001F 07 | d 0020 0020 07 | d 0021 001F 07
+        a near place of the end of its own point @ byte; point = {e, e}; e: => r 07 0028 0028 | d 07 0028 0020
+        a near place in rows, of the fields around @ byte; array[2] { byte = e; byte; }; e: => d 07 28 01 28 02
+        a near place in a case, of the fields around @ switch { case A: key byte = 1; byte = e & 255; }; e: => d 01 10
+        a near place in a case @ switch { case A: key byte = 1; byte = e & 255; byte; e: }; byte; => r 01 18 07 08 | d 01 10 07 08
+        a near place of a case's key @ switch { case A: byte = e & 255; key byte = 1; e: byte; }; => r 10 01 07 | d 18 01 07
+        a near place with the id @ byte = e + $$ID; byte; e: => r 11 07 | d 11 07
+        labels alone @ a: b: => r | d 00
+        a label of which nothing is asked, behind a string up to the end @ string; e: => r | r 616263
+        labels between all fields @ a: byte; b: cstring; c: d: align word; f: string; g: => r 01 00 | r 01 "ab" 00 "c" | d 01 02
+    """)
     for start in range(8):
         for unit in ("nibble", "byte", "word", "long"):
             case("a near place over an align to a %s from bit %d on" % (unit, start),
@@ -85,40 +80,28 @@ def functions():
     for start, mark in ((-9, "d"), (-8, "r"), (-1, "r"), (0, "r"), (1, "r"), (8, "r"), (9, "d"), (16, "d")) + far_off:
         case("a byte read at %d of 16 bits before" % start,
              "byte = 5; a: byte = 3; byte = 10; byte = $$BitField(a, %d, 8);" % start, mark, [])
-    case("a byte read over the own place", "byte; a: byte = $$BitField(a, -4, 8);", "dd", "00 00", "12 20")
-    case("a byte read at the own place", "a: byte = $$Byte(a);", "dd", "00", "07")
-    case("a byte read right before", "a: byte; byte = $$Byte(a);", "rrd", "07 07", "80 80", "07 08")
-    case("a long read with its sign", "a: longint; byte = $$Long(a);", "rrdd", "FFFFFFFF FF", "00000007 07",
-         "00000107 07", "FFFFFF00 00")
-    case("31 bits read without a sign", "a: longint; longint = $$BitField(a, 1, 31);", "rd", "FFFFFFFF 7FFFFFFF",
-         "FFFFFFFF FFFFFFFF")
-    case("bits before the resource", "a: byte; byte = $$BitField(a, -1, 1);", "d", "00 00")
-    case("bits by a start that is read", "a: byte; byte = $$BitField(a, $$Byte(a), 4);", "rrddd", "04 04", "00 00",
-         "05 0A", "20 00", "FF 00")
-    case("bits by a width that is read", "a: byte; byte = $$BitField(a, 0, $$Byte(a));", "rrddd", "08 08", "02 00",
-         "09 00", "00 00", "22 00")
-    case("bits at a label behind the number", "byte = $$Byte(e); e: byte;", "d", "07 07")
-    case("bits at a label behind the number, from before it", "byte; byte = $$BitField(e, -16, 8); e:", "dd", "07 07",
-         "00 00")
-    case("bits at a solved label behind the number",
-         "byte; byte = e / 8; cstring; byte = $$BitField(e, s - e, 8); e: s:", "d", "00 04 00 00")
-    case("bits at a label of the fields around, in rows", "a: byte; array { byte = $$Byte(a); byte; };", "rrrd", "07",
-         "07 07 01", "07 07 01 07 02", "07 07 01 08 02")
-    case("bits of the row before, in rows", "a: byte = 3; array { byte; byte = $$BitField(a, 8, 8); };", "rrrdd", "03",
-         "03 05 05", "03 05 05 06 05", "03 05 05 06 06", "03 05 06")
-    case("bits of a case's number", "switch { case A: a: key byte = 1; byte; byte = $$Word(a) - 256; };", "rd",
-         "01 07 07", "01 07 08")
-    case("bits of a key", "switch { case A: a: key byte = 1; byte = $$Byte(a); case B: key byte = 2; };", "rrd",
-         "01 01", "02", "01 02")
-    case("a sum of two bytes", "a: byte; b: byte; byte = $$Byte(a) + $$Byte(b);", "rrdd", "05 06 0B", "7F 80 FF",
-         "80 80 00", "05 06 0C")
-    case("a checksum in a point", "a: integer; b: integer; point = {$$Word(a) ^ $$Word(b), $$Word(a) & $$Word(b)};",
-         "rd", "0F0F 00FF 0FF0 000F", "0F0F 00FF 0FF0 00FF")
-    case("bits of strings", "a: string[2]; b: pstring; byte = $$Byte(a); byte = $$Byte(b);", "rrdd",
-         '"xy" 02 "ab" 78 02', "0000 00 00 00", '"xy" 02 "ab" 79 02', '"xy" 02 "ab" 78 01')
-    case("bits of a number that is solved", "n: byte = (e - s) / 8; s: string; e: byte = $$Byte(n);", "rrd",
-         '02 "ab" 02', "00 00", '02 "ab" 01')
-    case("bits of a near number", "n: byte = s; s: byte = $$Byte(n) + 1;", "rdd", "08 09", "08 08", "09 0A")
+    KNOWN.table(r"""
+        a byte read over the own place @ byte; a: byte = $$BitField(a, -4, 8); => d 00 00 | d 12 20
+        a byte read at the own place @ a: byte = $$Byte(a); => d 00 | d 07
+        a byte read right before @ a: byte; byte = $$Byte(a); => r 07 07 | r 80 80 | d 07 08
+        a long read with its sign @ a: longint; byte = $$Long(a); => r FFFFFFFF FF | r 00000007 07 | d 00000107 07 | d FFFFFF00 00
+        31 bits read without a sign @ a: longint; longint = $$BitField(a, 1, 31); => r FFFFFFFF 7FFFFFFF | d FFFFFFFF FFFFFFFF
+        bits before the resource @ a: byte; byte = $$BitField(a, -1, 1); => d 00 00
+        bits by a start that is read @ a: byte; byte = $$BitField(a, $$Byte(a), 4); => r 04 04 | r 00 00 | d 05 0A | d 20 00 | d FF 00
+        bits by a width that is read @ a: byte; byte = $$BitField(a, 0, $$Byte(a)); => r 08 08 | r 02 00 | d 09 00 | d 00 00 | d 22 00
+        bits at a label behind the number @ byte = $$Byte(e); e: byte; => d 07 07
+        bits at a label behind the number, from before it @ byte; byte = $$BitField(e, -16, 8); e: => d 07 07 | d 00 00
+        bits at a solved label behind the number @ byte; byte = e / 8; cstring; byte = $$BitField(e, s - e, 8); e: s: => d 00 04 00 00
+        bits at a label of the fields around, in rows @ a: byte; array { byte = $$Byte(a); byte; }; => r 07 | r 07 07 01 | r 07 07 01 07 02 | d 07 07 01 08 02
+        bits of the row before, in rows @ a: byte = 3; array { byte; byte = $$BitField(a, 8, 8); }; => r 03 | r 03 05 05 | r 03 05 05 06 05 | d 03 05 05 06 06 | d 03 05 06
+        bits of a case's number @ switch { case A: a: key byte = 1; byte; byte = $$Word(a) - 256; }; => r 01 07 07 | d 01 07 08
+        bits of a key @ switch { case A: a: key byte = 1; byte = $$Byte(a); case B: key byte = 2; }; => r 01 01 | r 02 | d 01 02
+        a sum of two bytes @ a: byte; b: byte; byte = $$Byte(a) + $$Byte(b); => r 05 06 0B | r 7F 80 FF | d 80 80 00 | d 05 06 0C
+        a checksum in a point @ a: integer; b: integer; point = {$$Word(a) ^ $$Word(b), $$Word(a) & $$Word(b)}; => r 0F0F 00FF 0FF0 000F | d 0F0F 00FF 0FF0 00FF
+        bits of strings @ a: string[2]; b: pstring; byte = $$Byte(a); byte = $$Byte(b); => r "xy" 02 "ab" 78 02 | r 0000 00 00 00 | d "xy" 02 "ab" 79 02 | d "xy" 02 "ab" 78 01
+        bits of a number that is solved @ n: byte = (e - s) / 8; s: string; e: byte = $$Byte(n); => r 02 "ab" 02 | r 00 00 | d 02 "ab" 01
+        bits of a near number @ n: byte = s; s: byte = $$Byte(n) + 1; => r 08 09 | d 08 08 | d 09 0A
+    """)
 
 
 @KNOWN.part("Sizes that read bits or name places.")
@@ -148,84 +131,46 @@ def sizes():
         case("a %s with a size by itself" % form, [Label("n"), text(form, byte_at("n"))], "dd", "00", "01 00")
         case("a fixed %s with a size that is read" % form, [Label("n"), byte(), text(form, byte_at("n"), b"abc"), byte()],
             "rrd", [3, 9], [5, 9], "03 " + {"pstring": "03", "wstring": "0003"}.get(form, "") + ' "abd" 09')
-    case("a size of a pstring that is too large", "n: integer; pstring[$$Word(n)];", "rd", "00FF 00 00*255",
-         "0100 00 00*256")
-    case("a string with a zero at its end, by a size that is read", "n: byte; string[$$Byte(n)];", "rrr", '03 "ab" 00',
-         "03 000000", '03 00 "a" 00')
-    case("a cstring with a zero in it, by a size that is read", "n: byte; cstring[$$Byte(n)];", "rdd", '03 "ab" 00',
-         '04 "a" 00 "b" 00', '03 "abc"')
-    case("a pstring longer than its size", "n: byte; pstring[$$Byte(n)];", "rdd", '03 02 "ab" 00', '03 04 "abc"',
-         '03 02 "abc"')
-    case("a size by a near place behind it", 'byte; string[2] = $$Format("%d", e); e:', "d", '07 "24"')
-    case("a size by a place behind a string of one size", "string[e / 8]; byte; e:", "d", "07")
-    case("a size by a solved place", "byte = e / 8; cstring; string[e / 8 - 3]; byte; e:", "dd", "04 00 61 07",
-         "03 00 07")
-    case("a size by rows that were counted", "byte = $$CountOf(a); array a { byte; }; p: string[p / 8];", "rd",
-         "02 07 08 616263", "02 07 08 6162")
-    case("a byte for padding where the length is odd", "s: pstring; e: string[(e - s) / 8 % 2]; byte;", "rrdd",
-         '02 "ab" 00 07', '01 "a" 07', '02 "ab" 07', '01 "a" 00 07')
-    case("a size by a number with symbols", "n: hex byte; string[$$Byte(n)];", "rr", "0A 00*10", "01 61")
-    case("a size in rows by a number before them", "n: byte; array { string[$$Byte(n)]; byte; };", "rrd",
-         '02 "ab" 01 "c" 00 02', '00 01 02 03', '02 "ab" 01 "c"')
-    case("a size in rows by a late number before them",
-         "n: byte = e / 8; cstring; e: array { byte; string[$$Byte(n)]; };", "rd", "02 00", "02 00 07 0000")
-    case("a format with a place", 'byte; a: pstring = "<" $$Format("%d", a) ">";', "rdd", '07 03 "<8>"', '07 03 "<9>"',
-         '07 02 "<8"')
-    case("a format with bits", 'a: byte; cstring = $$Format("%x", $$Byte(a));', "rrd", 'AB "ab" 00', '01 "1" 00',
-         'AB "AB" 00')
-    case("a format with rows behind it", 'pstring = $$Format("%d", $$CountOf(a)); array a { byte; };', "d", '01 "1" 07')
-    case("a format with rows before it",
-         'byte = $$CountOf(a); array a { byte; }; pstring = $$Format("%d", $$CountOf(a));', "rrd", '01 07 01 "1"',
-         '00 01 "0"', '01 07 01 "0"')
-    case("a format with a place behind it", 'pstring = $$Format("%d", e); e:', "d", '02 "24"')
-    case("a format with late bits", 'n: byte = e / 8; cstring; e: pstring = $$Format("%d", $$Byte(n));', "d",
-         '02 00 01 "2"')
-    case("a bad format with a place", 'a: pstring = $$Format("%d%d", a);', "d", '01 "0"')
+    KNOWN.table(r"""
+        a size of a pstring that is too large @ n: integer; pstring[$$Word(n)]; => r 00FF 00 00*255 | d 0100 00 00*256
+        a string with a zero at its end, by a size that is read @ n: byte; string[$$Byte(n)]; => r 03 "ab" 00 | r 03 000000 | r 03 00 "a" 00
+        a cstring with a zero in it, by a size that is read @ n: byte; cstring[$$Byte(n)]; => r 03 "ab" 00 | d 04 "a" 00 "b" 00 | d 03 "abc"
+        a pstring longer than its size @ n: byte; pstring[$$Byte(n)]; => r 03 02 "ab" 00 | d 03 04 "abc" | d 03 02 "abc"
+        a size by a near place behind it @ byte; string[2] = $$Format("%d", e); e: => d 07 "24"
+        a size by a place behind a string of one size @ string[e / 8]; byte; e: => d 07
+        a size by a solved place @ byte = e / 8; cstring; string[e / 8 - 3]; byte; e: => d 04 00 61 07 | d 03 00 07
+        a size by rows that were counted @ byte = $$CountOf(a); array a { byte; }; p: string[p / 8]; => r 02 07 08 616263 | d 02 07 08 6162
+        a byte for padding where the length is odd @ s: pstring; e: string[(e - s) / 8 % 2]; byte; => r 02 "ab" 00 07 | r 01 "a" 07 | d 02 "ab" 07 | d 01 "a" 00 07
+        a size by a number with symbols @ n: hex byte; string[$$Byte(n)]; => r 0A 00*10 | r 01 61
+        a size in rows by a number before them @ n: byte; array { string[$$Byte(n)]; byte; }; => r 02 "ab" 01 "c" 00 02 | r 00 01 02 03 | d 02 "ab" 01 "c"
+        a size in rows by a late number before them @ n: byte = e / 8; cstring; e: array { byte; string[$$Byte(n)]; }; => r 02 00 | d 02 00 07 0000
+        a format with a place @ byte; a: pstring = "<" $$Format("%d", a) ">"; => r 07 03 "<8>" | d 07 03 "<9>" | d 07 02 "<8"
+        a format with bits @ a: byte; cstring = $$Format("%x", $$Byte(a)); => r AB "ab" 00 | r 01 "1" 00 | d AB "AB" 00
+        a format with rows behind it @ pstring = $$Format("%d", $$CountOf(a)); array a { byte; }; => d 01 "1" 07
+        a format with rows before it @ byte = $$CountOf(a); array a { byte; }; pstring = $$Format("%d", $$CountOf(a)); => r 01 07 01 "1" | r 00 01 "0" | d 01 07 01 "0"
+        a format with a place behind it @ pstring = $$Format("%d", e); e: => d 02 "24"
+        a format with late bits @ n: byte = e / 8; cstring; e: pstring = $$Format("%d", $$Byte(n)); => d 02 00 01 "2"
+        a bad format with a place @ a: pstring = $$Format("%d%d", a); => d 01 "0"
+    """)
 
 
-@KNOWN.part("Late numbers: they are looked at when all else is known.")
-def late():
-    case = KNOWN.shows
-    case("a number that reads a near late one", "n: byte = e; byte = $$Byte(n); e:", "rdd", "10 10", "10 11", "11 11")
-    case("a number that reads a late one that is solved", "n: byte = (e - s) / 8; s: byte = $$Byte(n) * 2; string; e:",
-         "rd", '03 06 "ab"', '03 05 "ab"')
-    case("a number that reads a late one, and a string", "n: byte = e / 8; byte = $$Byte(n) * 2; string; e: pstring;",
-         "rrdd", '04 08 "ab" 00', "02 04 00", '04 07 "ab" 00', '03 08 "ab" 00')
-    case("a place over a number that reads late bits", "n: byte = e & 63; byte = f - $$Byte(n); e: cstring; f:", "rrd",
-         "10 08 00", '10 10 "a" 00', '10 08 "a" 00')
-    case("late numbers in rows", "byte = e / 8; array { byte = e; byte; }; e: pstring;", "rrrd", "01 00", "03 18 07 00",
-         "05 28 07 28 08 00", "05 28 07 20 08 00")
-    case("late numbers in rows that read the row before",
-         "a: byte = e / 8; array { byte = $$BitField(a, 0, 8) + e; byte; }; e: pstring;", "rrd", "03 1B 07 00",
-         "05 2D 07 2D 08 00", "05 2D 07 2C 08 00")
-    case("late numbers in cases in rows",
-         "byte = e / 8; array { switch { case A: key byte = 1; byte = e; case B: key byte = 2; integer = e; }; }; e: pstring;",
-         "rrdd", "06 01 30 02 0030 00", "01 00", "06 01 30 02 0031 00", "06 02 0030 01 31 00")
-    case("a late number that is out of range in the resource",
-         "byte = e / 8; cstring; e: bitstring[4] = e; bitstring[4];", "dd", "02 00 01", "02 00 F1")
-    case("a late number over a number of rows",
-         "byte = $$CountOf(a); byte = e + $$CountOf(a); array a { byte; }; e: byte = 9;", "rrd", "02 22 05 06 09",
-         "00 10 09", "02 21 05 06 09")
-    case("bits over an early and a late number", "a: byte = 5; byte = e; e: integer = $$Word(a);", "rd", "05 10 0510",
-         "05 10 0511")
-    case("a late point", "point = {e, e / 8}; cstring; e:", "rrd", "0028 0005 00", "0030 0006 6100", "0028 0006 00")
-    case("a size behind rows that reads none of the late bits",
-         "n: byte = 1; array[1] { byte; }; byte = e & 255; e: string[$$Byte(n)];", "rd", "01 07 18 61", "01 07 18 6162")
-    late_rows = Array(None, None, [byte(at("e")), byte()])
-    first_of = bits_at("a", number(0), number(8))
-    case("a size behind rows that reads a late number in them",
-        [byte(at("e") / 8), Label("a"), late_rows, Label("e"), text("string", first_of - 23), LAST], "d", '03 18 07 "a" 00')
-    case("a number behind rows that reads a late number in them",
-        [byte(at("e") / 8), Label("a"), late_rows, Label("e"), byte(first_of + at("f")), Label("f"), LAST], "rd",
-        "03 18 07 38 00", "03 18 07 39 00")
-    case("a size behind a case that reads a late number in it",
-        [Label("a"), Switch([("A", [byte(at("e")), key("byte", 1), Label("e")])]), text("string", first_of - 15), LAST], "d",
-        '10 01 "a" 00')
-    case("a size in rows that reads a late number in the first row",
-        [byte(at("e") / 8), Label("a"), Array(None, None, [byte(at("e")), text("string", first_of - 55), byte()]), Label("e"),
-         LAST], "d", '07 38 "a" 07 38 "a" 07 00')
-    case("a format behind rows that reads a late number in them",
-        [byte(at("e") / 8), Label("a"), late_rows, Label("e"), text("pstring", None, [Format(b"%d", [first_of])])], "d",
-        '03 18 07 02 "24"')
-    case("a size that reads a number that reads late bits",
-         "n: byte = e & 255; m: byte = $$Byte(n) - 15; e: string[$$Byte(m)];", "d", "10 01 61")
+KNOWN.lines_of("Late numbers: they are looked at when all else is known.", r"""
+a number that reads a near late one @ n: byte = e; byte = $$Byte(n); e: => r 10 10 | d 10 11 | d 11 11
+a number that reads a late one that is solved @ n: byte = (e - s) / 8; s: byte = $$Byte(n) * 2; string; e: => r 03 06 "ab" | d 03 05 "ab"
+a number that reads a late one, and a string @ n: byte = e / 8; byte = $$Byte(n) * 2; string; e: pstring; => r 04 08 "ab" 00 | r 02 04 00 | d 04 07 "ab" 00 | d 03 08 "ab" 00
+a place over a number that reads late bits @ n: byte = e & 63; byte = f - $$Byte(n); e: cstring; f: => r 10 08 00 | r 10 10 "a" 00 | d 10 08 "a" 00
+late numbers in rows @ byte = e / 8; array { byte = e; byte; }; e: pstring; => r 01 00 | r 03 18 07 00 | r 05 28 07 28 08 00 | d 05 28 07 20 08 00
+late numbers in rows that read the row before @ a: byte = e / 8; array { byte = $$BitField(a, 0, 8) + e; byte; }; e: pstring; => r 03 1B 07 00 | r 05 2D 07 2D 08 00 | d 05 2D 07 2C 08 00
+late numbers in cases in rows @ byte = e / 8; array { switch { case A: key byte = 1; byte = e; case B: key byte = 2; integer = e; }; }; e: pstring; => r 06 01 30 02 0030 00 | r 01 00 | d 06 01 30 02 0031 00 | d 06 02 0030 01 31 00
+a late number that is out of range in the resource @ byte = e / 8; cstring; e: bitstring[4] = e; bitstring[4]; => d 02 00 01 | d 02 00 F1
+a late number over a number of rows @ byte = $$CountOf(a); byte = e + $$CountOf(a); array a { byte; }; e: byte = 9; => r 02 22 05 06 09 | r 00 10 09 | d 02 21 05 06 09
+bits over an early and a late number @ a: byte = 5; byte = e; e: integer = $$Word(a); => r 05 10 0510 | d 05 10 0511
+a late point @ point = {e, e / 8}; cstring; e: => r 0028 0005 00 | r 0030 0006 6100 | d 0028 0006 00
+a size behind rows that reads none of the late bits @ n: byte = 1; array[1] { byte; }; byte = e & 255; e: string[$$Byte(n)]; => r 01 07 18 61 | d 01 07 18 6162
+a size behind rows that reads a late number in them @ byte = e / 8; a: array { byte = e; byte; }; e: string[$$BitField(a, 0, 8) - 23]; pstring; => d 03 18 07 "a" 00
+a number behind rows that reads a late number in them @ byte = e / 8; a: array { byte = e; byte; }; e: byte = $$BitField(a, 0, 8) + f; f: pstring; => r 03 18 07 38 00 | d 03 18 07 39 00
+a size behind a case that reads a late number in it @ a: switch { case A: byte = e; key byte = 1; e: }; string[$$BitField(a, 0, 8) - 15]; pstring; => d 10 01 "a" 00
+a size in rows that reads a late number in the first row @ byte = e / 8; a: array { byte = e; string[$$BitField(a, 0, 8) - 55]; byte; }; e: pstring; => d 07 38 "a" 07 38 "a" 07 00
+a format behind rows that reads a late number in them @ byte = e / 8; a: array { byte = e; byte; }; e: pstring = $$Format("%d", $$BitField(a, 0, 8)); => d 03 18 07 02 "24"
+a size that reads a number that reads late bits @ n: byte = e & 255; m: byte = $$Byte(n) - 15; e: string[$$Byte(m)]; => d 10 01 61
+""")

@@ -6,9 +6,10 @@ hand, they are compared with what labels.py says. Of `derez` stands by hand afte
 a `resource` statement, `r`, and which as bytes, `d`; each resource stands as its bytes or as the values of a row.
 label_reading.py has to say the same, and so has shown.py, which reads the text of the type.
 """
+import ast
 import re
 
-from casefile import Book
+from casefile import Book, expanded
 from model import shown, type_files
 from model.faults import Refused
 from model.fork import image, spelled as bytes_spelled
@@ -84,6 +85,16 @@ class Cases(Book):
             self.add(name, source, None, "s.r:%d: error %s" % (line, fault))
         return found
 
+    def line(self, line):
+        """A case of a line of a table, whose row is that of `row`, and whose source is that of `told`."""
+        given, arrow, come = expanded(line).partition(" =>")
+        name, source, *row = given.split(" @ ")
+        fault = re.match("([0-9]+): (.*)", come.strip())
+        if row:
+            self.row(name, source, ast.literal_eval("[%s]" % row[0]), come.strip() if arrow else None)
+        else:
+            self.told(name, source.replace("¶", "\n") + "\n", *(int(fault[1]), fault[2]) if fault else come.split(" | "))
+
     def told(self, name, source, *given):
         """A case by hand: a source, and a fault with its line, or the bytes of its resources of the type Test from 1 on."""
         if isinstance(given[0], int):
@@ -111,6 +122,14 @@ class Shown(Book):
         told = "".join("r" if read(body, each[4], facts_of(each)) is not None else "d" for each in resources)
         agree(marks in (None, told), name, types + str([each[4].hex() for each in resources]), told, marks)
         self.add(name, types, resources, told, out)
+
+    def line(self, line):
+        """A case of a line of a table: its name, a type, and each content after its mark."""
+        given, contents = line.split(" =>")
+        name, body = given.split(" @ ")
+        marks, pieces = zip(*[(each[:1], each[1:].strip()) for each in map(str.strip, contents.split(" | "))])
+        rows = [ast.literal_eval(piece) if piece[:1] == "[" else piece for piece in pieces]
+        self.shows(name, body, "".join(marks), *rows)
 
     def add(self, name, types, resources, told, out=None, again=True):
         """A case of `derez` of resources, of which the model told which ones are shown, and the text back."""

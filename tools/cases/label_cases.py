@@ -11,34 +11,21 @@ LABELS = Cases("labels.cases", "label_cases.py", "Labels in types: their places,
 
 # The rows that are worked by hand.
 
-@LABELS.part("By hand.")
-def worked():
-    row = LABELS.row
-    row("a number behind a string that is its own place", "cstring; e: integer = e;", [b"gorf"], '"gorf" 00 0028')
-    row("the length of a string in front of it", "integer = (e - s) / 8; s: hex string; e: integer;", [b"\1\2", 5],
-        "0002 0102 0005")
-    row("the length of the second of two strings", "integer = (e - s) / 8; pstring; s: pstring; e:", [b"A", b"BC"],
-        '0003 01 "A" 02 "BC"')
-    row("a size that is read from a number that an item gives", "n: integer; s: string[$$Word(n)];", [3, b"abcde"],
-        '0003 "abc"')
-    row("a size that is read from a late number", "n: integer = (e - s) / 8; s: string[$$Word(n)]; e:", [b"ab"],
-        "214 SizeLater: 3")
-    row("a number that reads bits behind itself", "a: integer = $$Word(b); b: integer;", [5], "213 LaterData: 32")
-    row("the length of an array between labels", "integer = (e - s) / 8; s: array { byte; }; e: byte = 7;",
-        [[[1], [0], [2]]], "0003 010002 07")
-    row("offsets in front of what they lead to",
-        "longint = one / 8; longint = two / 8; one: pstring; align long; two: cstring;", [b"A", b"BC"],
-        '00000008 0000000C 01 "A" 0000 "BC" 00')
-    row("a length with its own bytes in it", "s: integer = (e - s) / 8; string; e:", [b"abc"], '0005 "abc"')
-    row("a byte for padding that is there if it has to be",
-        "s: pstring; e: string[(e - s) / 8 % 2]; t: byte = (t - s) / 8;", [b"ab", b""], '02 "ab" 00 04')
-    row("no byte for padding where the place is even", "s: pstring; e: string[(e - s) / 8 % 2]; t: byte = (t - s) / 8;",
-        [b"a", b""], '01 "a" 02')
-    row("a checksum of two numbers before it", "a: byte; b: byte; byte = $$Byte(a) ^ $$Byte(b);", [0x5A, 0xFF],
-        "5A FF A5")
-    row("the number of bits that an array took",
-        "a: array rows { bitstring[3]; }; b: bitstring[5] = b - a; bitstring[2] = $$CountOf(rows);", [[[1], [2], [3]]],
-        "29 A7")
+LABELS.lines_of("By hand.", r"""
+a number behind a string that is its own place @ cstring; e: integer = e; @ b"gorf" => "gorf" 00 0028
+the length of a string in front of it @ integer = (e - s) / 8; s: hex string; e: integer; @ b"\x01\x02", 5 => 0002 0102 0005
+the length of the second of two strings @ integer = (e - s) / 8; pstring; s: pstring; e: @ b"A", b"BC" => 0003 01 "A" 02 "BC"
+a size that is read from a number that an item gives @ n: integer; s: string[$$Word(n)]; @ 3, b"abcde" => 0003 "abc"
+a size that is read from a late number @ n: integer = (e - s) / 8; s: string[$$Word(n)]; e: @ b"ab" => 214 SizeLater: 3
+a number that reads bits behind itself @ a: integer = $$Word(b); b: integer; @ 5 => 213 LaterData: 32
+the length of an array between labels @ integer = (e - s) / 8; s: array { byte; }; e: byte = 7; @ [[1], [0], [2]] => 0003 010002 07
+offsets in front of what they lead to @ longint = one / 8; longint = two / 8; one: pstring; align long; two: cstring; @ b"A", b"BC" => 00000008 0000000C 01 "A" 0000 "BC" 00
+a length with its own bytes in it @ s: integer = (e - s) / 8; string; e: @ b"abc" => 0005 "abc"
+a byte for padding that is there if it has to be @ s: pstring; e: string[(e - s) / 8 % 2]; t: byte = (t - s) / 8; @ b"ab", b"" => 02 "ab" 00 04
+no byte for padding where the place is even @ s: pstring; e: string[(e - s) / 8 % 2]; t: byte = (t - s) / 8; @ b"a", b"" => 01 "a" 02
+a checksum of two numbers before it @ a: byte; b: byte; byte = $$Byte(a) ^ $$Byte(b); @ 90, 255 => 5A FF A5
+the number of bits that an array took @ a: array rows { bitstring[3]; }; b: bitstring[5] = b - a; bitstring[2] = $$CountOf(rows); @ [[1], [2], [3]] => 29 A7
+""")
 
 
 @LABELS.part("A label before, behind and at both ends of each kind of field; its place stands in front and behind.")
@@ -89,53 +76,36 @@ def some_names():
         LABELS.row("the label %s by the name %s" % (short, asked[:6]), body, [2, b"abc"])
     for name in ["count", "Test", "rows2", "define", "include2", "e1", "format", "element", "id", "name", "row", "of"]:
         LABELS.row("the label %s" % name, [longint(at(name)), Label(name), byte(3)], [], "00000020 03")
-    LABELS.say("A label, an array, a case and a symbol of one name.")
-    LABELS.row("a label and an array of one name", "integer = a; integer = $$CountOf(a); a: array a { byte; };",
-               [[[1], [2], [3]]], "0020 0003 010203")
-    LABELS.row("a label and a case of one name", "integer = a; a: switch { case a: key byte = 1; };", [("a", [])],
-               "0010 01")
-    LABELS.told("a label and a symbol of one name", "type 'Test' { a: byte a = 7; byte = a; };\nresource 'Test' (1) { a };\n",
-        "07 00")
-    LABELS.told("a label isn't seen in an item", "type 'Test' { byte; a: byte; };\nresource 'Test' (1) { 1, a };\n", 2,
-        '203 UnknownName: "a"')
-    LABELS.told("an array named true and its rows beside a number",
-        "type 'Test' { byte = $$CountOf(true); byte = true; array true { byte; }; };\nresource 'Test' (1) { { 5, 6 } };\n",
-        "02 01 05 06")
+    LABELS.table(r"""
+        // A label, an array, a case and a symbol of one name.
+        a label and an array of one name @ integer = a; integer = $$CountOf(a); a: array a { byte; }; @ [[1], [2], [3]] => 0020 0003 010203
+        a label and a case of one name @ integer = a; a: switch { case a: key byte = 1; }; @ ("a", []) => 0010 01
+        a label and a symbol of one name @ type 'Test' { a: byte a = 7; byte = a; };¶resource 'Test' (1) { a }; => 07 00
+        a label isn't seen in an item @ type 'Test' { byte; a: byte; };¶resource 'Test' (1) { 1, a }; => 2: 203 UnknownName: "a"
+        an array named true and its rows beside a number @ type 'Test' { byte = $$CountOf(true); byte = true; array true { byte; }; };¶resource 'Test' (1) { { 5, 6 } }; => 02 01 05 06
+    """)
 
 
 @LABELS.part("Labels of the body around, in rows and in cases.")
 def outer():
     row = LABELS.row
     lines = [[[1], [2], [3]]]
-    row("a label before an array in its rows", "a: byte; array { byte; byte = a; };", [7] + lines, "07 0100 0200 0300")
-    row("a label at an array in its rows", "byte; a: array { byte; byte = a; };", [7] + lines, "07 0108 0208 0308")
-    row("a label behind an array in its rows", "byte; array { byte; byte = e; }; e:", [7] + lines, "07 0138 0238 0338")
-    row("a number before an array read in its rows", "a: byte; array { byte; byte = $$Byte(a); };", [7] + lines,
-        "07 0107 0207 0307")
-    row("a size by a number before an array in its rows", "n: byte; array { string[$$Byte(n)]; };",
-        [2, [[b"a"], [b"bcd"], [b""]]], '02 "a" 00 "bc" 0000')
-    row("a size by a label behind an array in its rows", "array { byte; string[e]; }; e:", [[[1, b"a"]]],
-        "214 SizeLater: 1")
-    row("a size by a label behind an array without rows", "array { byte; string[e]; }; e:", [[]], "")
-    row("labels around an array in rows of rows",
-        "a: byte; array { array in { byte; byte = e - a; }; byte = $$CountOf(in); }; e:",
-        [9, [[[[1], [2]]], [[]], [[[3]]]]], "09 0150 0250 02 00 0350 01")
-    row("a label before a switch in its case",
-        "a: byte; switch { case A: key byte = 1; byte = $$Byte(a); byte = e; }; e:", [5, ("A", [])], "05 01 05 20")
-    row("a label of a case and one around it",
-        "o: byte; switch { case A: i: key byte = 1; byte = i - o; byte = e - i; }; e:", [5, ("A", [])], "05 01 08 18")
-    row("a label of a case in rows of the case",
-        "byte; switch { case A: key byte = 1; i: array { byte; byte = i; }; };", [5, ("A", [[[1], [2]]])],
-        "05 01 0110 0210")
-    row("labels of cases in cases",
-        "switch { case A: key byte = 1; a: switch { case B: key byte = 2; b: byte = a; byte = b; byte = y; byte = z; }; y: }; z:",
-        [("A", [("B", [])])], "01 02 08 10 30 30")
-    row("a switch in rows by a label around",
-        "a: array { switch { case A: key byte = 1; byte = e; case B: key byte = 2; integer = e; }; }; e:",
-        [[[("A", [])], [("B", [])]]], "01 28 02 0028")
-    row("the label of the case that is chosen, of two",
-        "switch { case A: key byte = 1; byte = a; a: case B: key byte = 2; byte; byte = b; b: };", [("B", [4])],
-        "02 04 18")
+    LABELS.table(r"""
+        a label before an array in its rows @ a: byte; array { byte; byte = a; }; @ 7, [[1], [2], [3]] => 07 0100 0200 0300
+        a label at an array in its rows @ byte; a: array { byte; byte = a; }; @ 7, [[1], [2], [3]] => 07 0108 0208 0308
+        a label behind an array in its rows @ byte; array { byte; byte = e; }; e: @ 7, [[1], [2], [3]] => 07 0138 0238 0338
+        a number before an array read in its rows @ a: byte; array { byte; byte = $$Byte(a); }; @ 7, [[1], [2], [3]] => 07 0107 0207 0307
+        a size by a number before an array in its rows @ n: byte; array { string[$$Byte(n)]; }; @ 2, [[b"a"], [b"bcd"], [b""]] => 02 "a" 00 "bc" 0000
+        a size by a label behind an array in its rows @ array { byte; string[e]; }; e: @ [[1, b"a"]] => 214 SizeLater: 1
+        a size by a label behind an array without rows @ array { byte; string[e]; }; e: @ [] =>
+        labels around an array in rows of rows @ a: byte; array { array in { byte; byte = e - a; }; byte = $$CountOf(in); }; e: @ 9, [[[[1], [2]]], [[]], [[[3]]]] => 09 0150 0250 02 00 0350 01
+        a label before a switch in its case @ a: byte; switch { case A: key byte = 1; byte = $$Byte(a); byte = e; }; e: @ 5, ("A", []) => 05 01 05 20
+        a label of a case and one around it @ o: byte; switch { case A: i: key byte = 1; byte = i - o; byte = e - i; }; e: @ 5, ("A", []) => 05 01 08 18
+        a label of a case in rows of the case @ byte; switch { case A: key byte = 1; i: array { byte; byte = i; }; }; @ 5, ("A", [[[1], [2]]]) => 05 01 0110 0210
+        labels of cases in cases @ switch { case A: key byte = 1; a: switch { case B: key byte = 2; b: byte = a; byte = b; byte = y; byte = z; }; y: }; z: @ ("A", [("B", [])]) => 01 02 08 10 30 30
+        a switch in rows by a label around @ a: array { switch { case A: key byte = 1; byte = e; case B: key byte = 2; integer = e; }; }; e: @ [[("A", [])], [("B", [])]] => 01 28 02 0028
+        the label of the case that is chosen, of two @ switch { case A: key byte = 1; byte = a; a: case B: key byte = 2; byte; byte = b; b: }; @ ("B", [4]) => 02 04 18
+    """)
     for depth in range(1, 9):
         inner = [byte(), byte(at("a") + at("e"))]
         lines = [[1], [2]]
@@ -175,50 +145,36 @@ def sizes():
             [most + 1, b"ab"], "207 OutOfRange: %d" % (most + 1))
     for form, size in (("string", 0), ("cstring", 1), ("pstring", 0)):
         LABELS.row("a %s with the least that a size may be" % form, [Label("n"), byte(), text(form, byte_at("n"))], [size, b"ab"])
-    LABELS.row("a cstring with the size 0 by a label", "a: cstring[a];", [b"ab"], "207 OutOfRange: 0")
-    LABELS.row("sizes one by another", "a: byte; b: pstring[$$Byte(a)]; string[$$Byte(b)]; byte;",
-               [3, b"xy", b"12345", 9], '03 02 "xy" 00 "12" 09')
-    LABELS.row("a size by a symbol's number", "a: boolean; align byte; string[$$BitField(a, 0, 1)];", [1, b"xy"],
-               '80 "x"')
-    LABELS.row("a size of a fixed number before it", "a: byte = 2; string[$$Byte(a)];", [b"xyz"], '02 "xy"')
-    LABELS.row("a size of a number by a label before it", "byte; a: byte = a; string[$$Byte(a)];", [9, b"xyz"],
-               '09 08 "xyz" 00*5')
-    LABELS.say("Labels and bits in formats.")
-    row = LABELS.row
-    row("a format with a place", 'byte; a: pstring = $$Format("at %d", a);', [1], '01 04 "at 8"')
-    row("a format with bits", 'a: byte; cstring = "<" $$Format("%x", $$Byte(a)) ">";', [171], 'AB "<ab>" 00')
-    row("a format with a place behind it", 'pstring = $$Format("%d", e); e:', [], "214 SizeLater: 0")
-    row("a format with late bits", 'a: byte = e; pstring = $$Format("%d", $$Byte(a)); e:', [], "214 SizeLater: 2")
-    row("a format in a format with a place", 'byte; a: pstring = $$Format("(%s)", $$Format("%d", a));', [1],
-        '01 03 "(8)"')
-    row("a format with the number of rows and a place",
-        'a: array r { byte; }; b: pstring = $$Format("%d in %d", $$CountOf(r), b - a);', [[[1], [2]]],
-        '0102 07 "2 in 16"')
-    row("a format in a row with a place around",
-        'a: byte; b: array { byte; pstring = $$Format("%d%d", b, $$Byte(a)); };', [3, [[1], [2]]],
-        '03 01 02 "83" 02 02 "83"')
+    LABELS.table(r"""
+        a cstring with the size 0 by a label @ a: cstring[a]; @ b"ab" => 207 OutOfRange: 0
+        sizes one by another @ a: byte; b: pstring[$$Byte(a)]; string[$$Byte(b)]; byte; @ 3, b"xy", b"12345", 9 => 03 02 "xy" 00 "12" 09
+        a size by a symbol's number @ a: boolean; align byte; string[$$BitField(a, 0, 1)]; @ 1, b"xy" => 80 "x"
+        a size of a fixed number before it @ a: byte = 2; string[$$Byte(a)]; @ b"xyz" => 02 "xy"
+        a size of a number by a label before it @ byte; a: byte = a; string[$$Byte(a)]; @ 9, b"xyz" => 09 08 "xyz" 00*5
+        // Labels and bits in formats.
+        a format with a place @ byte; a: pstring = $$Format("at %d", a); @ 1 => 01 04 "at 8"
+        a format with bits @ a: byte; cstring = "<" $$Format("%x", $$Byte(a)) ">"; @ 171 => AB "<ab>" 00
+        a format with a place behind it @ pstring = $$Format("%d", e); e: @  => 214 SizeLater: 0
+        a format with late bits @ a: byte = e; pstring = $$Format("%d", $$Byte(a)); e: @  => 214 SizeLater: 2
+        a format in a format with a place @ byte; a: pstring = $$Format("(%s)", $$Format("%d", a)); @ 1 => 01 03 "(8)"
+        a format with the number of rows and a place @ a: array r { byte; }; b: pstring = $$Format("%d in %d", $$CountOf(r), b - a); @ [[1], [2]] => 0102 07 "2 in 16"
+        a format in a row with a place around @ a: byte; b: array { byte; pstring = $$Format("%d%d", b, $$Byte(a)); }; @ 3, [[1], [2]] => 03 01 02 "83" 02 02 "83"
+    """)
 
 
 @LABELS.part("Several resources, facts, copies and ids of a type.")
 def several():
-    LABELS.told("two resources of a type",
-        "type 'Test' { longint = e; pstring; e: };\nresource 'Test' (1) { \"a\" };\nresource 'Test' (2) { \"\" };\n",
-        '00000030 01 "a"', "00000028 00")
-    LABELS.told("a copy of a type", "type 'Last' { byte = e; e: };\ntype 'Test' as 'Last';\nresource 'Test' (1) { };\n", "08")
-    LABELS.told("a type for an id",
-        "type 'Test' { byte; };\ntype 'Test' (2) { byte = e; e: };\nresource 'Test' (1) { 3 };\nresource 'Test' (2) { };\n", "03",
-        "08")
-    LABELS.told("two types with one label",
-        "type 'Last' { a: byte = a; };\ntype 'Test' { byte; A: byte = A; };\nresource 'Test' (1) { 1 };\n", "01 08")
-    LABELS.told("a label by a macro",
-        "#define Here There\ntype 'Test' { byte; Here: byte = there; };\nresource 'Test' (1) { 1 };\n", "01 08")
-    LABELS.told("a function by a macro",
-        "#define Size $$Byte(n)\ntype 'Test' { n: byte; string[Size]; };\nresource 'Test' (1) { 2, \"abc\" };\n", '02 "ab"')
-    LABELS.told("a label over lines", "type 'Test' { byte; a\n:\n  byte = a; };\nresource 'Test' (1) { 1 };\n", "01 08")
-    LABELS.told("a label with a comment", "type 'Test' { byte; a/* here */: /* and */ byte = a; };\nresource 'Test' (1) { 1 };\n",
-        "01 08")
-    LABELS.told("functions in capital letters",
-        "TYPE 'Test' { n: BYTE; BYTE = $$BYTE(N); INTEGER = $$bitfield(N, 0, 8); STRING[$$byte(N)]; };\nRESOURCE 'Test' (1) { 2, \"abc\" };\n", '02 02 0002 "ab"')
+    LABELS.table(r"""
+        two resources of a type @ type 'Test' { longint = e; pstring; e: };¶resource 'Test' (1) { "a" };¶resource 'Test' (2) { "" }; => 00000030 01 "a" | 00000028 00
+        a copy of a type @ type 'Last' { byte = e; e: };¶type 'Test' as 'Last';¶resource 'Test' (1) { }; => 08
+        a type for an id @ type 'Test' { byte; };¶type 'Test' (2) { byte = e; e: };¶resource 'Test' (1) { 3 };¶resource 'Test' (2) { }; => 03 | 08
+        two types with one label @ type 'Last' { a: byte = a; };¶type 'Test' { byte; A: byte = A; };¶resource 'Test' (1) { 1 }; => 01 08
+        a label by a macro @ #define Here There¶type 'Test' { byte; Here: byte = there; };¶resource 'Test' (1) { 1 }; => 01 08
+        a function by a macro @ #define Size $$Byte(n)¶type 'Test' { n: byte; string[Size]; };¶resource 'Test' (1) { 2, "abc" }; => 02 "ab"
+        a label over lines @ type 'Test' { byte; a¶:¶  byte = a; };¶resource 'Test' (1) { 1 }; => 01 08
+        a label with a comment @ type 'Test' { byte; a/* here */: /* and */ byte = a; };¶resource 'Test' (1) { 1 }; => 01 08
+        functions in capital letters @ TYPE 'Test' { n: BYTE; BYTE = $$BYTE(N); INTEGER = $$bitfield(N, 0, 8); STRING[$$byte(N)]; };¶RESOURCE 'Test' (1) { 2, "abc" }; => 02 02 0002 "ab"
+    """)
     facts = dict(FACTS, ID=258, Name=b"ab")
     LABELS.row("a place and the id", "byte; a: integer = a + $$ID;", [1], "01 010A", facts)
     LABELS.row("bits at a place of the id", "a: integer = $$ID; byte = $$BitField(a, $$ID - 250, 8);", [], "0102 02",

@@ -1,7 +1,7 @@
 """Writes label_rules.cases: where labels may stand, and how they are named."""
 from label_book import Cases
 from model.label_types import (Array, Format, Label, Switch, at, at_row, bits_at, byte, byte_at, integer, key, long_at,
-                               number, points, row_of, rows_of, text, word_at)
+                               number, points, rows_of, text, word_at)
 
 RULES = Cases("label_rules.cases", "label_rule_cases.py", "Where labels may stand, how they are named, and what is no label.")
 
@@ -33,53 +33,47 @@ def grammar():
                        ("a label with an equals sign", "a = 1: byte"), ("a label in brackets of an array",
                            "array [a: 2] { byte; }")]:
         RULES.told(name, "type 'Test' { %s; };\n" % body, 1, "201 Syntax")
-    for name, body, items, given in [
-            ("a label in an array", "array { a: byte; }", "{ 7 }", "07"), ("a label at the end of an array", "array { byte; a: }",
-                "{ 7 }", "07"), ("a label at the end of an array with a ;", "array { byte; a:; }", "{ 7, 8 }", "0708"),
-            ("a label and then a ; in an array", "array { ;; a: ;; byte };", "{ 7 }", "07"),
-            ("a label in an array in an array", "array { array { a: byte; }; }", "{ { 7 }, { 8 } }", "0708"),
-            ("a label in a case in an array", "array { switch { case A: key byte = 1; a: byte; }; }", "{ A { 7 } }", "01 07"),
-            ("a label in an array in a case", "switch { case A: key byte = 1; array { a: byte; }; }", "A { { 7 } }", "01 07"),
-            ("a label in a case in an array in a case",
-                "switch { case A: key byte = 1; array { switch { case B: a: key byte = 1; }; }; }", "A { { B { } } }", "01 01"),
-            ("a label in a wide array", "a: wide array { b: byte = b; byte; };", "{ 7 }", "00 07"),
-            ("labels one after the other in an array", "array { a: b: byte = a + b; byte; }", "{ 7, 8 }", "0007 2008"),
-            ("blanks and comments in an index", "array { w: byte; }; byte = w [ /* the second */ 2 ] // row\n;", "{ 7, 8 }",
-                "0708 08"),
-            ("an index in brackets", "array { w: byte; }; byte = (w[(2)]) * w[1 + 1];", "{ 7, 8 }", "0708 40"),
-            ("an index behind a sign", "array { w: byte; }; byte = -w[2]; byte = ~w[1]; byte = !w[1];", "{ 7, 8 }", "0708 F8FF01"),
-            ("an index of an index", "array { w: byte; }; byte = w[w[2] / 8];", "{ 7, 8 }", "0708 00"),
-            ("an index and a number in braces", "array { w: byte; }; point = {w[1], w[2]};", "{ 7, 8 }", "0708 00000008"),
-            ("an index in a size", "array { w: byte; }; string[w[2] / 4];", "{ 7, 8 }, \"abc\"", '0708 "ab"'),
-            ("the number of the row in a size", "array a { string[$$ArrayIndex(a)]; };", "{ \"xyz\", \"xyz\" }", '"x" "xy"'),
-            ("the number of the row in an index of a size", "array { w: byte; }; array a { string[w[$$ArrayIndex(a)] / 8 + 1]; };",
-                "{ 7, 8 }, { \"xyz\", \"xyz\" }", '0708 "x" "xy"'),
-            ("the number of the row of an array with the name of an attribute", "array locked { byte = $$ArrayIndex(LOCKED); byte; };",
-                "{ 7, 8 }", "0107 0208"),
-            ("the number of the row of an array named false", "array false { byte = $$ArrayIndex(false) + false; byte; };",
-                "{ 7, 8 }", "0107 0208"),
-            ("blanks in the number of the row", "array a { byte = $$ArrayIndex /* of */ ( a ); byte; };", "{ 7 }", "0107"),
-            ("a label in rows behind a symbol", "array { byte w = 5; w: byte = w; }; byte = w[1];", "{ w }", "05 08 08"),
-            ("a label behind an array in a case", "switch { case A: key byte = 1; array { byte; }; a: byte = a; };", "A { { 7 } }",
-                "01 07 10"), ("a label before a ; alone", "a: ; byte = a;", "", "00"),
-            ("a label behind a ; alone", ";; a: ;; byte = a;", "", "00"), ("a label and the end of a body", "byte = a; a:", "",
-                "08"), ("a label and a ; and the end of a body", "byte = a; a:;", "", "08"),
-            ("labels one after the other without a ;", "a: b: c: byte = a + b + c;", "",
-                "00"), ("labels one after the other with a ;", "a:; b:; c: byte = a + b + c;", "", "00"),
-            ("a last field without a ; behind a label", "byte = a; a: byte = 3", "", "08 03"), ("a label before wide",
-                "byte = a; a: wide array { byte; };", "{ 5 }", "08 05"),
-            ("a label before unsigned hex", "a: unsigned hex byte = a;", "", "00"), ("a label at the end of a case before the next",
-                "switch { case A: key byte = 1; byte = e; e: case B: key byte = 2; };", "A { }", "01 10"),
-            ("a case of a label alone behind its key", "switch { case A: key byte = 1; e: };", "A { }",
-                "01"), ("a case that has the name of its label", "switch { case A: A: key byte = 1; byte = A; };", "A { }",
-                "01 00"),
-            ("a label behind the colon of its case", "switch { case A: e: key byte = 1; byte = e; };", "A { }",
-                "01 00"), ("a symbol of a field behind a label", "a: byte b = 5, c;", "c", "06"),
-            ("labels of two cases that aren't in rows, and rows without",
-                "switch { case A: a: key byte = 1; case B: b: key byte = 2; }; array { byte; };", "B { }, { 3 }", "02 03"),
-            ("a label in a case named by an attribute", "switch { case locked: l: key byte = 1; byte = l; };", "locked { }",
-                "01 00")]:
-        RULES.told(name, "type 'Test' { %s };\nresource 'Test' (1) { %s };\n" % (body, items), given)
+    RULES.table(r"""
+        a label in an array @ type 'Test' { array { a: byte; } };¶resource 'Test' (1) { { 7 } }; => 07
+        a label at the end of an array @ type 'Test' { array { byte; a: } };¶resource 'Test' (1) { { 7 } }; => 07
+        a label at the end of an array with a ; @ type 'Test' { array { byte; a:; } };¶resource 'Test' (1) { { 7, 8 } }; => 0708
+        a label and then a ; in an array @ type 'Test' { array { ;; a: ;; byte }; };¶resource 'Test' (1) { { 7 } }; => 07
+        a label in an array in an array @ type 'Test' { array { array { a: byte; }; } };¶resource 'Test' (1) { { { 7 }, { 8 } } }; => 0708
+        a label in a case in an array @ type 'Test' { array { switch { case A: key byte = 1; a: byte; }; } };¶resource 'Test' (1) { { A { 7 } } }; => 01 07
+        a label in an array in a case @ type 'Test' { switch { case A: key byte = 1; array { a: byte; }; } };¶resource 'Test' (1) { A { { 7 } } }; => 01 07
+        a label in a case in an array in a case @ type 'Test' { switch { case A: key byte = 1; array { switch { case B: a: key byte = 1; }; }; } };¶resource 'Test' (1) { A { { B { } } } }; => 01 01
+        a label in a wide array @ type 'Test' { a: wide array { b: byte = b; byte; }; };¶resource 'Test' (1) { { 7 } }; => 00 07
+        labels one after the other in an array @ type 'Test' { array { a: b: byte = a + b; byte; } };¶resource 'Test' (1) { { 7, 8 } }; => 0007 2008
+        blanks and comments in an index @ type 'Test' { array { w: byte; }; byte = w [ /* the second */ 2 ] // row¶; };¶resource 'Test' (1) { { 7, 8 } }; => 0708 08
+        an index in brackets @ type 'Test' { array { w: byte; }; byte = (w[(2)]) * w[1 + 1]; };¶resource 'Test' (1) { { 7, 8 } }; => 0708 40
+        an index behind a sign @ type 'Test' { array { w: byte; }; byte = -w[2]; byte = ~w[1]; byte = !w[1]; };¶resource 'Test' (1) { { 7, 8 } }; => 0708 F8FF01
+        an index of an index @ type 'Test' { array { w: byte; }; byte = w[w[2] / 8]; };¶resource 'Test' (1) { { 7, 8 } }; => 0708 00
+        an index and a number in braces @ type 'Test' { array { w: byte; }; point = {w[1], w[2]}; };¶resource 'Test' (1) { { 7, 8 } }; => 0708 00000008
+        an index in a size @ type 'Test' { array { w: byte; }; string[w[2] / 4]; };¶resource 'Test' (1) { { 7, 8 }, "abc" }; => 0708 "ab"
+        the number of the row in a size @ type 'Test' { array a { string[$$ArrayIndex(a)]; }; };¶resource 'Test' (1) { { "xyz", "xyz" } }; => "x" "xy"
+        the number of the row in an index of a size @ type 'Test' { array { w: byte; }; array a { string[w[$$ArrayIndex(a)] / 8 + 1]; }; };¶resource 'Test' (1) { { 7, 8 }, { "xyz", "xyz" } }; => 0708 "x" "xy"
+        the number of the row of an array with the name of an attribute @ type 'Test' { array locked { byte = $$ArrayIndex(LOCKED); byte; }; };¶resource 'Test' (1) { { 7, 8 } }; => 0107 0208
+        the number of the row of an array named false @ type 'Test' { array false { byte = $$ArrayIndex(false) + false; byte; }; };¶resource 'Test' (1) { { 7, 8 } }; => 0107 0208
+        blanks in the number of the row @ type 'Test' { array a { byte = $$ArrayIndex /* of */ ( a ); byte; }; };¶resource 'Test' (1) { { 7 } }; => 0107
+        a label in rows behind a symbol @ type 'Test' { array { byte w = 5; w: byte = w; }; byte = w[1]; };¶resource 'Test' (1) { { w } }; => 05 08 08
+        a label behind an array in a case @ type 'Test' { switch { case A: key byte = 1; array { byte; }; a: byte = a; }; };¶resource 'Test' (1) { A { { 7 } } }; => 01 07 10
+        a label before a ; alone @ type 'Test' { a: ; byte = a; };¶resource 'Test' (1) {  }; => 00
+        a label behind a ; alone @ type 'Test' { ;; a: ;; byte = a; };¶resource 'Test' (1) {  }; => 00
+        a label and the end of a body @ type 'Test' { byte = a; a: };¶resource 'Test' (1) {  }; => 08
+        a label and a ; and the end of a body @ type 'Test' { byte = a; a:; };¶resource 'Test' (1) {  }; => 08
+        labels one after the other without a ; @ type 'Test' { a: b: c: byte = a + b + c; };¶resource 'Test' (1) {  }; => 00
+        labels one after the other with a ; @ type 'Test' { a:; b:; c: byte = a + b + c; };¶resource 'Test' (1) {  }; => 00
+        a last field without a ; behind a label @ type 'Test' { byte = a; a: byte = 3 };¶resource 'Test' (1) {  }; => 08 03
+        a label before wide @ type 'Test' { byte = a; a: wide array { byte; }; };¶resource 'Test' (1) { { 5 } }; => 08 05
+        a label before unsigned hex @ type 'Test' { a: unsigned hex byte = a; };¶resource 'Test' (1) {  }; => 00
+        a label at the end of a case before the next @ type 'Test' { switch { case A: key byte = 1; byte = e; e: case B: key byte = 2; }; };¶resource 'Test' (1) { A { } }; => 01 10
+        a case of a label alone behind its key @ type 'Test' { switch { case A: key byte = 1; e: }; };¶resource 'Test' (1) { A { } }; => 01
+        a case that has the name of its label @ type 'Test' { switch { case A: A: key byte = 1; byte = A; }; };¶resource 'Test' (1) { A { } }; => 01 00
+        a label behind the colon of its case @ type 'Test' { switch { case A: e: key byte = 1; byte = e; }; };¶resource 'Test' (1) { A { } }; => 01 00
+        a symbol of a field behind a label @ type 'Test' { a: byte b = 5, c; };¶resource 'Test' (1) { c }; => 06
+        labels of two cases that aren't in rows, and rows without @ type 'Test' { switch { case A: a: key byte = 1; case B: b: key byte = 2; }; array { byte; }; };¶resource 'Test' (1) { B { }, { 3 } }; => 02 03
+        a label in a case named by an attribute @ type 'Test' { switch { case locked: l: key byte = 1; byte = l; }; };¶resource 'Test' (1) { locked { } }; => 01 00
+    """)
     RULES.say("Where names of labels and functions of bits don't stand.")
     for name, body in [("the width of a bitstring", "bitstring[%s]"), ("the number of rows", "array [%s] { byte; }"),
         ("the count of a fill", "fill byte[%s]"), ("the value of a symbol", "byte b = %s, c")] + [
@@ -119,23 +113,21 @@ def grammar():
         RULES.told("an index in %s" % name, "type 'Test' { array a { a: byte; }; };\n%s\n" % (statement % "a[1]"), 2, "201 Syntax")
         RULES.told("the number of the row in %s" % name, "type 'Test' { array a { a: byte; }; };\n%s\n" % (statement % "$$ArrayIndex(a)"),
             2, "201 Syntax")
-    RULES.told("a byte at a label in an item", "type 'Test' { a: byte; };\nresource 'Test' (1) { $$Byte(a) };\n", 2, "201 Syntax")
-    RULES.told("a label in an item", "type 'Test' { a: byte; };\nresource 'Test' (1) { a };\n", 2, '203 UnknownName: "a"')
-    RULES.told("a label in a format of an item", "type 'Test' { a: pstring; };\nresource 'Test' (1) { $$Format(\"%d\", a) };\n", 2,
-        '203 UnknownName: "a"')
-    RULES.told("the number of rows in a size", "type 'Test' { string[$$CountOf(r)]; array r { byte; }; };\n", 1, "201 Syntax")
-    RULES.told("the number of rows in an index of a size", "type 'Test' { array r { w: byte; }; string[w[$$CountOf(r)]]; };\n", 1,
-        "201 Syntax")
-    for name, item in [("an index in an item", "w[1]"), ("the number of the row in an item", "$$ArrayIndex(r)"),
-            ("an index in a point of an item", "{ w[1], 2 }")]:
-        RULES.told(name, "type 'Test' { array r { w: byte; }; };\nresource 'Test' (1) { { %s } };\n" % item, 2, "201 Syntax")
-    RULES.told("an index in a format of an item",
-        "type 'Test' { array r { w: byte; }; pstring; };\nresource 'Test' (1) { { }, $$Format(\"%d\", w[1]) };\n", 2, "201 Syntax")
-    RULES.told("the number of the row in a format of data", "data 'Test' (1) { $$Format(\"%d\", $$ArrayIndex(r)) };\n", 1,
-        "201 Syntax")
-    for name, test in [("the number of a row in a condition", "$$ArrayIndex(r)"), ("an index in a condition", "w[1]"),
-            ("an index of a macro in a condition", "one[1]")]:
-        RULES.told(name, "#define one 1\n#if %s\n#endif\n" % test, 2, "114 BadCondition")
+    RULES.table(r"""
+        a byte at a label in an item @ type 'Test' { a: byte; };¶resource 'Test' (1) { $$Byte(a) }; => 2: 201 Syntax
+        a label in an item @ type 'Test' { a: byte; };¶resource 'Test' (1) { a }; => 2: 203 UnknownName: "a"
+        a label in a format of an item @ type 'Test' { a: pstring; };¶resource 'Test' (1) { $$Format("%d", a) }; => 2: 203 UnknownName: "a"
+        the number of rows in a size @ type 'Test' { string[$$CountOf(r)]; array r { byte; }; }; => 1: 201 Syntax
+        the number of rows in an index of a size @ type 'Test' { array r { w: byte; }; string[w[$$CountOf(r)]]; }; => 1: 201 Syntax
+        an index in an item @ type 'Test' { array r { w: byte; }; };¶resource 'Test' (1) { { w[1] } }; => 2: 201 Syntax
+        the number of the row in an item @ type 'Test' { array r { w: byte; }; };¶resource 'Test' (1) { { $$ArrayIndex(r) } }; => 2: 201 Syntax
+        an index in a point of an item @ type 'Test' { array r { w: byte; }; };¶resource 'Test' (1) { { { w[1], 2 } } }; => 2: 201 Syntax
+        an index in a format of an item @ type 'Test' { array r { w: byte; }; pstring; };¶resource 'Test' (1) { { }, $$Format("%d", w[1]) }; => 2: 201 Syntax
+        the number of the row in a format of data @ data 'Test' (1) { $$Format("%d", $$ArrayIndex(r)) }; => 1: 201 Syntax
+        the number of a row in a condition @ #define one 1¶#if $$ArrayIndex(r)¶#endif => 2: 114 BadCondition
+        an index in a condition @ #define one 1¶#if w[1]¶#endif => 2: 114 BadCondition
+        an index of a macro in a condition @ #define one 1¶#if one[1]¶#endif => 2: 114 BadCondition
+    """)
     RULES.say("Brackets in brackets: 60 in a type, an index among them.")
     for depth, fault in ((2, None), (59, None), (60, "221 TooDeep")):
         expr = "1"
@@ -158,33 +150,26 @@ def grammar():
 @RULES.part("Two labels of one name.")
 def rules():
     row = RULES.row
-    switch = [("A", [Label("in"), key("byte", 1)]), ("B", [Label("other"), key("byte", 2)])]
-    row("two labels of one name", "a: byte; a: byte;", [1, 2], '230 LabelTwice: "a"')
-    row("two labels of one name in other letters", [Label("aB"), byte(), Label("Ab"), byte()], [1, 2], '230 LabelTwice: "Ab"')
-    row("two labels of one name side by side", [Label("a"), Label("A")], [], '230 LabelTwice: "A"')
-    row("three labels of one name", [Label("a"), Label("A"), Label("b"), Label("B")], [], '230 LabelTwice: "A"')
-    row("a label of a case and one before", [Label("IN"), Switch(switch)], [("A", [])], '230 LabelTwice: "in"')
-    row("a label of a case and one behind", [Switch(switch), Label("IN")], [("A", [])], '230 LabelTwice: "IN"')
-    row("a label in two cases", "switch { case A: l: key byte = 1; case B: l: key byte = 2; };", [("A", [])],
-        '230 LabelTwice: "l"')
-    row("a label in cases of two switches", [Switch(switch), Switch([("A", [key("byte", 1), Label("other")])])],
-        [("A", []), ("A", [])], '230 LabelTwice: "other"')
-    row("two labels before an array twice", [Label("a"), Label("A"), Array("r", None, [byte()]), Array("R", None, [byte()])],
-        [[], []], '230 LabelTwice: "A"')
-    row("an array twice before two labels", [Array("r", None, [byte()]), Array("R", None, [byte()]), Label("a"), Label("A")],
-        [[], []], '231 ArrayTwice: "R"')
-    row("a label and an array of one name aren't twice", [Label("a"), Array("A", None, [byte()]), byte(rows_of("a"))], [[[1]]],
-        "01 01")
-    row("two labels before a bad width", [Label("a"), Label("A"), text("pstring", 256)], [b""], '230 LabelTwice: "A"')
-    row("a bad width before two labels", [text("pstring", 256), Label("a"), Label("A")], [b""], "238 BadWidth: 256")
-    row("two labels before an unknown one", [byte(at("none")), Label("a"), Label("A")], [], '230 LabelTwice: "A"')
-    row("the position of an array counts labels", "a: b: array { byte = 1; };", [[]], "237 ElementWithoutValues: 2")
-    row("labels have no width before a key",
-        "switch { case A: a: byte; b: key byte = 1; case B: byte; key byte = 2; };", [("B", [1])], "01 02")
-    row("another distance of a key behind a label",
-        "switch { case A: a: byte; key byte = 1; case B: b: key byte = 2; };", [("B", [])], '235 KeyDistance: "B"')
-    row("a size by a label isn't a fixed width", "n: switch { case A: string[n]; key byte = 1; };", [("A", [b""])],
-        '235 KeyDistance: "A"')
+    RULES.table(r"""
+        two labels of one name @ a: byte; a: byte; @ 1, 2 => 230 LabelTwice: "a"
+        two labels of one name in other letters @ aB: byte; Ab: byte; @ 1, 2 => 230 LabelTwice: "Ab"
+        two labels of one name side by side @ a: A: @  => 230 LabelTwice: "A"
+        three labels of one name @ a: A: b: B: @  => 230 LabelTwice: "A"
+        a label of a case and one before @ IN: switch { case A: in: key byte = 1; case B: other: key byte = 2; }; @ ("A", []) => 230 LabelTwice: "in"
+        a label of a case and one behind @ switch { case A: in: key byte = 1; case B: other: key byte = 2; }; IN: @ ("A", []) => 230 LabelTwice: "IN"
+        a label in two cases @ switch { case A: l: key byte = 1; case B: l: key byte = 2; }; @ ("A", []) => 230 LabelTwice: "l"
+        a label in cases of two switches @ switch { case A: in: key byte = 1; case B: other: key byte = 2; }; switch { case A: key byte = 1; other: }; @ ("A", []), ("A", []) => 230 LabelTwice: "other"
+        two labels before an array twice @ a: A: array r { byte; }; array R { byte; }; @ [], [] => 230 LabelTwice: "A"
+        an array twice before two labels @ array r { byte; }; array R { byte; }; a: A: @ [], [] => 231 ArrayTwice: "R"
+        a label and an array of one name aren't twice @ a: array A { byte; }; byte = $$CountOf(a); @ [[1]] => 01 01
+        two labels before a bad width @ a: A: pstring[256]; @ b"" => 230 LabelTwice: "A"
+        a bad width before two labels @ pstring[256]; a: A: @ b"" => 238 BadWidth: 256
+        two labels before an unknown one @ byte = none; a: A: @  => 230 LabelTwice: "A"
+        the position of an array counts labels @ a: b: array { byte = 1; }; @ [] => 237 ElementWithoutValues: 2
+        labels have no width before a key @ switch { case A: a: byte; b: key byte = 1; case B: byte; key byte = 2; }; @ ("B", [1]) => 01 02
+        another distance of a key behind a label @ switch { case A: a: byte; key byte = 1; case B: b: key byte = 2; }; @ ("B", []) => 235 KeyDistance: "B"
+        a size by a label isn't a fixed width @ n: switch { case A: string[n]; key byte = 1; }; @ ("A", [b""]) => 235 KeyDistance: "A"
+    """)
     RULES.say("Labels that a field can't name.")
     no = '212 UnknownLabel: "none"'
     for name, field, values in [("a number", byte(at("none")), []), ("a key's neighbour", integer(at("none") + 1), []),
@@ -217,100 +202,73 @@ def rules():
                 ("in a case behind the rows", [array, Switch([("A", [key("byte", 1), byte(expr)])])], [[[7]], ("A", [])])]:
             can = where in ("in the rows", "in a row of the row", "in a case of the row") or name == "an index"
             RULES.row("%s of rows, %s" % (name, where), body, values, None if can else no)
-    for where, body, values in [
-            ("of the fields themselves", [Label("none"), byte(at_row("none", 1))], []),
-            ("of the fields around", [Label("none"), Array(None, None, [byte(at_row("none", 1)), byte()])], [[]]),
-            ("of a case", [Switch([("A", [key("byte", 1), Label("none")])]), byte(at_row("none", 1))], [("A", [])]),
-            ("of a case in rows", [Array(None, None, [Switch([("A", [key("byte", 1), Label("none")])])]), byte(at_row("none", 1))],
-                [[]]),
-            ("of a case in the same row", [Array(None, None, [Switch([("A", [key("byte", 1), Label("none")])]),
-                byte(at_row("none", 1))])], [[]]),
-            ("of a row in rows", [Array(None, None, [Array(None, None, [Label("none"), byte()])]), byte(at_row("none", 1))], [[]]),
-            ("of rows in a case", [Switch([("A", [key("byte", 1), Array(None, None, [Label("none"), byte()])])]),
-                byte(at_row("none", 1))], [("A", [[]])]),
-            ("of rows in another case", [Switch([("A", [key("byte", 1), Array(None, None, [Label("none"), byte()])]),
-                ("B", [key("byte", 2), byte(at_row("none", 1))])])], [("B", [])]),
-            ("of rows in other rows", [Array(None, None, [Array(None, None, [Label("none"), byte()])]),
-                Array(None, None, [byte(at_row("none", 1)), byte()])], [[], []]),
-            ("of an array", [Array("none", None, [byte()]), byte(at_row("none", 1))], [[]]),
-            ("of a case's name", [Switch([("none", [key("byte", 1)])]), byte(at_row("none", 1))], [("none", [])]),
-            ("of nothing", [byte(at_row("none", 1))], [])]:
-        RULES.row("an index %s" % where, body, values, no)
-    around = byte(row_of("none"))
-    for where, body, values in [
-            ("before the rows", [around, Array("none", None, [byte()])], [[]]),
-            ("behind the rows", [Array("none", None, [byte()]), around], [[]]),
-            ("in other rows", [Array("none", None, [byte()]), Array("other", None, [around, byte()])], [[], []]),
-            ("in the rows around", [Array("other", None, [Array("none", None, [byte()]), around])], [[]]),
-            ("in rows without a name", [Array(None, None, [around, byte()])], [[]]),
-            ("in rows with another name", [Array("other", None, [around, byte()])], [[]]),
-            ("with a label of the name", [Array("other", None, [Label("none"), around, byte()])], [[]]),
-            ("in a case of the name", [Array("other", None, [Switch([("none", [key("byte", 1), around])])])], [[]]),
-            ("in a case before the rows", [Switch([("A", [key("byte", 1), around])]), Array("none", None, [byte()])],
-                [("A", []), []]),
-            ("of rows in the case of the row", [Array("other", None, [Switch([("A", [key("byte", 1), Array("none", None, [byte()]),
-                around])])])], [[]]),
-            ("in a size before the rows", [text("string", row_of("none")), Array("none", None, [byte()])], [b"", []]),
-            ("in an index behind the rows", [Array("none", None, [Label("w"), byte()]), byte(at_row("w", row_of("none")))], [[]])]:
-        RULES.row("the number of the row %s" % where, body, values, no)
-    row("the unknown label of an index before that in it", "byte = x[y];", [], '212 UnknownLabel: "x"')
-    row("the unknown label in an index before the next", "array { w: byte; }; byte = w[x] + y;", [[]],
-        '212 UnknownLabel: "x"')
-    row("the unknown array in an index", "array { w: byte; }; byte = w[$$CountOf(x)];", [[]], '212 UnknownLabel: "x"')
-    row("the unknown label of bits before an index in their start", "byte = $$BitField(x, y[1], 1);", [],
-        '212 UnknownLabel: "x"')
-    row("an index in a point that is unknown", "point = {1, none[1]};", [], no)
-    row("an index in a format that is unknown", 'string = $$Format("%d", none[1]);', [], no)
-    row("an index of an array without rows that is known", "array[0] { w: byte; }; byte = w[1];", [[]],
-        "223 BadIndex: 1")
-    RULES.say("Two labels of one name, in rows.")
-    for where, body, values in [
-            ("in a row", [Array(None, None, [Label("aB"), byte(), Label("Ab")])], [[]]),
-            ("in a row and before it", [Label("aB"), Array(None, None, [Label("Ab"), byte()])], [[]]),
-            ("in a row and behind it", [Array(None, None, [Label("aB"), byte()]), Label("Ab")], [[]]),
-            ("in rows of two arrays", [Array(None, None, [Label("aB"), byte()]), Array(None, None, [Label("Ab"), byte()])],
-                [[], []]),
-            ("in a row and a row of it", [Array(None, None, [Label("aB"), Array(None, None, [Label("Ab"), byte()])])], [[]]),
-            ("in a row and a case of it", [Array(None, None, [Label("aB"), Switch([("A", [Label("Ab"), key("byte", 1)])])])], [[]]),
-            ("in two cases of a row", [Array(None, None, [Switch([("A", [Label("aB"), key("byte", 1)]),
-                ("B", [Label("Ab"), key("byte", 2)])])])], [[]])]:
-        RULES.row("two labels of one name %s" % where, body, values, '230 LabelTwice: "Ab"')
-    row("an array of labels alone", "array { a: byte = 1; };", [[]], "237 ElementWithoutValues: 0")
-    row("the position of an array counts labels in rows before it", "array { a: byte; b: }; array { c: fill bit[1]; };",
-        [[], []], "237 ElementWithoutValues: 4")
-    row("an array twice, the second in the first one's rows with labels", [Array("r", None, [Label("a"),
-        Array("R", None, [Label("b"), byte()])])], [[]], '231 ArrayTwice: "R"')
-    row("labels in rows have no width before a key", [Switch([("A", [Array(None, 2, [Label("a"), byte(), Label("b")]),
-        key("byte", 1)]), ("B", [Array(None, 1, [integer()]), key("byte", 2)])])], [("A", [[[1], [2]]])], "0102 01")
-    RULES.say("Which unknown label comes first.")
-    row("the unknown label that is written first", "byte = x + y;", [], '212 UnknownLabel: "x"')
-    row("the unknown label of bits before that of their start", [byte(bits_at("x", at("y"), at("z")))], [], '212 UnknownLabel: "x"')
-    row("the unknown label of a size before that of its format", 'string[x] = $$Format("%d", y);', [],
-        '212 UnknownLabel: "x"')
-    row("the unknown label of the first field", "byte = x; byte = y;", [], '212 UnknownLabel: "x"')
-    row("the unknown label of a field before that of its rows", "array { byte; byte = x; }; byte = y;", [[]],
-        '212 UnknownLabel: "x"')
-    row("the unknown label of a row before that of a field behind", [byte(at("X")), Array(None, None, [byte(), byte(at("y"))])],
-        [[]], '212 UnknownLabel: "X"')
-    row("a label of a case from outside", [Switch(switch), byte(at("in"))], [("A", [])], '212 UnknownLabel: "in"')
-    row("a label of a case from before it", [byte(at("in")), Switch(switch)], [("A", [])], '212 UnknownLabel: "in"')
-    row("a label of a case from another case", [Switch([switch[0], ("B", [key("byte", 2), byte(at("IN"))])])], [("B", [])],
-        '212 UnknownLabel: "IN"')
-    row("a label of a case from a row outside", [Switch(switch), Array(None, None, [byte(), byte(at("in"))])], [("A", []), []],
-        '212 UnknownLabel: "in"')
-    row("an array by itself is no label", "byte = r; array r { byte; };", [[]], '212 UnknownLabel: "r"')
-    row("bits of an array", "byte = $$Byte(r); array r { byte; };", [[]], '212 UnknownLabel: "r"')
-    row("a label has no rows", "a: byte = $$CountOf(a);", [], '212 UnknownLabel: "a"')
-    row("a case is no label", [Switch([("A", [key("byte", 1)])]), byte(at("A"))], [("A", [])], '212 UnknownLabel: "A"')
+    RULES.table(r"""
+        an index of the fields themselves @ none: byte = none[1]; @  => 212 UnknownLabel: "none"
+        an index of the fields around @ none: array { byte = none[1]; byte; }; @ [] => 212 UnknownLabel: "none"
+        an index of a case @ switch { case A: key byte = 1; none: }; byte = none[1]; @ ("A", []) => 212 UnknownLabel: "none"
+        an index of a case in rows @ array { switch { case A: key byte = 1; none: }; }; byte = none[1]; @ [] => 212 UnknownLabel: "none"
+        an index of a case in the same row @ array { switch { case A: key byte = 1; none: }; byte = none[1]; }; @ [] => 212 UnknownLabel: "none"
+        an index of a row in rows @ array { array { none: byte; }; }; byte = none[1]; @ [] => 212 UnknownLabel: "none"
+        an index of rows in a case @ switch { case A: key byte = 1; array { none: byte; }; }; byte = none[1]; @ ("A", [[]]) => 212 UnknownLabel: "none"
+        an index of rows in another case @ switch { case A: key byte = 1; array { none: byte; }; case B: key byte = 2; byte = none[1]; }; @ ("B", []) => 212 UnknownLabel: "none"
+        an index of rows in other rows @ array { array { none: byte; }; }; array { byte = none[1]; byte; }; @ [], [] => 212 UnknownLabel: "none"
+        an index of an array @ array none { byte; }; byte = none[1]; @ [] => 212 UnknownLabel: "none"
+        an index of a case's name @ switch { case none: key byte = 1; }; byte = none[1]; @ ("none", []) => 212 UnknownLabel: "none"
+        an index of nothing @ byte = none[1]; @  => 212 UnknownLabel: "none"
+        the number of the row before the rows @ byte = $$ArrayIndex(none); array none { byte; }; @ [] => 212 UnknownLabel: "none"
+        the number of the row behind the rows @ array none { byte; }; byte = $$ArrayIndex(none); @ [] => 212 UnknownLabel: "none"
+        the number of the row in other rows @ array none { byte; }; array other { byte = $$ArrayIndex(none); byte; }; @ [], [] => 212 UnknownLabel: "none"
+        the number of the row in the rows around @ array other { array none { byte; }; byte = $$ArrayIndex(none); }; @ [] => 212 UnknownLabel: "none"
+        the number of the row in rows without a name @ array { byte = $$ArrayIndex(none); byte; }; @ [] => 212 UnknownLabel: "none"
+        the number of the row in rows with another name @ array other { byte = $$ArrayIndex(none); byte; }; @ [] => 212 UnknownLabel: "none"
+        the number of the row with a label of the name @ array other { none: byte = $$ArrayIndex(none); byte; }; @ [] => 212 UnknownLabel: "none"
+        the number of the row in a case of the name @ array other { switch { case none: key byte = 1; byte = $$ArrayIndex(none); }; }; @ [] => 212 UnknownLabel: "none"
+        the number of the row in a case before the rows @ switch { case A: key byte = 1; byte = $$ArrayIndex(none); }; array none { byte; }; @ ("A", []), [] => 212 UnknownLabel: "none"
+        the number of the row of rows in the case of the row @ array other { switch { case A: key byte = 1; array none { byte; }; byte = $$ArrayIndex(none); }; }; @ [] => 212 UnknownLabel: "none"
+        the number of the row in a size before the rows @ string[$$ArrayIndex(none)]; array none { byte; }; @ b"", [] => 212 UnknownLabel: "none"
+        the number of the row in an index behind the rows @ array none { w: byte; }; byte = w[$$ArrayIndex(none)]; @ [] => 212 UnknownLabel: "none"
+        the unknown label of an index before that in it @ byte = x[y]; @  => 212 UnknownLabel: "x"
+        the unknown label in an index before the next @ array { w: byte; }; byte = w[x] + y; @ [] => 212 UnknownLabel: "x"
+        the unknown array in an index @ array { w: byte; }; byte = w[$$CountOf(x)]; @ [] => 212 UnknownLabel: "x"
+        the unknown label of bits before an index in their start @ byte = $$BitField(x, y[1], 1); @  => 212 UnknownLabel: "x"
+        an index in a point that is unknown @ point = {1, none[1]}; @  => 212 UnknownLabel: "none"
+        an index in a format that is unknown @ string = $$Format("%d", none[1]); @  => 212 UnknownLabel: "none"
+        an index of an array without rows that is known @ array[0] { w: byte; }; byte = w[1]; @ [] => 223 BadIndex: 1
+        // Two labels of one name, in rows.
+        two labels of one name in a row @ array { aB: byte; Ab: }; @ [] => 230 LabelTwice: "Ab"
+        two labels of one name in a row and before it @ aB: array { Ab: byte; }; @ [] => 230 LabelTwice: "Ab"
+        two labels of one name in a row and behind it @ array { aB: byte; }; Ab: @ [] => 230 LabelTwice: "Ab"
+        two labels of one name in rows of two arrays @ array { aB: byte; }; array { Ab: byte; }; @ [], [] => 230 LabelTwice: "Ab"
+        two labels of one name in a row and a row of it @ array { aB: array { Ab: byte; }; }; @ [] => 230 LabelTwice: "Ab"
+        two labels of one name in a row and a case of it @ array { aB: switch { case A: Ab: key byte = 1; }; }; @ [] => 230 LabelTwice: "Ab"
+        two labels of one name in two cases of a row @ array { switch { case A: aB: key byte = 1; case B: Ab: key byte = 2; }; }; @ [] => 230 LabelTwice: "Ab"
+        an array of labels alone @ array { a: byte = 1; }; @ [] => 237 ElementWithoutValues: 0
+        the position of an array counts labels in rows before it @ array { a: byte; b: }; array { c: fill bit[1]; }; @ [], [] => 237 ElementWithoutValues: 4
+        an array twice, the second in the first one's rows with labels @ array r { a: array R { b: byte; }; }; @ [] => 231 ArrayTwice: "R"
+        labels in rows have no width before a key @ switch { case A: array[2] { a: byte; b: }; key byte = 1; case B: array[1] { integer; }; key byte = 2; }; @ ("A", [[[1], [2]]]) => 0102 01
+        // Which unknown label comes first.
+        the unknown label that is written first @ byte = x + y; @  => 212 UnknownLabel: "x"
+        the unknown label of bits before that of their start @ byte = $$BitField(x, y, z); @  => 212 UnknownLabel: "x"
+        the unknown label of a size before that of its format @ string[x] = $$Format("%d", y); @  => 212 UnknownLabel: "x"
+        the unknown label of the first field @ byte = x; byte = y; @  => 212 UnknownLabel: "x"
+        the unknown label of a field before that of its rows @ array { byte; byte = x; }; byte = y; @ [] => 212 UnknownLabel: "x"
+        the unknown label of a row before that of a field behind @ byte = X; array { byte; byte = y; }; @ [] => 212 UnknownLabel: "X"
+        a label of a case from outside @ switch { case A: in: key byte = 1; case B: other: key byte = 2; }; byte = in; @ ("A", []) => 212 UnknownLabel: "in"
+        a label of a case from before it @ byte = in; switch { case A: in: key byte = 1; case B: other: key byte = 2; }; @ ("A", []) => 212 UnknownLabel: "in"
+        a label of a case from another case @ switch { case A: in: key byte = 1; case B: key byte = 2; byte = IN; }; @ ("B", []) => 212 UnknownLabel: "IN"
+        a label of a case from a row outside @ switch { case A: in: key byte = 1; case B: other: key byte = 2; }; array { byte; byte = in; }; @ ("A", []), [] => 212 UnknownLabel: "in"
+        an array by itself is no label @ byte = r; array r { byte; }; @ [] => 212 UnknownLabel: "r"
+        bits of an array @ byte = $$Byte(r); array r { byte; }; @ [] => 212 UnknownLabel: "r"
+        a label has no rows @ a: byte = $$CountOf(a); @  => 212 UnknownLabel: "a"
+        a case is no label @ switch { case A: key byte = 1; }; byte = A; @ ("A", []) => 212 UnknownLabel: "A"
+    """)
     row("true and false are names without a label", [byte(at("true")), byte(at("FALSE"))], [], "01 00")
     row("true in a size", [text("string", at("true"))], [b"ab"], '"a"')
-    RULES.told("a symbol is no label", "type 'Test' { byte a = 1; byte = a; };\n", 1, '212 UnknownLabel: "a"')
-    RULES.told("a fault of a type before its use", "type 'Test' { byte = a; };\nresource 'Test' (1) { };\n", 1,
-        '212 UnknownLabel: "a"')
-    RULES.told("the number of rows in a size that isn't there", "type 'Test' { a: byte; string[$$Byte(b)]; };\n", 1,
-        '212 UnknownLabel: "b"')
-    RULES.told("a name of 255 bytes that is no label", "type 'Test' { byte = %s; };\n" % ("n" * 255), 1,
-        '212 UnknownLabel: "%s"' % ("n" * 255))
-    RULES.told("a word of a fact without its signs", "type 'Test' { byte = ID; };\n", 1, '212 UnknownLabel: "ID"')
-    RULES.told("a word of an attribute is a name and no label", "type 'Test' { byte = locked; };\n", 1,
-        '212 UnknownLabel: "locked"')
+    RULES.table(r"""
+        a symbol is no label @ type 'Test' { byte a = 1; byte = a; }; => 1: 212 UnknownLabel: "a"
+        a fault of a type before its use @ type 'Test' { byte = a; };¶resource 'Test' (1) { }; => 1: 212 UnknownLabel: "a"
+        the number of rows in a size that isn't there @ type 'Test' { a: byte; string[$$Byte(b)]; }; => 1: 212 UnknownLabel: "b"
+        a name of 255 bytes that is no label @ type 'Test' { byte = «n×255»; }; => 1: 212 UnknownLabel: "«n×255»"
+        a word of a fact without its signs @ type 'Test' { byte = ID; }; => 1: 212 UnknownLabel: "ID"
+        a word of an attribute is a name and no label @ type 'Test' { byte = locked; }; => 1: 212 UnknownLabel: "locked"
+    """)

@@ -1,7 +1,7 @@
 """Writes row_labels.cases: labels in rows of arrays, their places by an index, and the numbers of rows."""
 from label_book import Cases, KINDS, rows, stated
-from model.label_types import (Align, Expr, Fill, Format, Label, Switch, at, at_row, bits_at, byte, byte_at,
-                               fact, integer, key, longint, number, points, row_of, rows_of, text)
+from model.label_types import (Align, Expr, Label, Switch, at, at_row, bits_at, byte, byte_at, fact, integer, key,
+                               longint, number, row_of, rows_of, text)
 from model.labels import FACTS
 
 ROWS = Cases("row_labels.cases", "row_label_cases.py",
@@ -14,39 +14,22 @@ def counted(name, *row, form=byte):
     return [form(rows_of(name)), rows(name, *row)]
 
 
-@ROWS.part("By hand.")
-def worked():
-    row = ROWS.row
-    strings = [integer(rows_of("recs")), rows("recs", Label("b"), byte((at("e") - at("b")) / 8), text("string", says="hex "),
-        Label("e"))]
-    row("a length in each row, with its own byte in it", strings, [[[b"\xAA"], [b"\xBB\xCC"]]], "0002 02 AA 03 BBCC")
-    row("a length in each row, and strings without bytes", strings, [[[b""], [b"\xBB"], [b""]]], "0003 01 02 BB 01")
-    row("a length in each row, and no rows", strings, [[]], "0000")
-    tail = [integer(rows_of("rows")), rows("rows", Label("p"), integer(row_of("rows")), text("pstring")),
-        integer(at_row("p", 2) / 8)]
-    row("the number of each row, and behind them the place of the second", tail, [[[b"A"], [b"BC"]]],
-        '0002 0001 01 "A" 0002 02 "BC" 0006')
-    row("the place of the second of three rows", tail, [[[b"A"], [b"BC"], [b""]]],
-        '0003 0001 01 "A" 0002 02 "BC" 0003 00 0006')
-    row("the place of the second row where there is one", tail, [[[b"A"]]], "223 BadIndex: 2")
-    row("the place of the second row where there are none", tail, [[]], "223 BadIndex: 2")
-    head = [integer(at_row("p", 1) / 8), integer(rows_of("rows")), rows("rows", Label("p"), text("pstring"))]
-    row("the place of the first row in front of the rows", head, [[[b"A"]]], '0004 0001 01 "A"')
-    row("the place of the first row in front of no rows", head, [[]], "223 BadIndex: 1")
-    ROWS.told("the number of the row in front of the rows", "type 'Bad ' { integer = $$ArrayIndex(rows); array rows { byte; }; };\n",
-        1, '212 UnknownLabel: "rows"')
-    row("an index that leads to each of three parts",
-        "byte = $$CountOf(parts); array parts { byte; p: pstring; }; byte = p[1] / 8; byte = p[2] / 8; byte = p[3] / 8;",
-        [[[1, b"a"], [2, b""], [3, b"bc"]]], '03 01 01 "a" 02 00 03 02 "bc" 02 05 07')
-    row("a table of places behind rows of any width",
-        "byte = $$CountOf(a); array a { p: pstring; }; byte = $$CountOf(t); array t { byte = p[$$ArrayIndex(t)] / 8; byte; };",
-        [[[b"xy"], [b""], [b"z"]], [[7], [8], [9]]], '03 02 "xy" 00 01 "z" 03 01 07 04 08 05 09')
-    row("a table of places in front of rows of any width",
-        "byte = $$CountOf(t); array t { integer = p[$$ArrayIndex(t)] / 8; byte; }; byte = $$CountOf(a); array a { p: pstring; };",
-        [[[7], [8]], [[b"xy"], [b""]]], '02 0008 07 000B 08 02 02 "xy" 00')
-    row("a table of lengths in front of strings, by the label behind each",
-        "byte = $$CountOf(t); array t { byte = (e[$$ArrayIndex(t)] - s[$$ArrayIndex(t)]) / 8; byte; }; array a { s: pstring; e: };",
-        [[[1], [2]], [[b"xy"], [b"abc"]]], '02 03 01 04 02 02 "xy" 03 "abc"')
+ROWS.lines_of("By hand.", r"""
+a length in each row, with its own byte in it @ integer = $$CountOf(recs); array recs { b: byte = (e - b) / 8; hex string; e: }; @ [[b"\xaa"], [b"\xbb\xcc"]] => 0002 02 AA 03 BBCC
+a length in each row, and strings without bytes @ integer = $$CountOf(recs); array recs { b: byte = (e - b) / 8; hex string; e: }; @ [[b""], [b"\xbb"], [b""]] => 0003 01 02 BB 01
+a length in each row, and no rows @ integer = $$CountOf(recs); array recs { b: byte = (e - b) / 8; hex string; e: }; @ [] => 0000
+the number of each row, and behind them the place of the second @ integer = $$CountOf(rows); array rows { p: integer = $$ArrayIndex(rows); pstring; }; integer = p[2] / 8; @ [[b"A"], [b"BC"]] => 0002 0001 01 "A" 0002 02 "BC" 0006
+the place of the second of three rows @ integer = $$CountOf(rows); array rows { p: integer = $$ArrayIndex(rows); pstring; }; integer = p[2] / 8; @ [[b"A"], [b"BC"], [b""]] => 0003 0001 01 "A" 0002 02 "BC" 0003 00 0006
+the place of the second row where there is one @ integer = $$CountOf(rows); array rows { p: integer = $$ArrayIndex(rows); pstring; }; integer = p[2] / 8; @ [[b"A"]] => 223 BadIndex: 2
+the place of the second row where there are none @ integer = $$CountOf(rows); array rows { p: integer = $$ArrayIndex(rows); pstring; }; integer = p[2] / 8; @ [] => 223 BadIndex: 2
+the place of the first row in front of the rows @ integer = p[1] / 8; integer = $$CountOf(rows); array rows { p: pstring; }; @ [[b"A"]] => 0004 0001 01 "A"
+the place of the first row in front of no rows @ integer = p[1] / 8; integer = $$CountOf(rows); array rows { p: pstring; }; @ [] => 223 BadIndex: 1
+the number of the row in front of the rows @ type 'Bad ' { integer = $$ArrayIndex(rows); array rows { byte; }; }; => 1: 212 UnknownLabel: "rows"
+an index that leads to each of three parts @ byte = $$CountOf(parts); array parts { byte; p: pstring; }; byte = p[1] / 8; byte = p[2] / 8; byte = p[3] / 8; @ [[1, b"a"], [2, b""], [3, b"bc"]] => 03 01 01 "a" 02 00 03 02 "bc" 02 05 07
+a table of places behind rows of any width @ byte = $$CountOf(a); array a { p: pstring; }; byte = $$CountOf(t); array t { byte = p[$$ArrayIndex(t)] / 8; byte; }; @ [[b"xy"], [b""], [b"z"]], [[7], [8], [9]] => 03 02 "xy" 00 01 "z" 03 01 07 04 08 05 09
+a table of places in front of rows of any width @ byte = $$CountOf(t); array t { integer = p[$$ArrayIndex(t)] / 8; byte; }; byte = $$CountOf(a); array a { p: pstring; }; @ [[7], [8]], [[b"xy"], [b""]] => 02 0008 07 000B 08 02 02 "xy" 00
+a table of lengths in front of strings, by the label behind each @ byte = $$CountOf(t); array t { byte = (e[$$ArrayIndex(t)] - s[$$ArrayIndex(t)]) / 8; byte; }; array a { s: pstring; e: }; @ [[1], [2]], [[b"xy"], [b"abc"]] => 02 03 01 04 02 02 "xy" 03 "abc"
+""")
 
 
 @ROWS.part("Labels before and behind each kind of field of a row; the places stand behind, and in front.")
@@ -132,123 +115,75 @@ def given_by(index):
         Label("e")])
 
 
-@ROWS.part("Early and late: before the array, in it, and behind it.")
-def late():
-    row = ROWS.row
-    lines = [[[b"a"], [b"bc"]]]
-    strings = rows("a", Label("p"), text("pstring"), Label("q"))
-    two = '01 "a" 02 "bc"'
-    row("a place in front of its array is late", [byte(at_row("p", 2)), strings], lines, "18 " + two)
-    row("a place behind its array isn't late", [strings, Label("n"), byte(at_row("p", 2) / 8), text("string", byte_at("n"))],
-        lines + [b"xyz"], two + ' 02 "xy"')
-    row("a place in front of its array makes a size late", [Label("n"), byte(at_row("p", 1) / 8), text("string", byte_at("n")),
-        strings], [b"x"] + lines, "214 SizeLater: 2")
-    row("a size by a place in a row that stands behind", [byte(), text("string", at_row("p", 1)), strings], [1, b""] + lines,
-        "214 SizeLater: 1")
-    row("a size by a place in a row that stands before", [byte(), strings, text("string", at_row("p", 2) / 8 - at_row("p", 1) / 8)],
-        [1] + lines + [b"xyz"], "01 " + two + ' "xy"')
-    row("a size by a place in a row that isn't there", [strings, text("string", at_row("p", 3))], lines + [b""],
-        "223 BadIndex: 3")
-    row("a size by a place in no row, and too large", [strings, text("pstring", 300 + at_row("p", 0))], lines + [b""],
-        "223 BadIndex: 0")
-    row("a size in a row by a place in its own row", "array a { byte; p: string[p / 8 % 2 + 1]; };",
-        [[[7, b"xy"], [8, b"xy"]]], '07 "xy" 08 "x"')
-    row("a size in a row by an index of its own array", "array a { p: byte; string[p[1]]; };",
-        [[[7, b"xy"], [8, b"xy"]]], "214 SizeLater: 2")
-    row("a size in a row by an index of its own array, and no rows", "array a { p: byte; string[p[1]]; };", [[]], "")
-    row("a size in a row by the number of the row", "array a { byte; string[$$ArrayIndex(a)]; };",
-        [[[7, b"xyz"], [8, b"xyz"], [9, b"xyz"]]], '07 "x" 08 "xy" 09 "xyz"')
-    row("a size in a row by a label behind the rows", "array a { byte; string[e]; }; e:", [[[1, b""]]],
-        "214 SizeLater: 1")
-    row("a size in a row by a label behind it in the row", "array a { byte; string[e]; e: };", [[[1, b""]]],
-        "214 SizeLater: 1")
-    row("a late number in each row, of the row's end", "array a { byte = e; pstring; e: };", lines,
-        '18 01 "a" 38 02 "bc"')
-    row("a late number in each row, of the row behind",
-        "array a { byte = p[$$ArrayIndex(a) % $$CountOf(a) + 1]; p: pstring; };", lines, '20 01 "a" 08 02 "bc"')
-    row("the row behind the last one", "array a { byte = p[$$ArrayIndex(a) + 1]; p: pstring; };", lines,
-        "223 BadIndex: 3")
-    row("the row before the first one", "array a { byte = p[$$ArrayIndex(a) - 1]; p: pstring; };", lines,
-        "223 BadIndex: 0")
-    row("a late number reads a late number before it",
-        "array a { n: byte = e / 8; pstring; e: byte = $$Byte(n) + 1; };", lines, '03 01 "a" 04 08 02 "bc" 09')
-    row("a size reads a late number of its row", "array a { n: byte = e / 8; pstring; e: string[$$Byte(n)]; };",
-        [[[b"a", b""]]], "214 SizeLater: 4")
-    row("a size reads a late number of the row before", "s: array a { string[n / 8 - n / 8]; n: byte; };", [[[b"", 1]]],
-        "214 SizeLater: 1")
-    row("an index in a point", [strings, points(at_row("p", 1), at_row("p", 2))], lines, two + " 0000 0010")
-    row("an index in a point, and one that isn't there", [strings, points(at_row("p", 1), at_row("p", 3))], lines,
-        "223 BadIndex: 3")
-    row("indexes in a rectangle in front", [points(at_row("p", 1), at_row("q", 1), at_row("p", 2), at_row("q", 2)), strings], lines,
-        "0040 0050 0050 0068 " + two)
-    row("an index in a format", [strings, text("pstring", None, [Format(b"%d-%d", [at_row("p", 2), at_row("q", 2)])])], lines,
-        two + ' 05 "16-40"')
-    row("an index in a format in front", [text("pstring", None, [Format(b"%d", [at_row("p", 2)])]), strings], lines,
-        "214 SizeLater: 0")
-    row("an index in a format that isn't there", [strings, text("pstring", None, [Format(b"%d", [at_row("p", 9)])])], lines,
-        "223 BadIndex: 9")
-    row("an index in a format in a format", [strings, text("cstring", None, [Format(b"<%s>", [[Format(b"%x", [at_row("q", 2)])]])])],
-        lines, two + ' "<28>" 00')
-    row("the number of the row in a format", 'array a { byte; pstring = $$Format("#%d", $$ArrayIndex(a)); };',
-        [[[7], [8]]], '07 02 "#1" 08 02 "#2"')
-    row("the start of bits by an index", [Label("s"), strings, byte(bits_at("s", at_row("p", 2), number(8)))], lines, two + " 02")
-    row("the width of bits by an index", [Label("s"), strings, byte(bits_at("s", number(0), at_row("p", 2) / 2))], lines, two + " 01")
-    row("the width of bits by an index that isn't there", [Label("s"), strings, byte(bits_at("s", number(99), at_row("p", 3)))],
-        lines, "223 BadIndex: 3")
-    row("bits at a label of the row", "array a { p: byte; byte = $$Byte(p) + 1; };", [[[7], [8]]], "0708 0809")
-    row("bits before a label of the row", "byte; array a { p: byte; byte = $$BitField(p, -8, 8); };", [5, [[7], [8]]],
-        "05 07 05 08 05")
-    ROWS.say("Which fault comes first.")
-    row("a late index, and a fault behind it", [byte(at_row("p", 3)), strings, byte(number(1) / 0)], lines, "211 ZeroDivisor")
-    row("a late index, and a late fault behind it", [byte(at_row("p", 3)), strings, byte(at("e") / 0), Label("e")], lines,
-        "223 BadIndex: 3")
-    row("a late fault, and a late index behind it", [byte(at("e") / 0), strings, byte(at("e") + at_row("p", 3)), Label("e")], lines,
-        "211 ZeroDivisor")
-    row("an index that isn't there before one that is out of range", [strings, byte(at_row("p", 3)), byte(at_row("p", 1) + 999)],
-        lines, "223 BadIndex: 3")
-    row("a place out of range before an index that isn't there", [strings, byte(at_row("p", 1) + 999), byte(at_row("p", 3))],
-        lines, "207 OutOfRange: 999")
-    row("an index before a shift", [strings, byte(at_row("p", 3) << 32)], lines, "223 BadIndex: 3")
-    row("a shift before an index", [strings, byte((number(1) << 32) + at_row("p", 3))], lines, "215 BadShift: 32")
-    row("an index before a late one", [strings, byte(at_row("p", 3) + at("e")), Label("e"), byte(number(1) / 0)], lines,
-        "211 ZeroDivisor")
-    row("the index of a size before what it is too large for", [strings, text("pstring", at_row("p", -1))], lines + [b""],
-        "223 BadIndex: -1")
-    row("a negative size by rows", [strings, text("string", at_row("p", 1) - at_row("p", 2))], lines + [b""],
-        "207 OutOfRange: -16")
-    row("a size by rows that is too large", [strings, text("pstring", at_row("p", 2) * 16)], lines + [b""], "207 OutOfRange: 256")
-    row("a late number out of range in a row", "array a { bitstring[4] = e; pstring; e: align byte; };", lines,
-        "207 OutOfRange: 20")
-    row("pieces are counted over rows, with their labels", [strings, text("string", at("e")), Label("e")], lines + [b""],
-        "214 SizeLater: 6")
-    row("pieces are counted over rows, and over points in them", [rows("a", Label("p"), points(count=4), Align("long"), Fill("bit", 8)),
-        text("string", at("e")), Label("e")], [[[(1, 2, 3, 4)], [(5, 6, 7, 8)]], b""], "214 SizeLater: 14")
+ROWS.lines_of("Early and late: before the array, in it, and behind it.", r"""
+a place in front of its array is late @ byte = p[2]; array a { p: pstring; q: }; @ [[b"a"], [b"bc"]] => 18 01 "a" 02 "bc"
+a place behind its array isn't late @ array a { p: pstring; q: }; n: byte = p[2] / 8; string[$$Byte(n)]; @ [[b"a"], [b"bc"]], b"xyz" => 01 "a" 02 "bc" 02 "xy"
+a place in front of its array makes a size late @ n: byte = p[1] / 8; string[$$Byte(n)]; array a { p: pstring; q: }; @ b"x", [[b"a"], [b"bc"]] => 214 SizeLater: 2
+a size by a place in a row that stands behind @ byte; string[p[1]]; array a { p: pstring; q: }; @ 1, b"", [[b"a"], [b"bc"]] => 214 SizeLater: 1
+a size by a place in a row that stands before @ byte; array a { p: pstring; q: }; string[p[2] / 8 - p[1] / 8]; @ 1, [[b"a"], [b"bc"]], b"xyz" => 01 01 "a" 02 "bc" "xy"
+a size by a place in a row that isn't there @ array a { p: pstring; q: }; string[p[3]]; @ [[b"a"], [b"bc"]], b"" => 223 BadIndex: 3
+a size by a place in no row, and too large @ array a { p: pstring; q: }; pstring[300 + p[0]]; @ [[b"a"], [b"bc"]], b"" => 223 BadIndex: 0
+a size in a row by a place in its own row @ array a { byte; p: string[p / 8 % 2 + 1]; }; @ [[7, b"xy"], [8, b"xy"]] => 07 "xy" 08 "x"
+a size in a row by an index of its own array @ array a { p: byte; string[p[1]]; }; @ [[7, b"xy"], [8, b"xy"]] => 214 SizeLater: 2
+a size in a row by an index of its own array, and no rows @ array a { p: byte; string[p[1]]; }; @ [] =>
+a size in a row by the number of the row @ array a { byte; string[$$ArrayIndex(a)]; }; @ [[7, b"xyz"], [8, b"xyz"], [9, b"xyz"]] => 07 "x" 08 "xy" 09 "xyz"
+a size in a row by a label behind the rows @ array a { byte; string[e]; }; e: @ [[1, b""]] => 214 SizeLater: 1
+a size in a row by a label behind it in the row @ array a { byte; string[e]; e: }; @ [[1, b""]] => 214 SizeLater: 1
+a late number in each row, of the row's end @ array a { byte = e; pstring; e: }; @ [[b"a"], [b"bc"]] => 18 01 "a" 38 02 "bc"
+a late number in each row, of the row behind @ array a { byte = p[$$ArrayIndex(a) % $$CountOf(a) + 1]; p: pstring; }; @ [[b"a"], [b"bc"]] => 20 01 "a" 08 02 "bc"
+the row behind the last one @ array a { byte = p[$$ArrayIndex(a) + 1]; p: pstring; }; @ [[b"a"], [b"bc"]] => 223 BadIndex: 3
+the row before the first one @ array a { byte = p[$$ArrayIndex(a) - 1]; p: pstring; }; @ [[b"a"], [b"bc"]] => 223 BadIndex: 0
+a late number reads a late number before it @ array a { n: byte = e / 8; pstring; e: byte = $$Byte(n) + 1; }; @ [[b"a"], [b"bc"]] => 03 01 "a" 04 08 02 "bc" 09
+a size reads a late number of its row @ array a { n: byte = e / 8; pstring; e: string[$$Byte(n)]; }; @ [[b"a", b""]] => 214 SizeLater: 4
+a size reads a late number of the row before @ s: array a { string[n / 8 - n / 8]; n: byte; }; @ [[b"", 1]] => 214 SizeLater: 1
+an index in a point @ array a { p: pstring; q: }; point = {p[1], p[2]}; @ [[b"a"], [b"bc"]] => 01 "a" 02 "bc" 0000 0010
+an index in a point, and one that isn't there @ array a { p: pstring; q: }; point = {p[1], p[3]}; @ [[b"a"], [b"bc"]] => 223 BadIndex: 3
+indexes in a rectangle in front @ rect = {p[1], q[1], p[2], q[2]}; array a { p: pstring; q: }; @ [[b"a"], [b"bc"]] => 0040 0050 0050 0068 01 "a" 02 "bc"
+an index in a format @ array a { p: pstring; q: }; pstring = $$Format("%d-%d", p[2], q[2]); @ [[b"a"], [b"bc"]] => 01 "a" 02 "bc" 05 "16-40"
+an index in a format in front @ pstring = $$Format("%d", p[2]); array a { p: pstring; q: }; @ [[b"a"], [b"bc"]] => 214 SizeLater: 0
+an index in a format that isn't there @ array a { p: pstring; q: }; pstring = $$Format("%d", p[9]); @ [[b"a"], [b"bc"]] => 223 BadIndex: 9
+an index in a format in a format @ array a { p: pstring; q: }; cstring = $$Format("<%s>", $$Format("%x", q[2])); @ [[b"a"], [b"bc"]] => 01 "a" 02 "bc" "<28>" 00
+the number of the row in a format @ array a { byte; pstring = $$Format("#%d", $$ArrayIndex(a)); }; @ [[7], [8]] => 07 02 "#1" 08 02 "#2"
+the start of bits by an index @ s: array a { p: pstring; q: }; byte = $$BitField(s, p[2], 8); @ [[b"a"], [b"bc"]] => 01 "a" 02 "bc" 02
+the width of bits by an index @ s: array a { p: pstring; q: }; byte = $$BitField(s, 0, p[2] / 2); @ [[b"a"], [b"bc"]] => 01 "a" 02 "bc" 01
+the width of bits by an index that isn't there @ s: array a { p: pstring; q: }; byte = $$BitField(s, 99, p[3]); @ [[b"a"], [b"bc"]] => 223 BadIndex: 3
+bits at a label of the row @ array a { p: byte; byte = $$Byte(p) + 1; }; @ [[7], [8]] => 0708 0809
+bits before a label of the row @ byte; array a { p: byte; byte = $$BitField(p, -8, 8); }; @ 5, [[7], [8]] => 05 07 05 08 05
+// Which fault comes first.
+a late index, and a fault behind it @ byte = p[3]; array a { p: pstring; q: }; byte = 1 / 0; @ [[b"a"], [b"bc"]] => 211 ZeroDivisor
+a late index, and a late fault behind it @ byte = p[3]; array a { p: pstring; q: }; byte = e / 0; e: @ [[b"a"], [b"bc"]] => 223 BadIndex: 3
+a late fault, and a late index behind it @ byte = e / 0; array a { p: pstring; q: }; byte = e + p[3]; e: @ [[b"a"], [b"bc"]] => 211 ZeroDivisor
+an index that isn't there before one that is out of range @ array a { p: pstring; q: }; byte = p[3]; byte = p[1] + 999; @ [[b"a"], [b"bc"]] => 223 BadIndex: 3
+a place out of range before an index that isn't there @ array a { p: pstring; q: }; byte = p[1] + 999; byte = p[3]; @ [[b"a"], [b"bc"]] => 207 OutOfRange: 999
+an index before a shift @ array a { p: pstring; q: }; byte = p[3] << 32; @ [[b"a"], [b"bc"]] => 223 BadIndex: 3
+a shift before an index @ array a { p: pstring; q: }; byte = (1 << 32) + p[3]; @ [[b"a"], [b"bc"]] => 215 BadShift: 32
+an index before a late one @ array a { p: pstring; q: }; byte = p[3] + e; e: byte = 1 / 0; @ [[b"a"], [b"bc"]] => 211 ZeroDivisor
+the index of a size before what it is too large for @ array a { p: pstring; q: }; pstring[p[-1]]; @ [[b"a"], [b"bc"]], b"" => 223 BadIndex: -1
+a negative size by rows @ array a { p: pstring; q: }; string[p[1] - p[2]]; @ [[b"a"], [b"bc"]], b"" => 207 OutOfRange: -16
+a size by rows that is too large @ array a { p: pstring; q: }; pstring[p[2] * 16]; @ [[b"a"], [b"bc"]], b"" => 207 OutOfRange: 256
+a late number out of range in a row @ array a { bitstring[4] = e; pstring; e: align byte; }; @ [[b"a"], [b"bc"]] => 207 OutOfRange: 20
+pieces are counted over rows, with their labels @ array a { p: pstring; q: }; string[e]; e: @ [[b"a"], [b"bc"]], b"" => 214 SizeLater: 6
+pieces are counted over rows, and over points in them @ array a { p: rect; align long; fill bit[8]; }; string[e]; e: @ [[(1, 2, 3, 4)], [(5, 6, 7, 8)]], b"" => 214 SizeLater: 14
+""")
 
 
 @ROWS.part("The number of the row, of each array around.")
 def numbers_of_rows():
     row = ROWS.row
-    row("the number of each row", "array a { byte = $$ArrayIndex(a); byte; };", [[[7], [8], [9]]], "0107 0208 0309")
-    row("the number of each row in a bit", "array a { bitstring[1] = $$ArrayIndex(a); bitstring[7]; };", [[[7]]], "87")
-    row("the number of each row out of range", "array a { bitstring[1] = $$ArrayIndex(a); bitstring[7]; };",
-        [[[7], [8]]], "207 OutOfRange: 2")
-    row("the number of no row", "array a { byte = $$ArrayIndex(a); byte; };", [[]], "")
-    row("the number of each row and of the rows", counted("a", byte(rows_of("a") - row_of("a")), byte()), [[[7], [8], [9]]],
-        "03 0207 0108 0009")
-    row("the number of each row in a case", [rows("a", Switch([("A", [key("byte", 1), byte(row_of("a"))]),
-        ("B", [key("byte", 2), integer(row_of("a"))])]))], [[[("A", [])], [("B", [])], [("A", [])]]], "0101 02 0002 0103")
-    row("the number of each row in cases of a case", [rows("a", Switch([("A", [key("byte", 1), Switch([("B", [key("byte", 2),
-        byte(row_of("a"))])])])]))], [[[("A", [("B", [])])], [("A", [("B", [])])]]], "010201 010202")
-    row("the number of the row around a row", "array a { array[2] { byte = $$ArrayIndex(a); byte; }; };",
-        [[[[[7], [8]]], [[[9], [10]]]]], "0107 0108 0209 020A")
-    row("the numbers of both rows", "array a { array b { byte = $$ArrayIndex(a); byte = $$ArrayIndex(b); byte; }; };",
-        [[[[[7], [8]]], [[[9]]], [[]]]], "010107 010208 020109")
-    row("the number of the row by an index", "array[3] { p: byte; }; array a { byte = p[$$ArrayIndex(a)]; byte; };",
-        [[[1], [2], [3]], [[7], [8]]], "010203 0007 0808")
-    row("the number of the row by an index that isn't there",
-        "array[1] { p: byte; }; array a { byte = p[$$ArrayIndex(a)]; byte; };", [[[1]], [[7], [8]]], "223 BadIndex: 2")
-    row("the number of a row in a row behind it", [rows("a", byte(row_of("a")), byte()), rows("b", byte(row_of("b")), byte())],
-        [[[7], [8]], [[9]]], "0107 0208 0109")
+    ROWS.table(r"""
+        the number of each row @ array a { byte = $$ArrayIndex(a); byte; }; @ [[7], [8], [9]] => 0107 0208 0309
+        the number of each row in a bit @ array a { bitstring[1] = $$ArrayIndex(a); bitstring[7]; }; @ [[7]] => 87
+        the number of each row out of range @ array a { bitstring[1] = $$ArrayIndex(a); bitstring[7]; }; @ [[7], [8]] => 207 OutOfRange: 2
+        the number of no row @ array a { byte = $$ArrayIndex(a); byte; }; @ [] =>
+        the number of each row and of the rows @ byte = $$CountOf(a); array a { byte = $$CountOf(a) - $$ArrayIndex(a); byte; }; @ [[7], [8], [9]] => 03 0207 0108 0009
+        the number of each row in a case @ array a { switch { case A: key byte = 1; byte = $$ArrayIndex(a); case B: key byte = 2; integer = $$ArrayIndex(a); }; }; @ [[("A", [])], [("B", [])], [("A", [])]] => 0101 02 0002 0103
+        the number of each row in cases of a case @ array a { switch { case A: key byte = 1; switch { case B: key byte = 2; byte = $$ArrayIndex(a); }; }; }; @ [[("A", [("B", [])])], [("A", [("B", [])])]] => 010201 010202
+        the number of the row around a row @ array a { array[2] { byte = $$ArrayIndex(a); byte; }; }; @ [[[[7], [8]]], [[[9], [10]]]] => 0107 0108 0209 020A
+        the numbers of both rows @ array a { array b { byte = $$ArrayIndex(a); byte = $$ArrayIndex(b); byte; }; }; @ [[[[7], [8]]], [[[9]]], [[]]] => 010107 010208 020109
+        the number of the row by an index @ array[3] { p: byte; }; array a { byte = p[$$ArrayIndex(a)]; byte; }; @ [[1], [2], [3]], [[7], [8]] => 010203 0007 0808
+        the number of the row by an index that isn't there @ array[1] { p: byte; }; array a { byte = p[$$ArrayIndex(a)]; byte; }; @ [[1]], [[7], [8]] => 223 BadIndex: 2
+        the number of a row in a row behind it @ array a { byte = $$ArrayIndex(a); byte; }; array b { byte = $$ArrayIndex(b); byte; }; @ [[7], [8]], [[9]] => 0107 0208 0109
+    """)
     row("the number of the row in other letters", [rows("Rows", byte(row_of("rOWS")), byte())], [[[7], [8]]], "0107 0208")
     row("the number of the row of an array named true", [rows("true", byte(row_of("TRUE")), byte())], [[[7]]], "0107")
     row("the number of the row over 255", "array a { integer = $$ArrayIndex(a); bitstring[1]; fill bit[7]; };",
@@ -274,45 +209,27 @@ def numbers_of_rows():
 def bodies():
     row = ROWS.row
     inner = rows("in", Label("w"), byte())
-    nested = rows("out", Label("v"), inner, byte(at_row("w", 1)), byte(at("v")))
-    row("a label of the inner rows, in each outer one", [nested], [[[[[7], [8]]], [[[9]]]]], "0708 00 00 09 20 20")
-    row("a label of the inner rows, and an outer row without", [nested], [[[[[7]]], [[]]]], "223 BadIndex: 1")
-    row("the last of the inner rows, in each outer one", [rows("out", inner, byte(at_row("w", rows_of("in"))))],
-        [[[[[7], [8]]], [[[9]]]]], "0708 08 09 18")
-    row("a label of the inner rows, in front in each outer one", [rows("out", byte(at_row("w", 2)), inner)],
-        [[[[[7], [8]]], [[[9], [10]]]]], "10 0708 28 090A")
-    row("a label of the outer rows, in the inner ones", "array out { v: array in { byte = v; byte; }; };",
-        [[[[[7], [8]]], [[[9]]]]], "0007 0008 2009")
-    row("a label of the outer rows by an index, in the inner ones",
-        "array out { v: array in { byte = v[2]; byte; }; };", [[[[[7], [8]]], [[[9]]]]], "2007 2008 2009")
-    row("a label of the other outer row by an index", "array out { v: byte = v[3 - $$ArrayIndex(out)]; byte; };",
-        [[[7], [8]]], "1007 0008")
-    row("a label of the inner rows by an index, in them",
-        "array out { array in { w: byte = w[$$CountOf(in)]; byte; }; };", [[[[[7], [8]]], [[[9]]]]], "1007 1008 2009")
-    row("labels of both rows and of the fields around",
-        "a: byte; array out { v: array in { w: byte = a + v + w + e; byte; }; byte; }; e:",
-        [1, [[[[7]], 8], [[[9]], 10]]], "01 48 07 08 78 09 0A")
-    row("labels of two arrays side by side", "array a { p: byte; }; array b { q: byte; }; byte = p[2]; byte = q[1];",
-        [[[1], [2]], [[3]]], "0102 03 08 10")
-    row("labels of arrays in two cases of a switch",
-        "switch { case A: key byte = 1; array a { p: byte; }; byte = p[1]; case B: key byte = 2; array b { q: byte; }; byte = q[2]; }; byte;",
-        [("B", [[[7], [8]]]), 9], "02 0708 10 09")
-    row("an array in a case in rows, and its label in the case",
-        "array o { switch { case A: key byte = 1; array[1] { p: byte; }; byte = p[1]; case B: key byte = 2; }; };",
-        [[[("A", [[[7]]])], [("B", [])], [("A", [[[8]]])]]], "01 07 08 02 01 08 28")
-    row("labels of a case in a row",
-        "array o { switch { case A: key byte = 1; l: byte; byte = l; case B: m: key byte = 2; byte = m; }; };",
-        [[[("A", [7])], [("B", [])], [("A", [8])]]], "01 07 08 02 18 01 08 30")
-    row("labels before a key in rows", [rows("o", Switch([("A", [byte(), Label("k"), key("byte", 1), byte(byte_at("k"))]),
-        ("B", [byte(), key("byte", 2), byte(at("z")), Label("z")])]))], [[[("A", [7])], [("B", [8])]]], "07 01 01 08 02 30")
-    row("a label of the row in a case of it", "array o { r: switch { case A: key byte = 1; byte = r; byte; }; };",
-        [[[("A", [7])], [("A", [8])]]], "01 00 07 01 18 08")
-    row("labels of rows in rows of a stated number", [stated(2, Label("v"), stated(2, Label("w"), byte()), byte(at_row("w", 2))),
-        byte(at_row("v", 2))], [[[[[1], [2]]], [[[3], [4]]]]], "0102 08 0304 20 18")
-    row("no rows, and no index asked", "array a { p: byte; }; byte;", [[], 7], "07")
-    row("a label of rows without a name", "array { p: byte; }; byte = p[2];", [[[7], [8]]], "0708 08")
-    row("several labels of one place in a row", [rows("a", Label("p"), Label("q"), byte(), Label("r"), Label("s")),
-        byte(at_row("p", 2)), byte(at_row("q", 2)), byte(at_row("r", 1)), byte(at_row("s", 1))], [[[7], [8]]], "0708 08080808")
+    ROWS.table(r"""
+        a label of the inner rows, in each outer one @ array out { v: array in { w: byte; }; byte = w[1]; byte = v; }; @ [[[[7], [8]]], [[[9]]]] => 0708 00 00 09 20 20
+        a label of the inner rows, and an outer row without @ array out { v: array in { w: byte; }; byte = w[1]; byte = v; }; @ [[[[7]]], [[]]] => 223 BadIndex: 1
+        the last of the inner rows, in each outer one @ array out { array in { w: byte; }; byte = w[$$CountOf(in)]; }; @ [[[[7], [8]]], [[[9]]]] => 0708 08 09 18
+        a label of the inner rows, in front in each outer one @ array out { byte = w[2]; array in { w: byte; }; }; @ [[[[7], [8]]], [[[9], [10]]]] => 10 0708 28 090A
+        a label of the outer rows, in the inner ones @ array out { v: array in { byte = v; byte; }; }; @ [[[[7], [8]]], [[[9]]]] => 0007 0008 2009
+        a label of the outer rows by an index, in the inner ones @ array out { v: array in { byte = v[2]; byte; }; }; @ [[[[7], [8]]], [[[9]]]] => 2007 2008 2009
+        a label of the other outer row by an index @ array out { v: byte = v[3 - $$ArrayIndex(out)]; byte; }; @ [[7], [8]] => 1007 0008
+        a label of the inner rows by an index, in them @ array out { array in { w: byte = w[$$CountOf(in)]; byte; }; }; @ [[[[7], [8]]], [[[9]]]] => 1007 1008 2009
+        labels of both rows and of the fields around @ a: byte; array out { v: array in { w: byte = a + v + w + e; byte; }; byte; }; e: @ 1, [[[[7]], 8], [[[9]], 10]] => 01 48 07 08 78 09 0A
+        labels of two arrays side by side @ array a { p: byte; }; array b { q: byte; }; byte = p[2]; byte = q[1]; @ [[1], [2]], [[3]] => 0102 03 08 10
+        labels of arrays in two cases of a switch @ switch { case A: key byte = 1; array a { p: byte; }; byte = p[1]; case B: key byte = 2; array b { q: byte; }; byte = q[2]; }; byte; @ ("B", [[[7], [8]]]), 9 => 02 0708 10 09
+        an array in a case in rows, and its label in the case @ array o { switch { case A: key byte = 1; array[1] { p: byte; }; byte = p[1]; case B: key byte = 2; }; }; @ [[("A", [[[7]]])], [("B", [])], [("A", [[[8]]])]] => 01 07 08 02 01 08 28
+        labels of a case in a row @ array o { switch { case A: key byte = 1; l: byte; byte = l; case B: m: key byte = 2; byte = m; }; }; @ [[("A", [7])], [("B", [])], [("A", [8])]] => 01 07 08 02 18 01 08 30
+        labels before a key in rows @ array o { switch { case A: byte; k: key byte = 1; byte = $$Byte(k); case B: byte; key byte = 2; byte = z; z: }; }; @ [[("A", [7])], [("B", [8])]] => 07 01 01 08 02 30
+        a label of the row in a case of it @ array o { r: switch { case A: key byte = 1; byte = r; byte; }; }; @ [[("A", [7])], [("A", [8])]] => 01 00 07 01 18 08
+        labels of rows in rows of a stated number @ array[2] { v: array[2] { w: byte; }; byte = w[2]; }; byte = v[2]; @ [[[[1], [2]]], [[[3], [4]]]] => 0102 08 0304 20 18
+        no rows, and no index asked @ array a { p: byte; }; byte; @ [], 7 => 07
+        a label of rows without a name @ array { p: byte; }; byte = p[2]; @ [[7], [8]] => 0708 08
+        several labels of one place in a row @ array a { p: q: byte; r: s: }; byte = p[2]; byte = q[2]; byte = r[1]; byte = s[1]; @ [[7], [8]] => 0708 08080808
+    """)
     for count in (1, 2, 7, 8, 9, 100):
         row("places of bits, %d rows" % count, "array a { p: bitstring[3]; }; longint = p[%d];" % count,
             [[[k % 8] for k in range(count)]])
@@ -325,19 +242,13 @@ def bodies():
     for written, asked in [("start", "START"), ("Start", "sTART"), ("START", "start"), ("_", "_"), ("z9", "Z9")]:
         row("the label %s of rows by the name %s" % (written, asked), [rows("a", Label(written), byte(), byte(at(asked))),
             byte(at_row(asked, 2))], [[[7], [8]]], "0700 0810 10")
-    ROWS.say("A label and an array of one name, and arrays of one name in two types.")
-    row("a label in rows of its own name", "array a { a: byte = $$ArrayIndex(a); byte = a; byte; }; byte = a[2];",
-        [[[7], [8]]], "010007 021808 18")
-    ROWS.told("arrays of one name in two types", "type 'Last' { array a { w: byte; }; byte = w[1]; };\n"
-        "type 'Test' { byte; array A { W: byte; byte = $$ArrayIndex(a); }; byte = w[1]; };\n"
-        "resource 'Test' (1) { 1, { 7, 8 } };\nresource 'Test' (2) { 2, { 9 } };\n", "01 0701 0802 08", "02 0901 08")
-    ROWS.told("an index that isn't there in the second resource", "type 'Test' { array { w: byte; }; byte = w[2]; };\n"
-        "resource 'Test' (1) { { 7, 8 } };\nresource 'Test' (2) { { 9 } };\n", 3, "223 BadIndex: 2")
-    ROWS.told("an index over lines, with comments and a macro", "#define First 1\ntype 'Test' { array { w: byte; };\n"
-        "  byte = w // the place\n  [ /* of */ First\n  ]; };\nresource 'Test' (1) { { 7 } };\n", "07 00")
-    ROWS.told("functions of rows in capital letters", "TYPE 'Test' { ARRAY A { W: BYTE = $$ARRAYINDEX(a); BYTE; }; BYTE = w[$$countof(A)]; };\n"
-        "RESOURCE 'Test' (1) { { 7, 8 } };\n", "0107 0208 10")
-    ROWS.told("a copy of a type with rows", "type 'Last' { array r { w: byte; byte = $$ArrayIndex(r); }; byte = w[1] + w[2]; };\n"
-        "type 'Test' as 'Last';\nresource 'Test' (1) { { 7, 8 } };\n", "0701 0802 10")
-    ROWS.told("a type with an index for an id", "type 'Test' { byte; };\ntype 'Test' (2) { array { w: byte; }; byte = w[1]; };\n"
-        "resource 'Test' (1) { 3 };\nresource 'Test' (2) { { 7 } };\n", "03", "07 00")
+    ROWS.table(r"""
+        // A label and an array of one name, and arrays of one name in two types.
+        a label in rows of its own name @ array a { a: byte = $$ArrayIndex(a); byte = a; byte; }; byte = a[2]; @ [[7], [8]] => 010007 021808 18
+        arrays of one name in two types @ type 'Last' { array a { w: byte; }; byte = w[1]; };¶type 'Test' { byte; array A { W: byte; byte = $$ArrayIndex(a); }; byte = w[1]; };¶resource 'Test' (1) { 1, { 7, 8 } };¶resource 'Test' (2) { 2, { 9 } }; => 01 0701 0802 08 | 02 0901 08
+        an index that isn't there in the second resource @ type 'Test' { array { w: byte; }; byte = w[2]; };¶resource 'Test' (1) { { 7, 8 } };¶resource 'Test' (2) { { 9 } }; => 3: 223 BadIndex: 2
+        an index over lines, with comments and a macro @ #define First 1¶type 'Test' { array { w: byte; };¶  byte = w // the place¶  [ /* of */ First¶  ]; };¶resource 'Test' (1) { { 7 } }; => 07 00
+        functions of rows in capital letters @ TYPE 'Test' { ARRAY A { W: BYTE = $$ARRAYINDEX(a); BYTE; }; BYTE = w[$$countof(A)]; };¶RESOURCE 'Test' (1) { { 7, 8 } }; => 0107 0208 10
+        a copy of a type with rows @ type 'Last' { array r { w: byte; byte = $$ArrayIndex(r); }; byte = w[1] + w[2]; };¶type 'Test' as 'Last';¶resource 'Test' (1) { { 7, 8 } }; => 0701 0802 10
+        a type with an index for an id @ type 'Test' { byte; };¶type 'Test' (2) { array { w: byte; }; byte = w[1]; };¶resource 'Test' (1) { 3 };¶resource 'Test' (2) { { 7 } }; => 03 | 07 00
+    """)

@@ -161,91 +161,62 @@ def solving():
             ("the label in an index", at_row("w", LENGTH + 1)), ("the label in an index and outside", LENGTH + at_row("w", at("e")) * 0)]:
         body = [stated(2, Label("w"), byte())] + counted("a", byte(expr), *string(byte()))
         SHOWN.shows("a length of each row in %s can't be solved" % name, body, "dd", [[[1], [2]], []], [[[1], [2]], [[b"", 7]]])
-    case = SHOWN.shows
-    SHOWN.say("Places in rows: of the row's own labels, near and far, before and behind.")
-    case("a near place in each row", "byte = $$CountOf(a); array a { byte = e / 16 + e % 16; byte; e: byte; };", "rrrd",
-         [[]], [[[1, 2]]], [[[1, 2], [3, 4], [5, 6]]], "01 02 01 02")
-    case("a near place of the row behind isn't near", counted("a", byte(at_row("e", 1)), Label("e"), byte()), "dd", [[]], [[[1]]])
-    case("the same label solved in each row", counted("a", byte(at("e") / 8), text("cstring"), Label("e"), byte()), "rrrdr", [[]],
-        [[[b"x", 1]]], [[[b"x", 1], [b"", 2], [b"yz", 3]]], '02 04 "x" 00 01 06 00 02', '02 04 "x" 00 01 07 00 02')
-    case("a label solved twice in a row", counted("a", byte(at("e") / 8), byte(LENGTH), *string(byte())), "rrdr", [[]],
-        [[[b"x", 1], [b"", 2], [b"yz", 3]]], "01 05 01 05", '01 04 01 "x" 05')
-    case("a label solved in front of its row isn't solved",
-         "byte = e[1] / 8; byte = $$CountOf(a); array a { s: hex string; e: byte; };", "dd", "03 01 61 07", "00 00")
-    case("a label that a row solved isn't solved in the next",
-         "byte = $$CountOf(a); array a { switch { case A: key byte = 1; byte = (e - s) / 8; s: hex string; e: case B: key byte = 2; }; };",
-         "rrdd", [[[("A", [b"xy"])], [("B", [])], [("A", [b""])]]], "02 01 00 02", "01 01 02 61", "02 01 01 61 01")
-    case("a row's label isn't known in the next row",
-         "byte = $$CountOf(a); array a { p: byte; byte = p[$$ArrayIndex(a)]; };", "dd", [[]], "01 05 08")
-    case("a solved place around, in rows and behind them", [byte(at("e") / 8)] + counted("a", byte(at("e") / 8), text("pstring"))
-        + [Label("e"), byte()], "rrdd", "02 00 07", "05 01 05 01 61 07", "05 01 04 01 61 07", "04 01 04 01 61 07")
-    case("a label of a row by a solved place around", [byte(at("e") / 8)] + counted("a", byte((at("e") - at("b")) / 8),
-        text("pstring"), Label("b"), byte()) + [Label("e"), byte()], "rrd", "02 00 07", "06 01 01 01 61 05 07", "06 01 02 01 61 05 07")
-    SHOWN.say("What ends an open array with labels in its rows, and an open array in a row.")
-    case("rows up to the end of the resource", "array a { b: byte = (e - b) / 8; string; e: };", "rrrdd", "", "01",
-         '02 "x" 01 03 "yz"', "02", "00")
-    case("rows up to the end, with fields behind", [rows("a", Label("b"), integer((at("e") - at("b")) / 8), text("string"), Label("e"),
-        byte()), byte(), byte(9)], "rrdd", "07 09", '0003 "x" 05 0002 06 07 09', '0003 "x" 05 07 08', '0003 "x" 05 0002 06 07')
-    case("rows up to a solved label",
-         "byte = (z - y) / 8; y: array a { b: byte = (e - b) / 8; string; e: }; z: byte = b[2] / 8;", "rrddd",
-         '03 01 02 "x" 02', '05 02 "x" 03 "yz" 03', "01 01 02", '03 02 "x" 02 02', "00 00")
-    case("rows in each row up to a label that it solves", counted("o", byte(LENGTH), Label("s"), rows("i", Label("w"), byte()), Label("e"),
-        byte((at_row("w", 1) - at("s")) & 1)), "rrddd", [[[[[5]]]]], [[[[[5], [6]]], [[[7]]]]], "01 00 00", "01 01 05 01", "00 00")
-    case("rows in each row by a number of the row", counted("o", *counted("i", Label("w"), byte()), byte(at_row("w", 1) / 8)), "rrdd",
-        [[]], [[[[[5], [6]]], [[[7]]]]], "01 00 00", "01 01 05 03")
-    case("rows in each row by a number with the number of the row", counted("o", Label("v"), byte(rows_of("i") + row_of("o")),
-        rows("i", byte(), byte(at("v") / 8))), "rrdd", [[]], [[[[[5], [6]]], [[]]]], "01 02 05 02", "01 00")
-    case("rows of no bits by a number", "byte = $$CountOf(a); array a { p: byte; fill bit[0]; };", "rr", [[]], [[[1]]])
+    SHOWN.table(r"""
+        // Places in rows: of the row's own labels, near and far, before and behind.
+        a near place in each row @ byte = $$CountOf(a); array a { byte = e / 16 + e % 16; byte; e: byte; }; => r [[]] | r [[[1, 2]]] | r [[[1, 2], [3, 4], [5, 6]]] | d 01 02 01 02
+        a near place of the row behind isn't near @ byte = $$CountOf(a); array a { byte = e[1]; e: byte; }; => d [[]] | d [[[1]]]
+        the same label solved in each row @ byte = $$CountOf(a); array a { byte = e / 8; cstring; e: byte; }; => r [[]] | r [[[b"x", 1]]] | r [[[b"x", 1], [b"", 2], [b"yz", 3]]] | d 02 04 "x" 00 01 06 00 02 | r 02 04 "x" 00 01 07 00 02
+        a label solved twice in a row @ byte = $$CountOf(a); array a { byte = e / 8; byte = (e - s) / 8; s: hex string; e: byte; }; => r [[]] | r [[[b"x", 1], [b"", 2], [b"yz", 3]]] | d 01 05 01 05 | r 01 04 01 "x" 05
+        a label solved in front of its row isn't solved @ byte = e[1] / 8; byte = $$CountOf(a); array a { s: hex string; e: byte; }; => d 03 01 61 07 | d 00 00
+        a label that a row solved isn't solved in the next @ byte = $$CountOf(a); array a { switch { case A: key byte = 1; byte = (e - s) / 8; s: hex string; e: case B: key byte = 2; }; }; => r [[[("A", [b"xy"])], [("B", [])], [("A", [b""])]]] | r 02 01 00 02 | d 01 01 02 61 | d 02 01 01 61 01
+        a row's label isn't known in the next row @ byte = $$CountOf(a); array a { p: byte; byte = p[$$ArrayIndex(a)]; }; => d [[]] | d 01 05 08
+        a solved place around, in rows and behind them @ byte = e / 8; byte = $$CountOf(a); array a { byte = e / 8; pstring; }; e: byte; => r 02 00 07 | r 05 01 05 01 61 07 | d 05 01 04 01 61 07 | d 04 01 04 01 61 07
+        a label of a row by a solved place around @ byte = e / 8; byte = $$CountOf(a); array a { byte = (e - b) / 8; pstring; b: byte; }; e: byte; => r 02 00 07 | r 06 01 01 01 61 05 07 | d 06 01 02 01 61 05 07
+        // What ends an open array with labels in its rows, and an open array in a row.
+        rows up to the end of the resource @ array a { b: byte = (e - b) / 8; string; e: }; => r | r 01 | r 02 "x" 01 03 "yz" | d 02 | d 00
+        rows up to the end, with fields behind @ array a { b: integer = (e - b) / 8; string; e: byte; }; byte; byte = 9; => r 07 09 | r 0003 "x" 05 0002 06 07 09 | d 0003 "x" 05 07 08 | d 0003 "x" 05 0002 06 07
+        rows up to a solved label @ byte = (z - y) / 8; y: array a { b: byte = (e - b) / 8; string; e: }; z: byte = b[2] / 8; => r 03 01 02 "x" 02 | r 05 02 "x" 03 "yz" 03 | d 01 01 02 | d 03 02 "x" 02 02 | d 00 00
+        rows in each row up to a label that it solves @ byte = $$CountOf(o); array o { byte = (e - s) / 8; s: array i { w: byte; }; e: byte = w[1] - s & 1; }; => r [[[[[5]]]]] | r [[[[[5], [6]]], [[[7]]]]] | d 01 00 00 | d 01 01 05 01 | d 00 00
+        rows in each row by a number of the row @ byte = $$CountOf(o); array o { byte = $$CountOf(i); array i { w: byte; }; byte = w[1] / 8; }; => r [[]] | r [[[[[5], [6]]], [[[7]]]]] | d 01 00 00 | d 01 01 05 03
+        rows in each row by a number with the number of the row @ byte = $$CountOf(o); array o { v: byte = $$CountOf(i) + $$ArrayIndex(o); array i { byte; byte = v / 8; }; }; => r [[]] | r [[[[[5], [6]]], [[]]]] | d 01 02 05 02 | d 01 00
+        rows of no bits by a number @ byte = $$CountOf(a); array a { p: byte; fill bit[0]; }; => r [[]] | r [[[1]]]
+    """)
 
 
 @SHOWN.part("When an index is known: when its array has ended.")
 def readable():
     case = SHOWN.shows
     array = stated(2, Label("w"), byte())
-    case("an index behind its array", [array, byte(at_row("w", 2))], "rd", "0506 08", "0506 00")
-    case("an index in front of its array", [byte(at_row("w", 2) / 8), array], "d", "02 0506")
-    case("an index in its array", "array[2] { w: byte = w[1]; byte; };", "d", "0005 0006")
-    case("an index in an array of its array", "array[1] { w: array[1] { byte = w[1]; byte; }; };", "d", "0005")
-    case("an index in a case of its array", "array[1] { w: switch { case A: key byte = 1; byte = w[1]; byte; }; };",
-         "d", "010005")
-    case("an index in a case behind its array", [array, Switch([("A", [key("byte", 1), byte(at_row("w", 2))])])], "rd", "0506 01 08",
-        "0506 01 00")
-    case("an index in a row behind its array", [array, rows("a", byte(at_row("w", 2)), byte())], "rrd", "0506", "0506 0807",
-        "0506 0807 0008")
-    case("an index in a size behind its array", [array, text("string", at_row("w", 2) / 8)], "rd", '0506 "x"', "0506")
-    case("an index in a size in front of its array", [text("string", at_row("w", 1)), array], "d", "0506")
-    case("an index in a format in front of its array", [text("pstring", None, [Format(b"%d", [at_row("w", 1)])]), array], "d",
-        '01 "0" 0506')
-    case("an index in a format behind its array", [array, text("pstring", None, [Format(b"%d", [at_row("w", 2)])])], "rd",
-        '0506 01 "8"', '0506 01 "9"')
-    case("an index of an array without rows", "array[0] { w: byte; }; byte = w[1];", "dd", "00", "08")
-    case("an index of rows that the end of the resource ends", "array a { w: byte; }; byte; byte = w[2];", "rrdd",
-         "0506 07 08", "050607 07 08", "05 07 00", "0506 07 00")
-    case("an index of rows in rows from the row around", "array[2] { array[2] { w: byte; }; byte = w[2]; };", "rd",
-         "0506 08 0708 20", "0506 08 0708 08")
-    case("an index of rows in rows in other rows of them", [stated(2, stated(2, Label("w"), byte()), stated(1, byte(at_row("w", 1)),
-        byte()))], "rd", "0506 0001 0708 2002", "0506 0001 0708 0002")
-    SHOWN.say("What stands in an index.")
-    inside = [array, Label("n"), byte()]
-    for name, index, marks, contents in [
-            ("a near label", at("e") / 16, "rd", ("0506 01 08", "0506 01 00")),
-            ("a number before", byte_at("n"), "rrdd", ("0506 01 00", "0506 02 08", "0506 02 00", "0506 03 08")),
-            ("an index that is known", at_row("w", 2) / 8, "rd", ("0506 01 00", "0506 01 08")),
-            ("the index itself", at_row("w", at_row("w", at_row("w", 2) / 8) + 2) / 8, "dr", ("0506 01 01", "0506 01 00"))]:
-        case("an index by %s" % name, inside + [byte(at_row("w", index)), Label("e")], marks, *contents)
-    for name, index, behind, content in [
-            ("a place behind a string", at("z") / 24, [text("cstring"), Label("z")], "0506 00 00"),
-            ("a place behind what the end of the resource ends", at("z") / 24, [text("string"), Label("z")], "0506 00 61"),
-            ("a number of rows up to the end of the resource", rows_of("r"), [rows("r", byte())], "0506 00 07"),
-            ("a label in rows behind it", at_row("x", 1) / 24, [stated(1, Label("x"), byte())], "0506 00 07"),
-            ("a place behind its rows", at("z") / 24, [rows("r", byte()), Label("z")], "0506 00 07")]:
-        case("an index by %s isn't known" % name, [array, byte(at_row("w", index))] + behind, "d", content)
-    SHOWN.say("The number of the row where it takes part in what is read, in cases and in rows of rows.")
     said = LENGTH + row_of("a")
-    switch = Switch([("A", [key("byte", 1), byte(said)] + string()), ("B", [key("byte", 2), text("string", row_of("a"))]),
-        ("C", [key("byte", 3), text("pstring", None, [Format(b"%d", [row_of("a")])])])])
-    case("the number of the row beside a length in a case", counted("a", switch), "rrrddd", "00", '01 01 03 "xy"',
-        '04 01 03 "ab" 01 03 "c" 02 "def" 03 01 "4"', '01 01 02 "xy"', "01 02", '02 02 61 03 01 "1"')
+    SHOWN.table(r"""
+        an index behind its array @ array[2] { w: byte; }; byte = w[2]; => r 0506 08 | d 0506 00
+        an index in front of its array @ byte = w[2] / 8; array[2] { w: byte; }; => d 02 0506
+        an index in its array @ array[2] { w: byte = w[1]; byte; }; => d 0005 0006
+        an index in an array of its array @ array[1] { w: array[1] { byte = w[1]; byte; }; }; => d 0005
+        an index in a case of its array @ array[1] { w: switch { case A: key byte = 1; byte = w[1]; byte; }; }; => d 010005
+        an index in a case behind its array @ array[2] { w: byte; }; switch { case A: key byte = 1; byte = w[2]; }; => r 0506 01 08 | d 0506 01 00
+        an index in a row behind its array @ array[2] { w: byte; }; array a { byte = w[2]; byte; }; => r 0506 | r 0506 0807 | d 0506 0807 0008
+        an index in a size behind its array @ array[2] { w: byte; }; string[w[2] / 8]; => r 0506 "x" | d 0506
+        an index in a size in front of its array @ string[w[1]]; array[2] { w: byte; }; => d 0506
+        an index in a format in front of its array @ pstring = $$Format("%d", w[1]); array[2] { w: byte; }; => d 01 "0" 0506
+        an index in a format behind its array @ array[2] { w: byte; }; pstring = $$Format("%d", w[2]); => r 0506 01 "8" | d 0506 01 "9"
+        an index of an array without rows @ array[0] { w: byte; }; byte = w[1]; => d 00 | d 08
+        an index of rows that the end of the resource ends @ array a { w: byte; }; byte; byte = w[2]; => r 0506 07 08 | r 050607 07 08 | d 05 07 00 | d 0506 07 00
+        an index of rows in rows from the row around @ array[2] { array[2] { w: byte; }; byte = w[2]; }; => r 0506 08 0708 20 | d 0506 08 0708 08
+        an index of rows in rows in other rows of them @ array[2] { array[2] { w: byte; }; array[1] { byte = w[1]; byte; }; }; => r 0506 0001 0708 2002 | d 0506 0001 0708 0002
+        // What stands in an index.
+        an index by a near label @ array[2] { w: byte; }; n: byte; byte = w[e / 16]; e: => r 0506 01 08 | d 0506 01 00
+        an index by a number before @ array[2] { w: byte; }; n: byte; byte = w[$$Byte(n)]; e: => r 0506 01 00 | r 0506 02 08 | d 0506 02 00 | d 0506 03 08
+        an index by an index that is known @ array[2] { w: byte; }; n: byte; byte = w[w[2] / 8]; e: => r 0506 01 00 | d 0506 01 08
+        an index by the index itself @ array[2] { w: byte; }; n: byte; byte = w[w[w[w[2] / 8] + 2] / 8]; e: => d 0506 01 01 | r 0506 01 00
+        an index by a place behind a string isn't known @ array[2] { w: byte; }; byte = w[z / 24]; cstring; z: => d 0506 00 00
+        an index by a place behind what the end of the resource ends isn't known @ array[2] { w: byte; }; byte = w[z / 24]; string; z: => d 0506 00 61
+        an index by a number of rows up to the end of the resource isn't known @ array[2] { w: byte; }; byte = w[$$CountOf(r)]; array r { byte; }; => d 0506 00 07
+        an index by a label in rows behind it isn't known @ array[2] { w: byte; }; byte = w[x[1] / 24]; array[1] { x: byte; }; => d 0506 00 07
+        an index by a place behind its rows isn't known @ array[2] { w: byte; }; byte = w[z / 24]; array r { byte; }; z: => d 0506 00 07
+        // The number of the row where it takes part in what is read, in cases and in rows of rows.
+        the number of the row beside a length in a case @ byte = $$CountOf(a); array a { switch { case A: key byte = 1; byte = (e - s) / 8 + $$ArrayIndex(a); s: hex string; e: case B: key byte = 2; string[$$ArrayIndex(a)]; case C: key byte = 3; pstring = $$Format("%d", $$ArrayIndex(a)); }; }; => r 00 | r 01 01 03 "xy" | r 04 01 03 "ab" 01 03 "c" 02 "def" 03 01 "4" | d 01 01 02 "xy" | d 01 02 | d 02 02 61 03 01 "1"
+    """)
     for name, between in [("without a name", stated), ("with a name", lambda count, *row: Array("b", None, list(row)))]:
         ahead = [byte(rows_of("b"))] * (name == "with a name")
         body = counted("a", *ahead, between(2, byte(said), *string()))
@@ -308,24 +279,15 @@ def again():
          "integer = $$CountOf(recs); array recs { body: pstring; align word; }; integer = $$CountOf(dir); array dir { longint = body[$$ArrayIndex(dir)] / 8; byte; };",
          "rrddd", [[[b"a"], [b"bc"]], [[1], [2]]], [[], []], "0001 01 61 0001 00000001 07",
          "0001 01 61 0002 00000002 07 00000002 08", "0001 01 61 0001 00000002", out=None)
-    case("chunks in chunks",
-         "array outer { o: integer = (p - o) / 8; array inner { i: integer = (j - i) / 8; string; j: }; p: };",
-         "rrrddd", "", "0002", '0005 0003 "x"', '0005 0004 "x"', '0006 0003 "x"', '0005 0003 "x" 00')
-    case("a sum over the rows before",
-         "byte = $$CountOf(a); array a { p: pstring; }; array b { byte = (p[2] - p[1]) / 8 * $$ArrayIndex(b); byte; };",
-         "rrdd", '02 01 "x" 00', '02 01 "x" 00 02 07 04 08', '02 01 "x" 00 02 07 02 08', '01 01 "x" 00 07')
-    case("a padding byte in each row", "byte = $$CountOf(a); array a { s: pstring; e: string[(e - s) / 8 % 2]; };",
-         "rrrd", [[]], "03 00 00 01 61 02 6263 00", "01 00 01", "02 00 00 02 6263")
-    case("filler by the place in a row", "byte = $$CountOf(a); array a { byte; e: string[e / 8 % 2]; integer; };",
-         "rrd", [[[1, b"", 2], [3, b"", 4]]], "01 05 0007", "01 05 00 0007")
-    case("numbers with symbols and digits in rows",
-         "byte = $$CountOf(a); array a { p: hex integer; point; boolean; char; align byte; }; integer = p[1];", "rd",
-         [[[258, (1, -1), 1, 65], [0, (0, 0), 0, 0]]], "00 0000")
-    case("a string's last zero in rows", "byte = $$CountOf(a); array a { n: byte; string[$$Byte(n)]; };", "rrd",
-         "02 02 6100 01 62", "02 00 01 00", "01 02 61")
-    case("a cstring with a zero in rows", "byte = $$CountOf(a); array a { n: byte; cstring[$$Byte(n)]; };", "rdd",
-         "01 02 61 00", "01 03 61 00 62", "01 00")
-    case("late numbers in rows, of which bits are read", counted("a", Label("n"), byte(at("e") / 8), text("cstring"), Label("e"),
-        byte(byte_at("n") - 1)), "rrd", [[]], [[[b"x"], [b""]]], '01 04 "x" 00 04')
+    SHOWN.table(r"""
+        chunks in chunks @ array outer { o: integer = (p - o) / 8; array inner { i: integer = (j - i) / 8; string; j: }; p: }; => r | r 0002 | r 0005 0003 "x" | d 0005 0004 "x" | d 0006 0003 "x" | d 0005 0003 "x" 00
+        a sum over the rows before @ byte = $$CountOf(a); array a { p: pstring; }; array b { byte = (p[2] - p[1]) / 8 * $$ArrayIndex(b); byte; }; => r 02 01 "x" 00 | r 02 01 "x" 00 02 07 04 08 | d 02 01 "x" 00 02 07 02 08 | d 01 01 "x" 00 07
+        a padding byte in each row @ byte = $$CountOf(a); array a { s: pstring; e: string[(e - s) / 8 % 2]; }; => r [[]] | r 03 00 00 01 61 02 6263 00 | r 01 00 01 | d 02 00 00 02 6263
+        filler by the place in a row @ byte = $$CountOf(a); array a { byte; e: string[e / 8 % 2]; integer; }; => r [[[1, b"", 2], [3, b"", 4]]] | r 01 05 0007 | d 01 05 00 0007
+        numbers with symbols and digits in rows @ byte = $$CountOf(a); array a { p: hex integer; point; boolean; char; align byte; }; integer = p[1]; => r [[[258, (1, -1), 1, 65], [0, (0, 0), 0, 0]]] | d 00 0000
+        a string's last zero in rows @ byte = $$CountOf(a); array a { n: byte; string[$$Byte(n)]; }; => r 02 02 6100 01 62 | r 02 00 01 00 | d 01 02 61
+        a cstring with a zero in rows @ byte = $$CountOf(a); array a { n: byte; cstring[$$Byte(n)]; }; => r 01 02 61 00 | d 01 03 61 00 62 | d 01 00
+        late numbers in rows, of which bits are read @ byte = $$CountOf(a); array a { n: byte = e / 8; cstring; e: byte = $$Byte(n) - 1; }; => r [[]] | r [[[b"x"], [b""]]] | d 01 04 "x" 00 04
+    """)
     case("two types with arrays of one name", [rows("a", Label("w"), byte(row_of("a")), byte()), byte(), byte(at_row("W", 1))], "rd",
         "0105 0206 07 00", "0105 0206 07 08", also="type 'Last' { array A { W: byte = $$ArrayIndex(a); byte; }; };\n")

@@ -1,7 +1,7 @@
 """Writes solved.cases: what `derez` shows of types in which a number tells the place of a label behind it."""
 from label_book import Shown
-from model.label_types import (Align, Array, Expr, Label, Switch, at, bits_at, byte, byte_at, fact, field_bits, integer,
-                               key, longint, num, number, points, rows_of, text)
+from model.label_types import (Align, Array, Expr, Label, Switch, at, bits_at, byte, byte_at, fact, field_bits,
+                               integer, key, num, number, rows_of, text)
 
 SOLVED = Shown("solved.cases", "solved_cases.py", "What derez shows where a number tells the place of a label behind it.")
 FAR, FROM = at("e"), at("s")
@@ -149,31 +149,20 @@ def unsolvable():
             ("a remainder below", (FAR % 4096 - FROM) / 8),
     ]:
         lengths("a length under %s can't be solved" % name, expr, "dddd", [Label("n"), byte()], [1], "byte")
-    SOLVED.say("More than one name that isn't known, or one that isn't of the same fields.")
-    for name, body, *contents in [
-            ("two labels behind a string", [byte((FAR - FROM) / 8), text("pstring")] + string(), '02 00 "ab"', "00 00"),
-            ("two labels behind two strings",
-             [byte(at("e") - at("f")), text("pstring"), Label("f"), text("pstring"), Label("e")], "08 00 00"),
-            ("a label and a number of rows", [byte(rows_of("a") + LENGTH)] + string(byte()) + [Array("a", None, [byte()])],
-             '01 05'),
-            ("a number of rows over labels, of which one isn't known",
-             [byte(rows_of("a") + at("e") - at("s")), Label("s"), Array("a", None, [byte()]), Label("e"), byte()], "00 05"),
-            ("a label of fields around",
-             [byte(), Switch([("A", [key("byte", 1), byte(at("e") / 8), text("pstring")])]), Label("e")], "00 01 04 00"),
-            ("a label of fields around in rows", [Array(None, 1, [byte(at("e") / 8), text("pstring")]), Label("e")], "02 00"),
-            ("rows of fields around in rows", [Array("a", 1, [byte()])._replace(count=None, row=[byte(rows_of("a")), byte()])],
-             "01 05"),
-            ("rows of fields around in a case",
-             [Switch([("A", [key("byte", 1), byte(rows_of("a"))])]), Array("a", None, [byte()])], "01 01 05"),
-            ("a number of a point with two labels",
-             [points(at("e") - at("f"), 0), text("pstring"), Label("f"), text("pstring"), Label("e")], "0008 0000 00 00"),
-            ("a label in front of its case's end and one around",
-             [Switch([("A", [key("byte", 1), byte(at("i") - at("o")), text("pstring"), Label("i")])]), text("pstring"),
-                 Label("o")], "01 00 00 00"),
-            ("a label solved only behind the string",
-             [text("cstring"), Switch([("A", [key("byte", 1)] + string() + [byte(LENGTH)])])], '00 01 "ab" 02'),
-    ]:
-        SOLVED.shows("can't be read: " + name, body, "d" * len(contents), *contents)
+    SOLVED.table(r"""
+        // More than one name that isn't known, or one that isn't of the same fields.
+        can't be read: two labels behind a string @ byte = (e - s) / 8; pstring; s: hex string; e: => d 02 00 "ab" | d 00 00
+        can't be read: two labels behind two strings @ byte = e - f; pstring; f: pstring; e: => d 08 00 00
+        can't be read: a label and a number of rows @ byte = $$CountOf(a) + (e - s) / 8; s: hex string; e: byte; array a { byte; }; => d 01 05
+        can't be read: a number of rows over labels, of which one isn't known @ byte = $$CountOf(a) + e - s; s: array a { byte; }; e: byte; => d 00 05
+        can't be read: a label of fields around @ byte; switch { case A: key byte = 1; byte = e / 8; pstring; }; e: => d 00 01 04 00
+        can't be read: a label of fields around in rows @ array[1] { byte = e / 8; pstring; }; e: => d 02 00
+        can't be read: rows of fields around in rows @ array a { byte = $$CountOf(a); byte; }; => d 01 05
+        can't be read: rows of fields around in a case @ switch { case A: key byte = 1; byte = $$CountOf(a); }; array a { byte; }; => d 01 01 05
+        can't be read: a number of a point with two labels @ point = {e - f, 0}; pstring; f: pstring; e: => d 0008 0000 00 00
+        can't be read: a label in front of its case's end and one around @ switch { case A: key byte = 1; byte = i - o; pstring; i: }; pstring; o: => d 01 00 00 00
+        can't be read: a label solved only behind the string @ cstring; switch { case A: key byte = 1; s: hex string; e: byte = (e - s) / 8; }; => d 00 01 "ab" 02
+    """)
 
 
 @SOLVED.part("What stands beside a length: all that is known, with the value 2.")
@@ -254,38 +243,30 @@ def widths():
             ("a product of 0 in the end", LENGTH * 65536 * 65536, "rddddddd"),
     ]:
         lengths(name, expr, marks, form="longint")
-    for name, expr, *contents in [
-            ("a solution of -2^63", -(FAR / 2147483647 * number(-1) / number(-2147483647) / 2) - 1, "FFFFFFFF 01",
-             "00000000 01", "7FFFFFFF 01", "80000000 01"),
-            ("a solution over 2^63", (FAR >> 31) / 2147483647, "FFFFFFFF 01", "00000002 01", "00000003 01", "80000000 01"),
-            ("a solution of 2^63 on the way down again", (((FAR << 31) << 31) >> 31) >> 31, "FFFFFFFF 01", "00000028 01",
-             "00000000 01"),
-            ("a difference beyond 2^63 on the way", ((FAR >> 31) - 2147483647) >> 31, "FFFFFFFF 01", "00000001 01",
-             "80000001 01"),
-    ]:
-        SOLVED.shows(name, [longint(expr)] + string(byte()), "d" * len(contents), *contents)
+    SOLVED.table(r"""
+        a solution of -2^63 @ longint = -(e / 2147483647 * -1 / -2147483647 / 2) - 1; s: hex string; e: byte; => d FFFFFFFF 01 | d 00000000 01 | d 7FFFFFFF 01 | d 80000000 01
+        a solution over 2^63 @ longint = (e >> 31) / 2147483647; s: hex string; e: byte; => d FFFFFFFF 01 | d 00000002 01 | d 00000003 01 | d 80000000 01
+        a solution of 2^63 on the way down again @ longint = e << 31 << 31 >> 31 >> 31; s: hex string; e: byte; => d FFFFFFFF 01 | d 00000028 01 | d 00000000 01
+        a difference beyond 2^63 on the way @ longint = (e >> 31) - 2147483647 >> 31; s: hex string; e: byte; => d FFFFFFFF 01 | d 00000001 01 | d 80000001 01
+    """)
 
 
 @SOLVED.part("A solved place is where the label stands, between its number and the end of the resource.")
 def places():
     case = SOLVED.shows
     body = [byte(FAR / 8), text("pstring"), Label("e"), byte()]
-    case("a place that nothing ends at", body, "rddddd", '05 03 "abc" 07', '04 03 "abc" 07', '06 03 "abc" 07', '05 03 "abc"',
-        '00 03 "abc" 07', 'FF 03 "abc" 07')
-    case("a place of which nothing is read", "byte = e / 8; cstring; e:", "rdd", '05 "abc" 00', '04 "abc" 00',
-         '01 "abc" 00')
     body = [byte(FAR)] + string(byte())
-    case("a place in bits", body, "rrddddddd", "08 07", "10 01 07", "09 01 07", "0F 01 07", "11 01 07", "07 01 07", "00 01 07",
-        "18 01 07", "20 01 07")
     body = [byte(FAR)] + string()
-    case("a place in bits up to the end", body, "rrdddd", "08", "10 01", "11 01", "18 01", "10", "10 01 00")
     body = [byte(FAR / 8), text("pstring")] + string(byte())
-    case("a place inside of what stands between", body, "rdddd", '04 01 "a" "b" 07', '03 02 "a" "b" 07', '01 01 "a" "b" 07',
-        '00 01 "a" "b" 07', '05 01 "a" "b" 07')
-    case("a place behind an align", "byte = e / 8; pstring; align long; e: byte;", "rrddd", '04 01 "a" 00 07',
-         '08 04 "abcd" 0000 07', '03 01 "a" 00 07', '04 01 "a" 01 07', '04 02 "ab" 07 07')
-    case("a place behind a fill", "byte = e / 8; pstring; fill byte[2]; e: byte;", "rdd", '05 01 "a" 0000 07',
-         '03 01 "a" 0000 07', '05 01 "a" 0001 07')
+    SOLVED.table(r"""
+        a place that nothing ends at @ byte = e / 8; pstring; e: byte; => r 05 03 "abc" 07 | d 04 03 "abc" 07 | d 06 03 "abc" 07 | d 05 03 "abc" | d 00 03 "abc" 07 | d FF 03 "abc" 07
+        a place of which nothing is read @ byte = e / 8; cstring; e: => r 05 "abc" 00 | d 04 "abc" 00 | d 01 "abc" 00
+        a place in bits @ byte = e; s: hex string; e: byte; => r 08 07 | r 10 01 07 | d 09 01 07 | d 0F 01 07 | d 11 01 07 | d 07 01 07 | d 00 01 07 | d 18 01 07 | d 20 01 07
+        a place in bits up to the end @ byte = e; s: hex string; e: => r 08 | r 10 01 | d 11 01 | d 18 01 | d 10 | d 10 01 00
+        a place inside of what stands between @ byte = e / 8; pstring; s: hex string; e: byte; => r 04 01 "a" "b" 07 | d 03 02 "a" "b" 07 | d 01 01 "a" "b" 07 | d 00 01 "a" "b" 07 | d 05 01 "a" "b" 07
+        a place behind an align @ byte = e / 8; pstring; align long; e: byte; => r 04 01 "a" 00 07 | r 08 04 "abcd" 0000 07 | d 03 01 "a" 00 07 | d 04 01 "a" 01 07 | d 04 02 "ab" 07 07
+        a place behind a fill @ byte = e / 8; pstring; fill byte[2]; e: byte; => r 05 01 "a" 0000 07 | d 03 01 "a" 0000 07 | d 05 01 "a" 0001 07
+    """)
     case("a place within the last byte",
          "bitstring[5] = e - 8; pstring[1]; array[1] { bitstring[3]; }; pstring; bitstring[2]; e:", None,
          [b"x", [[5]], b"y", 2])
@@ -314,146 +295,68 @@ def places():
         SOLVED.shows("a place behind %s" % between, body, "r", items + [7])
 
 
-@SOLVED.part("Several numbers that name one label: the first one solves it, and the others have to be right.")
-def together():
-    case = SOLVED.shows
-    both = [byte(LENGTH), byte(LENGTH)]
-    case("two equal lengths", both + string(byte()), "rdddr", '02 02 "ab" 07', '02 01 "ab" 07', '01 02 "ab" 07',
-        '03 03 "ab" 07', "00 00 07")
-    case("a length and a place", "byte = (e - s) / 8; byte = e; s: hex string; e: byte;", "rddd", '02 20 "ab" 07',
-         '02 1F "ab" 07', '01 20 "ab" 07', '02 10 "ab" 07')
-    case("a place in words, and then a length", "byte = e / 16; byte = (e - s) / 8; s: hex string; e: byte;", "rdrd",
-         '02 02 "ab" 07', '01 01 "a" 07', "01 00 07", '02 03 "abc" 07')
-    case("a length, and then a place in words", "byte = (e - s) / 8; byte = e / 16; s: hex string; e: byte;", "rrrrd",
-         '02 02 "ab" 07', '01 01 "a" 07', "00 01 07", '03 02 "abc" 07', '03 03 "abc" 07')
-    case("a length, and then what can't be undone", [byte(LENGTH), byte(FAR & 15), byte(FAR % 10)] + string(byte()), "rrdd",
-        "00 08 04 07", '01 00 02 "a" 07', '01 00 03 "a" 07', '01 01 02 "a" 07')
-    case("what can't be undone, and then a length", [byte(FAR & 15), byte(LENGTH)] + string(byte()), "d", '00 02 "ab" 07')
-    case("a length, and then one that wraps", "byte = (e - s) / 8; longint = e << 28; s: hex string; e: byte;", "rd",
-         '02 80000000 "ab" 07', '02 00000000 "ab" 07')
-    case("a length, and then one out of range", [byte(LENGTH), field_bits(8, FAR * 16)] + string(byte()), "d", '02 00 "ab" 07')
-    case("a length, and then one times 0", "byte = (e - s) / 8; byte = e * 0; s: hex string; e: byte;", "rd",
-         '02 00 "ab" 07', '02 01 "ab" 07')
-    case("a length, and then with the label twice", "byte = (e - s) / 8; byte = (e + e) / 16; s: hex string; e: byte;",
-         "rd", '02 04 "ab" 07', '02 05 "ab" 07')
-    case("a length in front and one behind", "byte = (e - s) / 8; s: hex string; e: byte = (e - s) / 8;", "rdd",
-         '02 "ab" 02', '02 "ab" 01', '02 "ab" 00')
-    case("a place and half of it for the next label", "byte = b / 8; byte = c - b; string; b: string; c: byte;", "rdd",
-         '04 10 "ab" "cd" 07', '04 0F "ab" "cd" 07', '03 10 "ab" "cd" 07')
-    case("a length of the whole by the length of a part", "byte = c / 8 - b / 8; byte = b / 8; string; b: string; c:",
-         "d", '02 04 "ab" "cd"')
-    case("three lengths of which each rests on the last",
-         "byte = a; byte = b - a; byte = c - b; string; a: string; b: string; c:", "rdd", '20 10 00 "a" "bc"',
-         '20 10 00 "a" "b"', '20 0F 01 "a" "bc"')
-    SOLVED.say("Points and rectangles: two or four numbers, one after the other.")
-    case("a point that solves and names", "point = {e - s, e}; s: hex string; e: byte;", "rdd", '0010 0030 "ab" 07',
-         '0010 0031 "ab" 07', '0011 0030 "ab" 07')
-    case("a point that names and solves", "point = {7, e - s}; s: hex string; e: byte;", "rd", '0007 0010 "ab" 07',
-         '0008 0010 "ab" 07')
-    case("a point that solves two labels", "point = {b, d}; string; b: byte = 1; string; d:", "rd",
-         '0028 0038 "a" 01 "b"', '0028 0030 "a" 01 "b"')
-    case("a point whose second number can't be undone before the first one",
-         "point = {e & 255, e}; s: hex string; e: byte;", "d", '0030 0030 "ab" 07')
-    case("a point whose second number can't be undone", "point = {e, e & 255}; s: hex string; e: byte;", "rd",
-         '0030 0030 "ab" 07', '0030 0031 "ab" 07')
-    case("a rectangle that solves, and names three times", "rect = {(e - s) / 8, e, e / 8, s}; s: hex string; e: byte;",
-         "rdd", '0002 0050 000A 0040 "ab" 07', '0002 0050 000A 0041 "ab" 07', '0001 0050 000A 0040 "ab" 07')
-    case("a rectangle that solves four labels",
-         "rect = {a, b - a, c - b, d - c}; string; a: string; b: string; c: string; d:", "rrd",
-         '0048 0000 0010 0000 "a" "bc"', '0040 0000 0000 0000', '0041 0000 0000 0000')
-    case("a point that reads its first number", "p: point = {(e - s) / 8, $$Word(p) + e}; s: hex string; e: byte;",
-         "rd", '0002 0032 "ab" 07', '0002 0033 "ab" 07')
+SOLVED.lines_of("Several numbers that name one label: the first one solves it, and the others have to be right.", r"""
+two equal lengths @ byte = (e - s) / 8; byte = (e - s) / 8; s: hex string; e: byte; => r 02 02 "ab" 07 | d 02 01 "ab" 07 | d 01 02 "ab" 07 | d 03 03 "ab" 07 | r 00 00 07
+a length and a place @ byte = (e - s) / 8; byte = e; s: hex string; e: byte; => r 02 20 "ab" 07 | d 02 1F "ab" 07 | d 01 20 "ab" 07 | d 02 10 "ab" 07
+a place in words, and then a length @ byte = e / 16; byte = (e - s) / 8; s: hex string; e: byte; => r 02 02 "ab" 07 | d 01 01 "a" 07 | r 01 00 07 | d 02 03 "abc" 07
+a length, and then a place in words @ byte = (e - s) / 8; byte = e / 16; s: hex string; e: byte; => r 02 02 "ab" 07 | r 01 01 "a" 07 | r 00 01 07 | r 03 02 "abc" 07 | d 03 03 "abc" 07
+a length, and then what can't be undone @ byte = (e - s) / 8; byte = e & 15; byte = e % 10; s: hex string; e: byte; => r 00 08 04 07 | r 01 00 02 "a" 07 | d 01 00 03 "a" 07 | d 01 01 02 "a" 07
+what can't be undone, and then a length @ byte = e & 15; byte = (e - s) / 8; s: hex string; e: byte; => d 00 02 "ab" 07
+a length, and then one that wraps @ byte = (e - s) / 8; longint = e << 28; s: hex string; e: byte; => r 02 80000000 "ab" 07 | d 02 00000000 "ab" 07
+a length, and then one out of range @ byte = (e - s) / 8; bitstring[8] = e * 16; s: hex string; e: byte; => d 02 00 "ab" 07
+a length, and then one times 0 @ byte = (e - s) / 8; byte = e * 0; s: hex string; e: byte; => r 02 00 "ab" 07 | d 02 01 "ab" 07
+a length, and then with the label twice @ byte = (e - s) / 8; byte = (e + e) / 16; s: hex string; e: byte; => r 02 04 "ab" 07 | d 02 05 "ab" 07
+a length in front and one behind @ byte = (e - s) / 8; s: hex string; e: byte = (e - s) / 8; => r 02 "ab" 02 | d 02 "ab" 01 | d 02 "ab" 00
+a place and half of it for the next label @ byte = b / 8; byte = c - b; string; b: string; c: byte; => r 04 10 "ab" "cd" 07 | d 04 0F "ab" "cd" 07 | d 03 10 "ab" "cd" 07
+a length of the whole by the length of a part @ byte = c / 8 - b / 8; byte = b / 8; string; b: string; c: => d 02 04 "ab" "cd"
+three lengths of which each rests on the last @ byte = a; byte = b - a; byte = c - b; string; a: string; b: string; c: => r 20 10 00 "a" "bc" | d 20 10 00 "a" "b" | d 20 0F 01 "a" "bc"
+// Points and rectangles: two or four numbers, one after the other.
+a point that solves and names @ point = {e - s, e}; s: hex string; e: byte; => r 0010 0030 "ab" 07 | d 0010 0031 "ab" 07 | d 0011 0030 "ab" 07
+a point that names and solves @ point = {7, e - s}; s: hex string; e: byte; => r 0007 0010 "ab" 07 | d 0008 0010 "ab" 07
+a point that solves two labels @ point = {b, d}; string; b: byte = 1; string; d: => r 0028 0038 "a" 01 "b" | d 0028 0030 "a" 01 "b"
+a point whose second number can't be undone before the first one @ point = {e & 255, e}; s: hex string; e: byte; => d 0030 0030 "ab" 07
+a point whose second number can't be undone @ point = {e, e & 255}; s: hex string; e: byte; => r 0030 0030 "ab" 07 | d 0030 0031 "ab" 07
+a rectangle that solves, and names three times @ rect = {(e - s) / 8, e, e / 8, s}; s: hex string; e: byte; => r 0002 0050 000A 0040 "ab" 07 | d 0002 0050 000A 0041 "ab" 07 | d 0001 0050 000A 0040 "ab" 07
+a rectangle that solves four labels @ rect = {a, b - a, c - b, d - c}; string; a: string; b: string; c: string; d: => r 0048 0000 0010 0000 "a" "bc" | r 0040 0000 0000 0000 | d 0041 0000 0000 0000
+a point that reads its first number @ p: point = {(e - s) / 8, $$Word(p) + e}; s: hex string; e: byte; => r 0002 0032 "ab" 07 | d 0002 0033 "ab" 07
+""")
 
+SOLVED.lines_of("Numbers of rows and places.", r"""
+a number of rows over a near place @ byte = $$CountOf(a) + s; s: array a { byte; }; byte; => r 08 07 | r 0A 01 02 07 | d 07 07 | d 0A 01 07
+a number of rows times a place @ p: byte = 7; q: byte = $$CountOf(a) * (q - p) / 4; array a { byte; }; => r 07 00 | r 07 02 05 | d 07 01 | d 07 01 05 | d 07 02 05 06
+a number of rows by bits @ n: byte; byte = $$CountOf(a) - $$Byte(n); array a { byte; }; => r 02 00 05 06 | r 02 FF 05 | d 02 01 05 06 | r 02 FE
+a place less a number of rows that is known @ byte = $$CountOf(a); array a { byte; }; byte = (e - s) / 8 - $$CountOf(a); s: hex string; e: byte; => r 02 05 06 01 "abc" 07 | d 02 05 06 02 "abc" 07 | r 01 05 00 "a" 07 | d 01 05 FF 07
+a place by a number of rows that was solved @ byte = $$CountOf(a); byte = e / 8 - $$CountOf(a) * 2; array a { byte; }; e: string; => r 02 00 05 06 07 | r 00 02 07 | d 02 01 05 06 07
+a number of rows and a place, each of its own @ byte = $$CountOf(a); byte = (e - s) / 16; s: array a { integer; }; e: byte; => r 02 02 0001 0002 07 | r 00 00 07 | d 02 01 0001 0002 07 | d 01 02 0001 0002 07 | d 01 02 0001 07
+a number of rows by the place of their end @ byte = e / 8; array a { byte; }; e: byte = $$CountOf(a); => r 03 05 06 02 | d 03 05 06 03 | d 02 05 06 02
+a number of rows that the place gives and the rows don't @ byte = $$CountOf(a); byte = e - s; s: array a { bitstring[4]; }; e: align byte; byte; => r 02 08 12 07 | r 01 04 10 07 | d 02 04 12 07 | d 01 08 10 07 | r 03 0C 1230 07
+a number of rows less than none over a place @ byte = $$CountOf(a) + s + 1; s: array a { byte; }; => d 08 | r 09 | r 0A 05
+rows by a place in a bitstring @ bitstring[4] = $$CountOf(a) + s; s: array a { bitstring[4]; }; => r 40 | r 51 | r 61 00 | d 51 00
+""")
 
-@SOLVED.part("Numbers of rows and places.")
-def counts():
-    case = SOLVED.shows
-    rows = Array("a", None, [byte()])
-    case("a number of rows over a near place", [byte(rows_of("a") + at("s")), Label("s"), rows, byte()], "rrdd", "08 07",
-        "0A 01 02 07", "07 07", "0A 01 07")
-    case("a number of rows times a place",
-        [Label("p"), byte(7), Label("q"), byte(rows_of("a") * (at("q") - at("p")) / 4), rows], "rrddd", "07 00", "07 02 05",
-        "07 01", "07 01 05", "07 02 05 06")
-    case("a number of rows by bits", [Label("n"), byte(), byte(rows_of("a") - byte_at("n")), rows], "rrdr", "02 00 05 06",
-        "02 FF 05", "02 01 05 06", "02 FE")
-    case("a place less a number of rows that is known",
-        [byte(rows_of("a")), rows, byte(LENGTH - rows_of("a"))] + string(byte()), "rdrd", '02 05 06 01 "abc" 07',
-        '02 05 06 02 "abc" 07', '01 05 00 "a" 07', '01 05 FF 07')
-    case("a place by a number of rows that was solved",
-         "byte = $$CountOf(a); byte = e / 8 - $$CountOf(a) * 2; array a { byte; }; e: string;", "rrd", "02 00 05 06 07",
-         "00 02 07", "02 01 05 06 07")
-    case("a number of rows and a place, each of its own",
-         "byte = $$CountOf(a); byte = (e - s) / 16; s: array a { integer; }; e: byte;", "rrddd", "02 02 0001 0002 07",
-         "00 00 07", "02 01 0001 0002 07", "01 02 0001 0002 07", "01 02 0001 07")
-    case("a number of rows by the place of their end", "byte = e / 8; array a { byte; }; e: byte = $$CountOf(a);",
-         "rdd", "03 05 06 02", "03 05 06 03", "02 05 06 02")
-    case("a number of rows that the place gives and the rows don't",
-         "byte = $$CountOf(a); byte = e - s; s: array a { bitstring[4]; }; e: align byte; byte;", "rrddr",
-         "02 08 12 07", "01 04 10 07", "02 04 12 07", "01 08 10 07", "03 0C 1230 07")
-    case("a number of rows less than none over a place", [byte(rows_of("a") + at("s") + 1), Label("s"), rows], "drr", "08",
-        "09", "0A 05")
-    case("rows by a place in a bitstring", "bitstring[4] = $$CountOf(a) + s; s: array a { bitstring[4]; };", "rrrd",
-         "40", "51", "61 00", "51 00")
-
-
-@SOLVED.part("Solved labels of the fields around, in rows and in cases.")
-def bodies():
-    case = SOLVED.shows
-    names = [byte(), byte(FAR)]
-    case("a solved place in rows before it", [byte(FAR / 8), Array("a", None, names), Label("e"), byte()], "rrdd", "01 07",
-        "03 05 18 07", "03 05 19 07", "05 05 28 06 29 07")
-    case("a solved place in the rows that it ends", [byte(FAR / 8), Array("a", None, names), Label("e")], "rrdd",
-        "05 05 28 06 28", "01", "05 05 28 06 29", "04 05 20 06")
-    case("a near place isn't known in rows of rows",
-        [byte(FAR / 8), Array(None, 2, [Array(None, 1, names)]), Label("e"), byte()], "d", "05 05 28 06 28 07")
-    case("a solved place in rows of rows",
-        [byte(FAR / 8), text("cstring"), Array(None, 2, [Array(None, 1, names)]), Label("e"), byte()], "rdd",
-        "06 00 05 30 06 30 07", "06 00 05 30 06 31 07", "05 00 05 28 06 28 07")
-    case("a solved place that can't be undone in rows", "byte = e / 8; array a { byte = e % 16; byte; }; e: byte;",
-         "rd", "03 08 05 07", "03 09 05 07")
-    case("a near place isn't known in rows", [byte(FAR), Array(None, 1, names), Label("e")], "d", "18 05 18")
-    case("a place over a switch is solved, and known in its case",
-         "byte = e; switch { case A: key byte = 1; byte = e; }; e:", "rdd", "18 01 18", "18 01 10", "10 01 18")
-    case("a place behind the rows isn't known in them", [Array(None, 1, names), Label("e")], "d", "05 10")
-    case("a place before the rows is known in them", [Label("e"), Array(None, None, names)], "rrd", "", "05 00 06 00",
-        "05 00 06 08")
-    case("a solved place in a case",
-         "byte = e / 8; switch { case A: key byte = 1; byte = e; case B: key byte = 2; }; e: byte;", "rrdd",
-         "03 01 18 07", "02 02 07", "03 01 10 07", "03 02 07")
-    case("a solved place in a case of a case",
-         "byte = e / 8; switch { case A: key byte = 1; switch { case B: key byte = 2; byte = e; }; }; e:", "rd",
-         "04 01 02 20", "04 01 02 21")
-    case("a solved place doesn't end a string of a case", "byte = e / 8; switch { case A: key byte = 1; string; }; e:",
-         "d", '03 01 "a"')
-    case("a solved place of the fields around doesn't end rows of a case",
-         "byte = e / 8; switch { case A: key byte = 1; array { byte; }; }; e:", "d", '03 01 "a"')
-    case("a solved place doesn't end a string of a row", "byte = e / 8; array[1] { string; }; e:", "d", '02 "a"')
-    SOLVED.say("Labels of a case.")
-    length = (at("y") - at("x")) / 8
-    inner = [Label("x"), text("string"), Label("y")]
-    case("a length in a case", [Switch([("A", [key("byte", 1), byte(length)] + inner), ("B", [key("byte", 2)])]), byte()],
-        "rrdd", '01 02 "ab" 07', "02 07", '01 02 "ab"', '01 03 "ab" 07')
-    case("a length in a case before its key",
-        [Switch([("A", [byte(length), key("byte", 1)] + inner), ("B", [byte(5), key("byte", 2)])]), byte()], "rrdd",
-        '02 01 "ab" 07', "05 02 07", "06 02 07", '03 01 "ab" 07')
-    case("a length in each of two cases",
-         "switch { case A: key byte = 1; byte = (b - a) / 8; a: string; b: case B: key byte = 2; byte = d - c; c: string; d: }; byte;",
-         "rrdd", '01 02 "ab" 07', '02 10 "ab" 07', '01 10 "ab" 07', '02 02 "ab" 07')
-    case("a length in a case and one around it",
-        [byte(FAR / 8), Switch([("A", [key("byte", 1), byte(length)] + inner)]), Label("e"), byte()], "rddd",
-        '05 01 02 "ab" 07', '04 01 02 "ab" 07', '05 01 01 "ab" 07', '06 01 03 "ab" 07')
-    case("a length in a case by a solved place around it",
-        [byte(FAR / 8), Switch([("A", [key("byte", 1), byte(FAR / 8 - at("y") / 8)] + inner)]), Label("e"), byte()], "rdd",
-        '05 01 00 "ab" 07', '05 01 01 "ab" 07', '04 01 00 "ab" 07')
-    case("a place in a case over a case",
-        [Switch([("A", [key("byte", 1), byte(at("y") / 8), Switch([("B", [key("byte", 2)])])] + inner)]), byte()], "rd",
-        '01 04 02 "a" 07', '01 05 02 "a" 07')
-    case("a length in a case over a case",
-        [Switch([("A", [key("byte", 1), byte(length), Switch([("B", [key("byte", 2)])])] + inner)]), byte()], "d",
-        '01 01 02 "a" 07')
-    case("a length in rows of a case",
-        [Switch([("A", [key("byte", 1), byte(length), Label("x"), Array(None, None, [byte(), byte(at("y"))]), Label("y")])]),
-            byte()], "rrdd", "01 02 05 20 07", "01 00 07", "01 02 05 21 07", "01 01 05 07")
-    case("a number of rows in rows, by places around them",
-         "p: byte; q: array[2] { byte = $$CountOf(a) + q - p; array a { byte; }; };", "rrdd", "07 09 05 08",
-         "07 08 0A 05 06", "07 07 08", "07 08 09")
+SOLVED.lines_of("Solved labels of the fields around, in rows and in cases.", r"""
+a solved place in rows before it @ byte = e / 8; array a { byte; byte = e; }; e: byte; => r 01 07 | r 03 05 18 07 | d 03 05 19 07 | d 05 05 28 06 29 07
+a solved place in the rows that it ends @ byte = e / 8; array a { byte; byte = e; }; e: => r 05 05 28 06 28 | r 01 | d 05 05 28 06 29 | d 04 05 20 06
+a near place isn't known in rows of rows @ byte = e / 8; array[2] { array[1] { byte; byte = e; }; }; e: byte; => d 05 05 28 06 28 07
+a solved place in rows of rows @ byte = e / 8; cstring; array[2] { array[1] { byte; byte = e; }; }; e: byte; => r 06 00 05 30 06 30 07 | d 06 00 05 30 06 31 07 | d 05 00 05 28 06 28 07
+a solved place that can't be undone in rows @ byte = e / 8; array a { byte = e % 16; byte; }; e: byte; => r 03 08 05 07 | d 03 09 05 07
+a near place isn't known in rows @ byte = e; array[1] { byte; byte = e; }; e: => d 18 05 18
+a place over a switch is solved, and known in its case @ byte = e; switch { case A: key byte = 1; byte = e; }; e: => r 18 01 18 | d 18 01 10 | d 10 01 18
+a place behind the rows isn't known in them @ array[1] { byte; byte = e; }; e: => d 05 10
+a place before the rows is known in them @ e: array { byte; byte = e; }; => r | r 05 00 06 00 | d 05 00 06 08
+a solved place in a case @ byte = e / 8; switch { case A: key byte = 1; byte = e; case B: key byte = 2; }; e: byte; => r 03 01 18 07 | r 02 02 07 | d 03 01 10 07 | d 03 02 07
+a solved place in a case of a case @ byte = e / 8; switch { case A: key byte = 1; switch { case B: key byte = 2; byte = e; }; }; e: => r 04 01 02 20 | d 04 01 02 21
+a solved place doesn't end a string of a case @ byte = e / 8; switch { case A: key byte = 1; string; }; e: => d 03 01 "a"
+a solved place of the fields around doesn't end rows of a case @ byte = e / 8; switch { case A: key byte = 1; array { byte; }; }; e: => d 03 01 "a"
+a solved place doesn't end a string of a row @ byte = e / 8; array[1] { string; }; e: => d 02 "a"
+// Labels of a case.
+a length in a case @ switch { case A: key byte = 1; byte = (y - x) / 8; x: string; y: case B: key byte = 2; }; byte; => r 01 02 "ab" 07 | r 02 07 | d 01 02 "ab" | d 01 03 "ab" 07
+a length in a case before its key @ switch { case A: byte = (y - x) / 8; key byte = 1; x: string; y: case B: byte = 5; key byte = 2; }; byte; => r 02 01 "ab" 07 | r 05 02 07 | d 06 02 07 | d 03 01 "ab" 07
+a length in each of two cases @ switch { case A: key byte = 1; byte = (b - a) / 8; a: string; b: case B: key byte = 2; byte = d - c; c: string; d: }; byte; => r 01 02 "ab" 07 | r 02 10 "ab" 07 | d 01 10 "ab" 07 | d 02 02 "ab" 07
+a length in a case and one around it @ byte = e / 8; switch { case A: key byte = 1; byte = (y - x) / 8; x: string; y: }; e: byte; => r 05 01 02 "ab" 07 | d 04 01 02 "ab" 07 | d 05 01 01 "ab" 07 | d 06 01 03 "ab" 07
+a length in a case by a solved place around it @ byte = e / 8; switch { case A: key byte = 1; byte = e / 8 - y / 8; x: string; y: }; e: byte; => r 05 01 00 "ab" 07 | d 05 01 01 "ab" 07 | d 04 01 00 "ab" 07
+a place in a case over a case @ switch { case A: key byte = 1; byte = y / 8; switch { case B: key byte = 2; }; x: string; y: }; byte; => r 01 04 02 "a" 07 | d 01 05 02 "a" 07
+a length in a case over a case @ switch { case A: key byte = 1; byte = (y - x) / 8; switch { case B: key byte = 2; }; x: string; y: }; byte; => d 01 01 02 "a" 07
+a length in rows of a case @ switch { case A: key byte = 1; byte = (y - x) / 8; x: array { byte; byte = y; }; y: }; byte; => r 01 02 05 20 07 | r 01 00 07 | d 01 02 05 21 07 | d 01 01 05 07
+a number of rows in rows, by places around them @ p: byte; q: array[2] { byte = $$CountOf(a) + q - p; array a { byte; }; }; => r 07 09 05 08 | r 07 08 0A 05 06 | d 07 07 08 | d 07 08 09
+""")

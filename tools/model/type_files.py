@@ -121,12 +121,12 @@ class Reader:
             return inner
         if token.lower() in ("$$countof", "$$arrayindex"):
             self.want("(")
-            name = self.next().lower()
+            name = self.next()
             self.want(")")
             return "rows" if token.lower() == "$$countof" else "row", name
         if token.lower() in FUNCTIONS:
             self.want("(")
-            bits = ("bits", FUNCTIONS[token.lower()], self.next().lower())
+            bits = ("bits", FUNCTIONS[token.lower()], self.next())
             while self.take(","):
                 bits += (self.expression(),)
             self.want(")")
@@ -140,10 +140,10 @@ class Reader:
         if self.take("["):
             index = self.expression()
             self.want("]")
-            return "index", token.lower(), index
+            return "index", token, index
         if token.lower() in ("true", "false"):
             return "number", int(token.lower() == "true")
-        return ("fact", FACTS[token.lower()]) if token.lower() in FACTS else ("name", token.lower())
+        return ("fact", FACTS[token.lower()]) if token.lower() in FACTS else ("name", token)
 
     def constant(self):
         return value_of(self.expression(), None)
@@ -161,7 +161,7 @@ class Reader:
 
     def field(self):
         if self.peek(1) == ":":
-            name = self.next().lower()
+            name = self.next()
             self.want(":")
             return Label(name)
         if self.peek() in ("fill", "align"):
@@ -258,7 +258,7 @@ class Reader:
             count = self.constant()
             self.want("]")
         elif self.peek() != "{":
-            name = self.next().lower()
+            name = self.next()
         self.want("{")
         row = self.fields()
         self.want("}")
