@@ -97,8 +97,8 @@ SHAPES = {what: shape for what, shape, _ in FORKS_BY_HAND}
 def every_shape():
     for name, fork in SHAPES.items():
         FORKS.derez("derez of %s" % name, "derez f", {"f": fork})
-        FORKS.rez("include %s" % name, include("f"), files={"f": fork})
-        FORKS.rez("begin with %s" % name, NOTHING, words="rez s.r -a -o x", files={"x": fork})
+        FORKS.rez("include %s" % name, include("f"), f=fork)
+        FORKS.rez("begin with %s" % name, NOTHING, words="rez s.r -a -o x", x=fork)
     FORKS.say("The text of a fork is compiled to a fork in which nothing is shared.")
     for name in ("two resources of the same bytes", "a name that resources of two types share", "lists that overlap",
                  "types without references alone"):
@@ -186,7 +186,7 @@ def protected_ones():
     every = include("f")
 
     def refused(name, says, *items, **more):
-        of_six("include " + name, *items, err="s.r:%d: error %s" % (len(items), says), **more)
+        of_six("include " + name, *items, err="%d: %s" % (len(items), says), **more)
 
     refused("in the place of a protected one", "219 Protected: 'Test' -3", first, every)
     refused("in the place of the last, which is protected", "219 Protected: 'More' 2",
@@ -286,16 +286,16 @@ def forms():
         of_six("include from a fork that shares bytes in %s" % form, include("f", "Test", Name("two")),
                files={"f": in_form(form, SIX)})
         FORKS.rez("begin with a fork that shares bytes in %s" % form, NOTHING, words="rez s.r -a -o x",
-                  files={"x": in_form(form, kept)}, moment=86400)
+                  x=in_form(form, kept), moment=86400)
         FORKS.rez("begin with a fork that shares bytes in %s, and change it" % form, delete("Test", Id(1)),
                   change("Last", Id(2), "Test", Head(2, "")), include("x", "Test", Id(1), "Copy"),
-                  words="rez s.r -a -ov -o x", files={"x": in_form(form, SIX)})
+                  words="rez s.r -a -ov -o x", x=in_form(form, SIX))
     FORKS.say("One that may be read only isn't begun with (220), in each form; statements take from it.")
     for form in FORMS:
         closed = in_form(form, laid(*each(("Test", [reference(1), reference(2)])), held(b"\1\2"), attributes=0x10C0))
         FORKS.rez("begin with a read-only fork that shares bytes in %s" % form, ("x;", None),
-                  words="rez s.r -a -ov -o x", files={"x": closed}, err="error 220 ReadOnlyMap: 4288")
-        FORKS.rez("include from a read-only fork that shares bytes in %s" % form, include("x"), files={"x": closed})
+                  words="rez s.r -a -ov -o x", x=closed, err="error 220 ReadOnlyMap: 4288")
+        FORKS.rez("include from a read-only fork that shares bytes in %s" % form, include("x"), x=closed)
 
 
 def of_ids(*groups, area=held(b"")):
@@ -321,14 +321,14 @@ def ids():
             ("the same ids in two types", ("Test", [1, 2, 64]), ("Last", [64, 1, 2])),
             ("the same ids in types around one without references", ("Test", [7, 71]), ("None", []), ("Last", [71, 7]))]:
         FORKS.derez("derez of " + name, "derez f", {"f": of_ids(*groups)})
-        FORKS.rez("begin with " + name, NOTHING, words="rez s.r -a -o x", files={"x": of_ids(*groups)})
+        FORKS.rez("begin with " + name, NOTHING, words="rez s.r -a -o x", x=of_ids(*groups))
     many = list(range(65))
     for name, idents in [("65 ids in a row", many), ("65 ids in a row backwards", many[::-1]),
                          ("65 ids of which each is 64 after one before", [64 * k for k in many]),
                          ("130 ids around 0", list(range(-65, 65)))]:
         FORKS.derez("derez of " + name, "derez f -skip Test", {"f": of_ids(("Test", idents))})
     FORKS.rez("include one of 65 ids of two types", include("f", "Last", Id(64)),
-              files={"f": of_ids(("Test", many), ("Last", many))})
+              f=of_ids(("Test", many), ("Last", many)))
     FORKS.say("Ids that a type has twice: the first later reference is told.")
     for name, position, value, *groups in [
             ("an id twice in a row", 1, 1, ("Test", [1, 1])),
@@ -350,11 +350,11 @@ def ids():
     shared = laid([("Test", 2, 0), ("Last", 3, 0)], reference(1) + reference(2) + reference(1))
     FORKS.derez("derez of an id twice in the longer of two lists that overlap", "derez f", {"f": shared},
                 err="error 410 Repeated: %d 1" % place_of(2, 2))
-    FORKS.rez("include from a fork with an id twice", NOTHING, include("f", "Test", Id(40000)), files={"f": SAME_ID},
-              err="s.r:2: error 410 Repeated: %d 1" % place_of(1, 1))
+    FORKS.rez("include from a fork with an id twice", NOTHING, include("f", "Test", Id(40000)), f=SAME_ID,
+              err="2: 410 Repeated: %d 1" % place_of(1, 1))
     for form in FORMS:
         FORKS.rez("begin with a fork with an id twice in %s" % form, ("x;", None), words="rez s.r -a -o x",
-                  files={"x": in_form(form, SAME_ID)}, err="error 410 Repeated: %d 1" % place_of(1, 1))
+                  x=in_form(form, SAME_ID), err="error 410 Repeated: %d 1" % place_of(1, 1))
 
 
 def codes(count):
@@ -370,7 +370,7 @@ def types():
     many = codes(300)
     FORKS.derez("derez of a type behind 300 others", "derez f -only Last", {"f": of_ids(*[(kind, []) for kind in many], ("Last", [1]))})
     FORKS.rez("include a type behind 300 others", include("f", "Last", Id(1)),
-              files={"f": of_ids(*[(kind, []) for kind in many], ("Last", [1]))})
+              f=of_ids(*[(kind, []) for kind in many], ("Last", [1])))
     for name, position, kinds in [
             ("a type twice in a row", 1, [b"Test", b"Test", b"Last"]),
             ("a type three times", 2, [b"Test", b"Last", b"Test", b"Test"]),
@@ -388,8 +388,8 @@ def types():
     twice = of_ids(("Test", [1, 1]), ("Last", []), ("Test", [1]))
     FORKS.derez("derez of a type twice behind an id twice", "derez f", {"f": twice}, err="error 410 Repeated: 306 1415934836")
     FORKS.rez("include from a fork with a type twice, of which one has no references", include("f"),
-              files={"f": of_ids(("Test", []), ("Test", [1]))}, err="s.r:1: error 410 Repeated: 298 1415934836")
-    FORKS.rez("begin with a fork with a type twice", NOTHING, words="rez s.r -a -o x", files={"x": twice},
+              f=of_ids(("Test", []), ("Test", [1])), err="410 Repeated: 298 1415934836")
+    FORKS.rez("begin with a fork with a type twice", NOTHING, words="rez s.r -a -o x", x=twice,
               err="error 410 Repeated: 306 1415934836")
     outside = laid(*each(("Test", [reference(1, 0, 0)]), ("Test", [reference(1)])), names=b"\5name")
     FORKS.derez("derez of a name outside and a type twice", "derez f", {"f": outside}, err="error 409 NameOutside: 330 0")

@@ -2,6 +2,8 @@
 
 Each line of `err` is written by hand where a case stands, and must be what the run comes to.
 """
+import re
+
 from casefile import Book
 from model.fork import image, number
 from model.lists import DeRez, Folder, Rez, Source, ends, paired, text_of
@@ -51,16 +53,19 @@ class Runs(Book):
             keys = keys + ["fail folder %d" % after.fails] + ["fails never"] * (after.calls < after.fails)
         self.case(name, words, before.items(), keys, status, left, gone, out, warned + line)
 
-    def rez(self, name, *items, words=None, files=None, more=None, err="", fails=None, moment=0, room="", gone=(), code=None,
-            warned=""):
-        """A case of `rez`: the items of the source s.r, other words, sources and files, and the line on `err`."""
-        words = words or self.words
+    def rez(self, name, *items, words="", files=None, more=None, err="", fails=None, moment=0, room="", gone=(), code=None,
+            warned="", **by_name):
+        """A case of `rez`: the items of the source s.r, other words or more of them, sources and files, which may stand by
+        their names, and the line on `err`: as it is, or as a fault of the first line of s.r, or of another before a colon."""
+        words = words if words.startswith("rez") else (self.words + " " + words).rstrip()
         sources = dict({"s.r": items}, **(more or {}))
         sources = {file: given for file, given in sources.items() if given is not None}
         before = {file: coded(text_of(given), code) for file, given in every(sources).items()}
-        before.update(files or {})
+        before.update(files or {}, **by_name)
         after = Folder(before, fails)
         keys = ["moment %d" % moment] * bool(moment) + ["room folder " + room] * bool(room)
+        fault = re.match("(?:([0-9]+): )?([0-9]{3} .*)", err)
+        err = "s.r:%s: error %s" % (fault[1] or 1, fault[2]) if fault else err
         self.add(name, words, Rez(words.split()[1:], after, sources, moment), before, after, gone, err, keys, warned)
 
     def derez(self, name, words, files, types=None, form=None, err="", fails=None):

@@ -39,34 +39,32 @@ def included_forms():
         formed.rez("include from " + name, ('include "%s";' % file, include(file)), files={file: write(T.but(res=ONE))})
     formed.rez("include by a name from a file behind a path, as another type",
                ("include \"T\" 'Test' (\"b\") as 'Last' ($$ID);",
-                include("T", "Test", Name("b"), "Last", Head(lambda one: one.ident))), words="rez s.r -o x -s d",
+                include("T", "Test", Name("b"), "Last", Head(lambda one: one.ident))), words="-s d",
                files={"d/T": macbin(T)})
-    formed.rez("include from MacBinary with a second header and a comment", include("f"),
-               files={"f": parted(T.but(res=ONE))})
-    formed.rez("include from MacBinary without a resource fork", include("f"), files={"f": macbin(T.but(res=b""))})
+    formed.rez("include from MacBinary with a second header and a comment", include("f"), f=parted(T.but(res=ONE)))
+    formed.rez("include from MacBinary without a resource fork", include("f"), f=macbin(T.but(res=b"")))
     formed.rez("include from AppleDouble without a name, 394 bytes", include("._App"),
                files={"._App": dated(File(res=ONE))})
     formed.rez("include from AppleDouble of the first version with other entries", include("f"),
-               files={"f": entries(0x00010000, (1, b"data"), (2, ONE), (8, b"dates"), (2, b"second"))})
-    formed.rez("include from AppleDouble without a resource fork", include("f"),
-               files={"f": entries(0x00020000, (3, b"T"))})
+               f=entries(0x00010000, (1, b"data"), (2, ONE), (8, b"dates"), (2, b"second")))
+    formed.rez("include from AppleDouble without a resource fork", include("f"), f=entries(0x00020000, (3, b"T")))
     formed.rez("include from AppleDouble reads the header file alone", include("._T"),
                files={"._T": double(T.but(res=ONE)), "T": b"data"}, fails=4)
     formed.rez("include from AppleSingle of the first version with other entries", include("f"),
-               files={"f": entries(0x00010000, (1, b"data"), (2, ONE), (8, b"dates"), (2, b"second"), form="single")})
+               f=entries(0x00010000, (1, b"data"), (2, ONE), (8, b"dates"), (2, b"second"), form="single"))
     formed.rez("include from AppleSingle without a resource fork", include("f"),
-               files={"f": entries(0x00020000, (1, ONE), form="single")})
+               f=entries(0x00020000, (1, ONE), form="single"))
     formed.rez("a map that is read-only within AppleSingle that is included", include("f"),
-               files={"f": single(T.but(res=image([TEST], 0x0080)))})
+               f=single(T.but(res=image([TEST], 0x0080))))
     formed.rez("include from BinHex behind other lines", include("f"),
-               files={"f": b"From: someone\n\n" + hqx(T.but(res=ONE)).replace(b"\n:", b"\n \t\n:") + b"Bye!\n"})
+               f=b"From: someone\n\n" + hqx(T.but(res=ONE)).replace(b"\n:", b"\n \t\n:") + b"Bye!\n")
     formed.rez("include from BinHex whose lines end in CR and in CR LF", include("f"),
-               files={"f": hqx(T.but(res=ONE)).replace(b"\n", b"\r", 1).replace(b"\n", b"\r\n")})
+               f=hqx(T.but(res=ONE)).replace(b"\n", b"\r", 1).replace(b"\n", b"\r\n"))
     for name, _, write, file in WRITERS:
         formed.rez("read %s as it is" % name, ("read 'File' (1) \"%s\";" % file, read("File", file, 1)),
                    files={file: write(T.but(res=b""))})
     formed.rez("a map that is read-only within MacBinary that is included", include("f"),
-               files={"f": macbin(T.but(res=image([TEST], 0x0080)))})
+               f=macbin(T.but(res=image([TEST], 0x0080))))
 
 
 @formed.part("Broken forms in a statement: the mark is that of the statement, and the pick comes later.")
@@ -75,8 +73,8 @@ def broken_forms():
 
     def refused(name, says, held):
         formed.rez("include " + name, (";", None), ("include \"f\" 'Test'\n    (40000);",
-                                                    include("f", "Test", Id(40000))), files={"f": held},
-                   err="s.r:2: error " + says)
+                                                    include("f", "Test", Id(40000))), f=held,
+                   err="2: " + says)
 
     refused("a text", "441 NoStart: 0", b"no fork\n")
     refused("AppleDouble of 20 bytes", "421 ShortHeader: 20", double(T)[:20])
@@ -161,7 +159,7 @@ def added_forms():
     formed.rez("add to a file that is missing as MacBinary", item, words="rez s.r -a -form macbin -o One")
     formed.rez("add to a file of no bytes as BinHex", item, words="rez s.r -a -form hqx -o One", files={"One": b""})
     formed.rez("a file that is written anew keeps nothing of what was there", item, words="rez s.r -form macbin -o x",
-               files={"x": macbin(T)}, moment=86400)
+               x=macbin(T), moment=86400)
 
 
 @formed.part("Broken forms that -a can't read: there is no mark.")
@@ -169,8 +167,7 @@ def broken_form_bases():
     whole, item = macbin(T), ("x;", wrong(201))
 
     def refused(name, says, base):
-        formed.rez("add to " + name, item, words="rez s.r -a -ov -form raw -o x", files={"x": base},
-                   err="error " + says)
+        formed.rez("add to " + name, item, words="rez s.r -a -ov -form raw -o x", x=base, err="error " + says)
 
     refused("a text", "441 NoStart: 0", b"no fork\n")
     refused("MacBinary with a wrong CRC", "424 BadCrc: 0 0 %d" % crc(whole[:124]), whole[:124] + b"\0\0" + whole[126:])
@@ -196,7 +193,7 @@ def names():
     formed.rez("a name that Mac Roman hasn't, of an AppleSingle that has one", item, words="rez s.r -a -o 語",
                files={"語": single(T)})
     formed.rez("a name of 64 bytes that AppleSingle has", item, words="rez s.r -a -form macbin -o x",
-               files={"x": single(D.but(name=b"n" * 64))}, err="error 425 BadName: 64")
+               x=single(D.but(name=b"n" * 64)), err="error 425 BadName: 64")
     formed.rez("no name behind the last folder", item, words="rez s.r -form macbin -o d/", err="error 425 BadName: 0")
     formed.rez("no name behind the last folder as AppleDouble", item, words="rez s.r -form double -o d/")
     formed.rez("a name of 70 characters that Mac Roman hasn't", item,
@@ -208,21 +205,21 @@ def names():
                files={"語": double(D.but(name=b""))}, err="error 425 BadName: 1")
     formed.rez("a name that Mac Roman hasn't, of a raw file", item, words="rez s.r -a -o 語", files={"語": ONE})
     formed.rez("a name of 64 bytes that AppleDouble has", item, words="rez s.r -a -form hqx -o x",
-               files={"x": double(D.but(name=b"n" * 64))}, err="error 425 BadName: 64")
+               x=double(D.but(name=b"n" * 64)), err="error 425 BadName: 64")
     formed.rez("a name of 300 bytes that AppleDouble has", item, words="rez s.r -a -form macbin -o x",
-               files={"x": entries(0x00020000, (3, b"n" * 300))}, err="error 425 BadName: 255")
+               x=entries(0x00020000, (3, b"n" * 300)), err="error 425 BadName: 255")
     formed.rez("a fault of a statement comes before one of the name", delete("Test"),
-               words="rez s.r -form double -o 語", err="s.r:1: error 205 NeedsAppend")
+               words="rez s.r -form double -o 語", err="205 NeedsAppend")
     formed.rez("a resource that is too long comes before the name", read("Big ", "big", 0), item,
-               words="rez s.r -form hqx -o d/", files={"big": bytes(16777212)}, err="error 302 DataFull: 16777222")
+               words="rez s.r -form hqx -o d/", big=bytes(16777212), err="error 302 DataFull: 16777222")
     formed.rez("a name comes before a write that fails", item, words="rez s.r -form hqx -o d/", fails=2,
                err="error 425 BadName: 0")
     formed.rez("the write of a form fails", item, words="rez s.r -form hqx -o d/n", fails=2, err="write fault")
     formed.rez("the write of AppleSingle fails", item, words="rez s.r -form single -o d/n", fails=2, err="write fault")
     formed.rez("a data fork of AppleSingle that is too long", item, words="rez s.r -a -o x",
-               files={"x": single(T.but(data=bytes(33554433)))}, err="error 428 ForkTooLong: 33554433")
+               x=single(T.but(data=bytes(33554433))), err="error 428 ForkTooLong: 33554433")
     formed.rez("a data fork that is too long for a form", item, words="rez s.r -a -o x",
-               files={"x": macbin(T.but(data=bytes(33554433)))}, err="error 428 ForkTooLong: 33554433")
+               x=macbin(T.but(data=bytes(33554433))), err="error 428 ForkTooLong: 33554433")
 
 
 @formed.part("derez over the forms.")

@@ -31,21 +31,19 @@ def which_resources():
     of_f("by a name", "Test", Name("a"))
     of_f("by a name that two resources have", "Test", Name("b"))
     of_f("by a name in pieces", "Last", Name("c"), text="include \"f\" 'Last' (\"\" $\"63\");")
-    lists.rez("include by an empty name", include("f", "Test", Name("")), files={"f": image(FOUR[:2] + [TEST])})
+    lists.rez("include by an empty name", include("f", "Test", Name("")), f=image(FOUR[:2] + [TEST]))
     lists.rez("include by a name in Mac Roman", include("f", "Test", Name("é")),
-              files={"f": image([resource("Test", 1, "e"), resource("Test", 2, "é")])})
+              f=image([resource("Test", 1, "e"), resource("Test", 2, "é")]))
 
 
 @lists.part("include: which file.")
 def which_files():
     lists.rez("include a file whose name is in pieces", ("include \"f\" $\"2E\"\n    \"rsrc\" 'Test';",
                                                          include("f.rsrc", "Test")), files={"f.rsrc": ONE})
-    lists.rez("include a file of no bytes", include("f"), files={"f": b""})
-    lists.rez("include takes nothing of a map but its resources", include("f"),
-              files={"f": image([TEST], 0x00E0, b"reserved")})
-    lists.rez("include from a fork of another layout whose resources share bytes", include("f"),
-              files={"f": odd_fork()})
-    lists.rez("include the file that is written", include("f", "Test", Id(2)), words="rez s.r -o f", files={"f": SOME})
+    lists.rez("include a file of no bytes", include("f"), f=b"")
+    lists.rez("include takes nothing of a map but its resources", include("f"), f=image([TEST], 0x00E0, b"reserved"))
+    lists.rez("include from a fork of another layout whose resources share bytes", include("f"), f=odd_fork())
+    lists.rez("include the file that is written", include("f", "Test", Id(2)), words="rez s.r -o f", f=SOME)
     lists.rez("include a file whose name is in Mac Roman", include("é"), files={"é": ONE})
     lists.rez("include a file whose name is in UTF-8", include("é"), files={"é": ONE}, code="utf-8-sig")
     lists.rez("include a file whose name is an escape", ('include "\\0x8E";', include("é")), files={"é": ONE})
@@ -81,7 +79,7 @@ def under_heads():
               ("include \"f\" 'Test' (-1) as 'Last' (-$$ID, $$Attributes, changed);",
                include("f", "Test", Id(-1), "Last", Head(lambda one: -one.ident, None, lambda one: one.attr,
                                                          "changed"))),
-              files={"f": image([resource("Test", -1, "n", 0x81)])})
+              f=image([resource("Test", -1, "n", 0x81)]))
     lists.rez("include one resource twice, once under a head", include("f", "Test", Id(2)),
               ("include \"f\" 'Test' (2)\n    as 'Test' ($$ID + 1);",
                include("f", "Test", Id(2), "Test", Head(lambda one: one.ident + 1))), files=files)
@@ -103,8 +101,8 @@ def in_the_list():
               include("f", but="Test"), ("data 'Byte' (5) { $\"06\" };;", data("Byte", 5, b"\6")),
               read("Byte", "b", 5, "again"), files=files)
     lists.rez("a resource of a file counts as protected from then on", include("p"), data("Test", 2, b""),
-              files={"p": image([resource("Test", 1), resource("Test", 2, "", 8)])},
-              err="s.r:2: error 219 Protected: 'Test' 2")
+              p=image([resource("Test", 1), resource("Test", 2, "", 8)]),
+              err="2: 219 Protected: 'Test' 2")
 
 
 @lists.part("read: a file as it is.")
@@ -114,20 +112,20 @@ def files_that_are_read():
     lists.rez("read a file as a resource with a name and attributes",
               ("READ 'Test' (1 - 2, \"n\" \"m\", locked, purgeable, unlocked) \"b\" \"\";",
                read("Test", "b", -1, "nm", "locked", "purgeable", "unlocked")), files=files)
-    lists.rez("read a file of no bytes", read("Test", "e", 128, "", 255), files={"e": b""})
-    lists.rez("read a fork as it is", read("Fork", "f", 0), files={"f": ONE})
+    lists.rez("read a file of no bytes", read("Test", "e", 128, "", 255), e=b"")
+    lists.rez("read a fork as it is", read("Fork", "f", 0), f=ONE)
     lists.rez("read its own source", ("read 'TEXT' (0, \"s.r\") \"s.r\"; // the text", read("TEXT", "s.r", 0, "s.r")))
     lists.rez("read in the place of an earlier resource", data("Test", 1, b"", "old", "purgeable"),
               data("Test", 2, b""), read("Test", "b", 1), files=files)
     lists.rez("read a file whose name is in Mac Roman", read("Test", "é", 1), files={"é": b"\1"})
-    lists.rez("read the longest resource", read("Big ", "big", 0), words="rez s.r", files={"big": bytes(16777212)},
+    lists.rez("read the longest resource", read("Big ", "big", 0), words="rez s.r", big=bytes(16777212),
               room="1 17000000")
-    lists.rez("read a file of one byte more", read("Big ", "big", 0), words="rez s.r", files={"big": bytes(16777213)},
-              err="s.r:1: error 301 ResourceTooLong: 16777213")
+    lists.rez("read a file of one byte more", read("Big ", "big", 0), words="rez s.r", big=bytes(16777213),
+              err="301 ResourceTooLong: 16777213")
     lists.rez("read the longest resource beside one of no bytes", read("Big ", "big", 0), read("Big ", "e", 1),
-              words="rez s.r", files={"big": bytes(16777212), "e": b""}, err="error 302 DataFull: 16777220")
+              words="rez s.r", big=bytes(16777212), e=b"", err="error 302 DataFull: 16777220")
     lists.rez("include a resource that is longer than one may be read", include("big"), words="rez s.r",
-              files={"big": too_long()}, err="error 302 DataFull: 16777217")
+              big=too_long(), err="error 302 DataFull: 16777217")
 
 
 def too_long():
@@ -180,25 +178,24 @@ type 'DITL' { integer = $$CountOf(Parts) - 1;
 def paths():
     one, two, three = (image([resource("Test", k, "", 0, bytes([k]))]) for k in (1, 2, 3))
     item = include("f")
-    lists.rez("the name as it is comes before the paths", item, words="rez s.r -o x -s d", files={"f": one, "d/f": two})
+    lists.rez("the name as it is comes before the paths", item, words="-s d", files={"f": one, "d/f": two})
     lists.rez("a name behind a path", item, words="rez -s d s.r -o x", files={"d/f": two})
     lists.rez("a name behind the first of two paths", item, words="rez s.r -s d -o x -s e",
               files={"d/f": two, "e/f": three})
     lists.rez("a name behind the second of two paths", item, words="rez s.r -s d -o x -s e", files={"e/f": three})
-    lists.rez("a path for a file that is read", read("Test", "f", 1), words="rez s.r -o x -s d", files={"d/f": b"\1"})
-    lists.rez("a name with a folder behind a path", include("e/f"), words="rez s.r -o x -s d",
-              files={"d/e/f": two, "d/f": one})
-    lists.rez("a path and a name outside ASCII", include("é"), words="rez s.r -o x -s é", files={"é/é": two})
-    lists.rez("a path of -i is none for the file of a statement", item, words="rez s.r -o x -i d -s e",
-              files={"d/f": one}, err='s.r:1: error 101 MissingFile: "f"')
+    lists.rez("a path for a file that is read", read("Test", "f", 1), words="-s d", files={"d/f": b"\1"})
+    lists.rez("a name with a folder behind a path", include("e/f"), words="-s d", files={"d/e/f": two, "d/f": one})
+    lists.rez("a path and a name outside ASCII", include("é"), words="-s é", files={"é/é": two})
+    lists.rez("a path of -i is none for the file of a statement", item, words="-i d -s e",
+              files={"d/f": one}, err='101 MissingFile: "f"')
     lists.rez("a path of -s is none for a source that is included", ('#include "in.r"', Stray(101, '"in.r"')),
-              words="rez s.r -o x -s d", files={"d/in.r": ";\n"}, err='s.r:1: error 101 MissingFile: "in.r"')
-    lists.rez("a path of -s is none for a source of the words", words="rez s.r -o x -s d", more={"s.r": None},
+              words="-s d", files={"d/in.r": ";\n"}, err='101 MissingFile: "in.r"')
+    lists.rez("a path of -s is none for a source of the words", words="-s d", more={"s.r": None},
               files={"d/s.r": ";\n"}, err='error 101 MissingFile: "s.r"')
     lists.rez("a name behind no path is kept as it is written",
-              ("read 'Test' (1) \"a/\" \"\\0x8E\\\"\";", read("Test", b"a/\x8E\"", 1)), words="rez s.r -o x -s d -s e",
-              err='s.r:1: error 101 MissingFile: "a/\\0x8E\\""')
-    lists.rez("an empty name", include(""), err='s.r:1: error 101 MissingFile: ""')
+              ("read 'Test' (1) \"a/\" \"\\0x8E\\\"\";", read("Test", b"a/\x8E\"", 1)), words="-s d -s e",
+              err='101 MissingFile: "a/\\0x8E\\""')
+    lists.rez("an empty name", include(""), err='101 MissingFile: ""')
 
 
 @lists.part("include and read: what is no statement (201), whatever else is wrong with it.")
@@ -231,14 +228,14 @@ def no_statements():
             ("read with a fact as its id", "read 'Test' ($$ID) \"no\";"),
             ("read with a fact as its name", "read 'Test' (1, $$Name) \"no\";"),
             ("read as another type", "read 'Test' (1) \"no\" as 'Last';")]:
-        lists.rez(name, (text, wrong(201)), err="s.r:1: error 201 Syntax")
+        lists.rez(name, (text, wrong(201)), err="201 Syntax")
     deep = "(" * 65 + "1" + ")" * 65
     lists.rez("include with 65 brackets in one another and no file", ("include 'Test' %s;" % deep, wrong(221)),
-              err="s.r:1: error 221 TooDeep")
+              err="221 TooDeep")
     lists.rez("include with 64 brackets in one another", ("include \"f\" 'Test' %s;" % deep[1:-1],
-                                                          include("f", "Test", Id(1))), files={"f": SOME})
+                                                          include("f", "Test", Id(1))), f=SOME)
     lists.rez("include with too many tokens in a row", ("include \"no\" 'Test' (1%s) as;" % (" + 1" * 510), wrong(221)),
-              err="s.r:1: error 221 TooDeep")
+              err="221 TooDeep")
 
 
 @lists.part("include: the first fault. A file comes before the pick, the pick before the head, and what is protected "
@@ -247,7 +244,7 @@ def refused_includes():
     files = {"f": SOME, "cut": cut_fork()}
 
     def refused(name, says, item):
-        lists.rez("include " + name, item, files=files, err="s.r:1: error " + says)
+        lists.rez("include " + name, item, files=files, err=says)
 
     refused("a missing file with a wrong pick", '101 MissingFile: "no"', include("no", "Test", Id(40000)))
     refused("a broken fork with a wrong pick", "407 ReferencesOutside: 300 1", include("cut", "Test", Id(40000)))
@@ -286,7 +283,7 @@ def refused_includes():
              include("f", "Test", Id(2), "Last", Head(1, None, "locked", lambda one: one.attr - 17, Bad(211)))))
     lists.rez("include over a protected resource under a head with a wrong attribute",
               data("Last", 1, b"", "", "protected"), include("f", "Test", Id(2), "Last", Head(1, None, 256)),
-              files=files, err="s.r:2: error 207 OutOfRange: 256")
+              files=files, err="2: 207 OutOfRange: 256")
 
 
 @lists.part("read: the first fault. The head comes before the file, and what is protected last.")
@@ -294,7 +291,7 @@ def refused_reads():
     first = data("Test", 1, b"", "", "protected")
 
     def refused(name, says, item, files=None):
-        lists.rez("read " + name, first, item, files=files, err="s.r:2: error " + says)
+        lists.rez("read " + name, first, item, files=files, err="2: " + says)
 
     refused("under a wrong id and a long name", "204 BadId: 32768", read("Test", "no", 32768, LONG))
     refused("under an id without a value", "215 BadShift: -1",
@@ -311,37 +308,35 @@ def refused_reads():
 @lists.part("Marks: the first token of the statement.")
 def marks():
     lists.rez("a fault of a statement that begins on a later line", ("// a comment\n", None),
-              ("include \"f\" 'Test'\n    (\n    5);", include("f", "Test", Id(5))), files={"f": SOME},
-              err="s.r:3: error 218 NoSuchResource: 'Test' 5")
+              ("include \"f\" 'Test'\n    (\n    5);", include("f", "Test", Id(5))), f=SOME,
+              err="3: 218 NoSuchResource: 'Test' 5")
     lists.rez("a fault of a statement that a macro begins", ("#define no include \"no\"", None), ("", None),
-              ("no;", include("no")), err='s.r:3: error 101 MissingFile: "no"')
+              ("no;", include("no")), err='3: 101 MissingFile: "no"')
     lists.rez("a fault of a statement in a source that is included", (";", None),
               ('#include "in.r"', Source("in.r", ("#define b \"no\"", None), (";", None),
                                          ("read 'Test' (1)\nb;", read("Test", "no", 1)))),
               err='in.r:3: error 101 MissingFile: "no"')
-    lists.rez("a fault of a statement in the second source", include("f"), words="rez s.r t.r -o x", files={"f": SOME},
+    lists.rez("a fault of a statement in the second source", include("f"), words="rez s.r t.r -o x", f=SOME,
               more={"t.r": ((";", None), data("Test", 2, b""), include("f", "Last", Id(2)))},
               err="t.r:3: error 218 NoSuchResource: 'Last' 2")
     lists.rez("a fault of a statement comes before those of later ones", include("no"), ("x;", wrong(201)),
-              err='s.r:1: error 101 MissingFile: "no"')
+              err='101 MissingFile: "no"')
     lists.rez("a line that can't be read comes before all statements", include("no"), ("@", Stray(111, 64)),
-              err="s.r:2: error 111 BadCharacter: 64")
+              err="2: 111 BadCharacter: 64")
 
 
 @lists.part("Reads and writes that fail.")
 def calls_that_fail():
     item = include("f")
-    lists.rez("the read of a file of include fails", item, files={"f": ONE}, fails=2, err="read fault")
-    lists.rez("the read of a file of read fails", read("Test", "f", 1), files={"f": ONE}, fails=2, err="read fault")
-    lists.rez("the read of the name as it is fails", item, words="rez s.r -o x -s d", files={"d/f": ONE}, fails=2,
-              err="read fault")
-    lists.rez("the read behind a path fails", item, words="rez s.r -o x -s d -s e", files={"e/f": ONE}, fails=3,
-              err="read fault")
-    lists.rez("the write behind a file that is included fails", item, files={"f": ONE}, fails=3, err="write fault")
-    lists.rez("no call behind the write", item, files={"f": ONE}, fails=4)
-    lists.rez("a head is looked at before its file is read", read("Test", "f", 40000), files={"f": ONE}, fails=2,
-              err="s.r:1: error 204 BadId: 40000")
-    lists.rez("a file is read before the pick is looked at", include("f", "Test", Id(40000)), files={"f": ONE}, fails=2,
+    lists.rez("the read of a file of include fails", item, f=ONE, fails=2, err="read fault")
+    lists.rez("the read of a file of read fails", read("Test", "f", 1), f=ONE, fails=2, err="read fault")
+    lists.rez("the read of the name as it is fails", item, words="-s d", files={"d/f": ONE}, fails=2, err="read fault")
+    lists.rez("the read behind a path fails", item, words="-s d -s e", files={"e/f": ONE}, fails=3, err="read fault")
+    lists.rez("the write behind a file that is included fails", item, f=ONE, fails=3, err="write fault")
+    lists.rez("no call behind the write", item, f=ONE, fails=4)
+    lists.rez("a head is looked at before its file is read", read("Test", "f", 40000), f=ONE, fails=2,
+              err="204 BadId: 40000")
+    lists.rez("a file is read before the pick is looked at", include("f", "Test", Id(40000)), f=ONE, fails=2,
               err="read fault")
     lists.rez("a file of a statement is read before the next statement is looked at", item, ("x;", wrong(201)),
-              files={"f": ONE}, fails=2, err="read fault")
+              f=ONE, fails=2, err="read fault")
