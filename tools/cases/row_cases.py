@@ -18,114 +18,56 @@ BOOK = Book("rows.cases", "What bytes tell under fields, that it gives the bytes
     "Written by tools/cases/row_cases.py, where all that comes stands by hand, and is told by tools/model/shown.py.")
 NUMBERS = r"""
 // the ends of each width
-byte; byte; byte; @ 00 80 FF => 0 128 255
-integer; longint; @ FFFF 80000000 => 65535 2147483648
-boolean; boolean; boolean; boolean; boolean; boolean; boolean; boolean; @ 81 => 1 0 0 0 0 0 0 1
-char; @ 41 => 65
-bitstring[32]; @ FFFFFFFF => 4294967295
-bitstring[1]; bitstring[31]; @ 80000001 => 1 1
-integer; @ 01 => none
+byte; byte; byte; @ 00 80 FF => 0 128 255 ‖ integer; longint; @ FFFF 80000000 => 65535 2147483648
+boolean; boolean; boolean; boolean; boolean; boolean; boolean; boolean; @ 81 => 1 0 0 0 0 0 0 1 ‖ char; @ 41 => 65
+bitstring[32]; @ FFFFFFFF => 4294967295 ‖ bitstring[1]; bitstring[31]; @ 80000001 => 1 1 ‖ integer; @ 01 => none
 longint; @ 010203 => none
 // after the last field fewer than eight bits, all of them zero
-bitstring[7]; @ FE => 127
-bitstring[1]; @ 80 => 1
-byte; @ 4100 => none
-byte; @ 4180 => none
+bitstring[7]; @ FE => 127 ‖ bitstring[1]; @ 80 => 1 ‖ byte; @ 4100 ‖ byte; @ 4180 => none
 // fixed numbers, and facts of the resource
-byte = 5; integer; @ 05 0102 => 258
-byte = 5; integer; @ 06 0102 => none
-byte = -1; byte; @ FF 07 => 7
-byte = 300; byte; @ 2C 07 => none
-byte = 1 / 0; byte; @ 00 07 => none
-integer = $$ID; byte; @ 0080 07 => 7
-longint = $$Type; byte; @ 54657374 07 => 7
-byte = $$Attributes; byte; @ 00 07 => 7
-byte = true; byte; @ 01 07 => 7
+byte = 5; integer; @ 05 0102 => 258 ‖ byte = 5; integer; @ 06 0102 => none ‖ byte = -1; byte; @ FF 07 => 7
+byte = 300; byte; @ 2C 07 ‖ byte = 1 / 0; byte; @ 00 07 => none ‖ integer = $$ID; byte; @ 0080 07 => 7
+longint = $$Type; byte; @ 54657374 07 ‖ byte = $$Attributes; byte; @ 00 07 ‖ byte = true; byte; @ 01 07 => 7
 // points and rectangles
-point; @ 0001 FFFF => [1 65535]
-rect; @ 0028 0014 00F0 01A4 => [40 20 240 420]
-point; @ 000100 => none
-point = {1, -1}; byte; @ 0001 FFFF 07 => 7
-point = {1, -1}; byte; @ 0001 FFFE 07 => none
-rect = {1, 2, 3, $$ID}; byte; @ 0001 0002 0003 0080 07 => 7
-bitstring[4]; point; @ 10 00 10 00 20 => 1 [1 2]
+point; @ 0001 FFFF => [1 65535] ‖ rect; @ 0028 0014 00F0 01A4 => [40 20 240 420] ‖ point; @ 000100 => none
+point = {1, -1}; byte; @ 0001 FFFF 07 => 7 ‖ point = {1, -1}; byte; @ 0001 FFFE 07 => none
+rect = {1, 2, 3, $$ID}; byte; @ 0001 0002 0003 0080 07 => 7 ‖ bitstring[4]; point; @ 10 00 10 00 20 => 1 [1 2]
 // fill and align
-byte; fill byte; byte; @ 01 00 02 => 1 2
-byte; fill byte; byte; @ 01 01 02 => none
-fill bit[7]; boolean; @ 01 => 1
-fill bit[7]; boolean; @ 03 => none
-fill byte[0]; byte; @ 05 => 5
-fill long[2]; byte; @ 00000000 00000000 05 => 5
-fill long[2]; byte; @ 00000000 00000001 05 => none
-fill long[2]; @ 00000000 0000 => none
-byte; align long; byte; @ 01 000000 02 => 1 2
-byte; align long; byte; @ 01 000100 02 => none
-align word; byte; @ 07 => 7
-bitstring[4]; align byte; byte; @ F0 01 => 15 1
-bitstring[4]; align byte; byte; @ F1 01 => none
-byte; align word; @ 01 00 => 1
-byte; align word; @ 01 => none
+byte; fill byte; byte; @ 01 00 02 => 1 2 ‖ byte; fill byte; byte; @ 01 01 02 => none ‖ fill bit[7]; boolean; @ 01 => 1
+fill bit[7]; boolean; @ 03 => none ‖ fill byte[0]; byte; @ 05 ‖ fill long[2]; byte; @ 00000000 00000000 05 => 5
+fill long[2]; byte; @ 00000000 00000001 05 ‖ fill long[2]; @ 00000000 0000 => none
+byte; align long; byte; @ 01 000000 02 => 1 2 ‖ byte; align long; byte; @ 01 000100 02 => none
+align word; byte; @ 07 => 7 ‖ bitstring[4]; align byte; byte; @ F0 01 => 15 1
+bitstring[4]; align byte; byte; @ F1 01 => none ‖ byte; align word; @ 01 00 => 1 ‖ byte; align word; @ 01 => none
 """
 
 TEXTS = r"""
 // without a size
-pstring; @ 00 => ""
-pstring; @ 03 414243 => "ABC"
-pstring; @ 03 4142 => none
-pstring; @ 02 414243 => none
-wstring; @ 0002 4142 => "AB"
-wstring; @ 0003 4142 => none
-cstring; @ 00 => ""
-cstring; @ 414200 => "AB"
-cstring; @ 4142 => none
-cstring; @ 41004200 => none
-cstring; cstring; @ 41004200 => "A" "B"
-string; @ 004100 => "\0x00A\0x00"
-string; integer; @ 4142 0001 => "AB" 1
-string; integer; @ 01 => none
-string; string[1]; @ 414200 => "AB" ""
-string; fill byte; @ 4100 => "A"
+pstring; @ 00 => "" ‖ pstring; @ 03 414243 => "ABC" ‖ pstring; @ 03 4142 ‖ pstring; @ 02 414243 => none
+wstring; @ 0002 4142 => "AB" ‖ wstring; @ 0003 4142 => none ‖ cstring; @ 00 => "" ‖ cstring; @ 414200 => "AB"
+cstring; @ 4142 ‖ cstring; @ 41004200 => none ‖ cstring; cstring; @ 41004200 => "A" "B"
+string; @ 004100 => "\0x00A\0x00" ‖ string; integer; @ 4142 0001 => "AB" 1 ‖ string; integer; @ 01 => none
+string; string[1]; @ 414200 => "AB" "" ‖ string; fill byte; @ 4100 => "A"
 // with a size: no longer than it leaves, and filled with zero bytes
-string[4]; @ 41420000 => "AB"
-string[4]; @ 00000000 => ""
-string[4]; @ 41004200 => "A\0x00B"
-string[4]; @ 414243 => none
-string[4]; @ 4142430001 => none
-string[0]; byte; @ 07 => "" 7
-pstring[3]; @ 02414200 => "AB"
-pstring[3]; @ 03414243 => "ABC"
-pstring[3]; @ 04414243 => none
-pstring[3]; @ 01414200 => none
-pstring[0]; byte; @ 00 07 => "" 7
-wstring[2]; @ 0001 4100 => "A"
-wstring[2]; @ 0003 4142 => none
-cstring[3]; @ 414200 => "AB"
-cstring[3]; @ 410000 => "A"
-cstring[3]; @ 410042 => none
-cstring[3]; @ 414243 => none
-cstring[1]; @ 00 => ""
-cstring[1]; @ 41 => none
-string[$$ID - 126]; byte; @ 4142 07 => "AB" 7
+string[4]; @ 41420000 => "AB" ‖ string[4]; @ 00000000 => "" ‖ string[4]; @ 41004200 => "A\0x00B"
+string[4]; @ 414243 ‖ string[4]; @ 4142430001 => none ‖ string[0]; byte; @ 07 => "" 7 ‖ pstring[3]; @ 02414200 => "AB"
+pstring[3]; @ 03414243 => "ABC" ‖ pstring[3]; @ 04414243 ‖ pstring[3]; @ 01414200 => none
+pstring[0]; byte; @ 00 07 => "" 7 ‖ wstring[2]; @ 0001 4100 => "A" ‖ wstring[2]; @ 0003 4142 => none
+cstring[3]; @ 414200 => "AB" ‖ cstring[3]; @ 410000 => "A" ‖ cstring[3]; @ 410042 ‖ cstring[3]; @ 414243 => none
+cstring[1]; @ 00 => "" ‖ cstring[1]; @ 41 => none ‖ string[$$ID - 126]; byte; @ 4142 07 => "AB" 7
 // at any bit
-bitstring[4]; pstring; @ 101410 => 1 "A"
-bitstring[4]; string; @ 141420 => 1 "AB"
+bitstring[4]; pstring; @ 101410 => 1 "A" ‖ bitstring[4]; string; @ 141420 => 1 "AB"
 bitstring[4]; string; @ 141421 => none
 // fixed texts
-pstring = "ab"; byte; @ 026162 07 => 7
-pstring = "ab"; byte; @ 026163 07 => none
-pstring[3] = "ab"; byte; @ 02616200 07 => 7
-string = "ab"; byte; @ 6162 07 => 7
-string = "ab"; byte; @ 616263 07 => none
-pstring = $$Name; byte; @ 046E616D65 07 => 7
+pstring = "ab"; byte; @ 026162 07 => 7 ‖ pstring = "ab"; byte; @ 026163 07 => none
+pstring[3] = "ab"; byte; @ 02616200 07 ‖ string = "ab"; byte; @ 6162 07 => 7
+string = "ab"; byte; @ 616263 07 => none ‖ pstring = $$Name; byte; @ 046E616D65 07 => 7
 """
 
 ARRAYS = r"""
 // stated
-array [2] { byte; }; @ 0102 => {1|2}
-array [2] { byte; }; @ 01 => none
-array [2] { byte; }; @ 010203 => none
-array [0] { byte; }; byte; @ 05 => {} 5
-array [2] { array [2] { byte; }; }; @ 01020304 => {{1|2}|{3|4}}
+array [2] { byte; }; @ 0102 => {1|2} ‖ array [2] { byte; }; @ 01 ‖ array [2] { byte; }; @ 010203 => none
+array [0] { byte; }; byte; @ 05 => {} 5 ‖ array [2] { array [2] { byte; }; }; @ 01020304 => {{1|2}|{3|4}}
 array [3] { array [0] { byte; }; }; byte; @ 07 => {{}|{}|{}} 7
 array [2] { byte; pstring; }; @ 01 0141 02 00 => {1 "A"|2 ""}
 // counted before
@@ -149,12 +91,9 @@ byte = 4 / $$CountOf(a); array a { byte; }; @ 04 05 => unreadable: { 5 }
 byte = ~$$CountOf(a); array a { byte; }; @ FE 05 => unreadable: { 5 }
 byte = $$CountOf(a); array a { array [0] { byte; }; }; @ 02 => unreadable: { { }, { } }
 // to the end of the resource
-array { byte; }; @ 010203 => {1|2|3}
-array { byte; }; integer; @ 0102 0003 => {1|2} 3
-array { byte; }; integer; @ 03 => none
-array { bitstring[7]; }; @ 02 => unreadable: { 1 }
-array { bitstring[8]; }; @ 0102 => {1|2}
-array { integer; }; @ 000102 => none
+array { byte; }; @ 010203 => {1|2|3} ‖ array { byte; }; integer; @ 0102 0003 => {1|2} 3
+array { byte; }; integer; @ 03 => none ‖ array { bitstring[7]; }; @ 02 => unreadable: { 1 }
+array { bitstring[8]; }; @ 0102 => {1|2} ‖ array { integer; }; @ 000102 => none
 integer; integer = 0; pstring; array { pstring; byte; }; byte = 0; @ 0080 0000 0446696C65 044F70656E00 045175697451 00 => 128 "File" {"Open" 0|"Quit" 81}
 // rows in rows, each with names of its own
 byte = $$CountOf(a); array a { byte = $$CountOf(b); array b { byte; }; }; @ 02 01 05 02 0607 => {{5}|{6|7}}
@@ -166,8 +105,7 @@ switch { case A: key byte = 1; byte; case B: key byte = 2; pstring; }; @ 02 0141
 switch { case A: key byte = 1; byte; case B: key byte = 2; pstring; }; @ 03 05 => none
 switch { case A: key byte = 1; byte; case B: key byte = 2; pstring; }; @ 01 => none
 switch { case A: key byte = 1; byte; case B: key byte = 2; pstring; }; @ => none
-switch { case A: key byte = -1; byte; }; @ FF 05 => A(5)
-switch { case A: key byte = 300; byte; }; @ 2C 05 => none
+switch { case A: key byte = -1; byte; }; @ FF 05 => A(5) ‖ switch { case A: key byte = 300; byte; }; @ 2C 05 => none
 switch { case A: byte; key byte = 1; case B: byte; key byte = 2; pstring; }; @ 07 02 0141 => B(7 "A")
 array { switch { case A: key byte = 1; array [2] { byte; }; case B: key byte = 2; cstring; }; }; @ 01 0708 02 414200 => {A({7|8})|B("AB")}
 byte = $$CountOf(a); array a { switch { case A: key byte = 1; case B: key byte = 2; }; }; @ 03 01 02 01 => {A()|B()|A()}
@@ -207,18 +145,12 @@ array a { byte = $$ArrayIndex(a); byte; }; @ 0005 0106 => none
 """
 
 ITEMS = r"""
-byte; @ FF =>     -1¶
-unsigned decimal byte; @ FF =>     255¶
-unsigned hex bitstring[5]; @ F0 =>     0x1E¶
-octal longint; @ FFFFFFFF =>     037777777777¶
-binary bitstring[5]; @ 30 =>     0B00110¶
-literal integer; @ 4127 =>     'A\''¶
-longint; @ 80000000 =>     -2147483648¶
-boolean; @ 80 =>     true¶
+byte; @ FF =>     -1¶ ‖ unsigned decimal byte; @ FF =>     255¶ ‖ unsigned hex bitstring[5]; @ F0 =>     0x1E¶
+octal longint; @ FFFFFFFF =>     037777777777¶ ‖ binary bitstring[5]; @ 30 =>     0B00110¶
+literal integer; @ 4127 =>     'A\''¶ ‖ longint; @ 80000000 =>     -2147483648¶ ‖ boolean; @ 80 =>     true¶
 char; @ 22 =>     "\""¶
 string[65]; @ «61×65» =>     "aaaaaaaaaaaaaaaaaaaaaaaaaaaaaaaaaaaaaaaaaaaaaaaaaaaaaaaaaaaaaaaa"¶    "a"¶
-hex string[17]; @ «AB×17» =>     $"ABAB ABAB ABAB ABAB ABAB ABAB ABAB ABAB"¶    $"AB"¶
-hex string[0]; @  =>     $""¶
+hex string[17]; @ «AB×17» =>     $"ABAB ABAB ABAB ABAB ABAB ABAB ABAB ABAB"¶    $"AB"¶ ‖ hex string[0]; @  =>     $""¶
 point; @ 0001 FFFF =>     {1, -1}¶
 // one after the other, at any bit
 byte; unsigned decimal byte; unsigned hex bitstring[5]; octal longint; binary bitstring[5]; literal integer; longint; boolean; char; string[65]; hex string[17]; hex string[0]; point; @ FFFFF7FFFFFFF99049E0000000244C«2C×64»35«75×16»60003FFFE0 =>     -1,¶    255,¶    0x1E,¶    037777777777,¶    0B00110,¶    'A\'',¶    -2147483648,¶    true,¶    "\"",¶    "aaaaaaaaaaaaaaaaaaaaaaaaaaaaaaaaaaaaaaaaaaaaaaaaaaaaaaaaaaaaaaaa"¶    "a",¶    $"ABAB ABAB ABAB ABAB ABAB ABAB ABAB ABAB"¶    $"AB",¶    $"",¶    {1, -1}¶
@@ -232,8 +164,7 @@ LISTS = r"""
 // rows of an array stand one level deeper
 array { pstring; }; @ 0141 024243 => resource 'STR#' (128) {¶    {¶        "A",¶        "BC"¶    }¶};¶¶
 // nothing between braces
-fill byte; @ 00 => resource 'STR#' (128) {¶};¶¶
-array { byte; }; @  => resource 'STR#' (128) {¶    {¶    }¶};¶¶
+fill byte; @ 00 => resource 'STR#' (128) {¶};¶¶ ‖ array { byte; }; @  => resource 'STR#' (128) {¶    {¶    }¶};¶¶
 array [0] { byte; }; byte; @ 07 => resource 'STR#' (128) {¶    {¶    },¶    7¶};¶¶
 switch { case one: key byte = 1; }; @ 01 => resource 'STR#' (128) {¶    one {¶    }¶};¶¶
 array [2] { array [0] { byte; }; }; @  => resource 'STR#' (128) {¶    {¶        {¶        },¶        {¶        }¶    }¶};¶¶

@@ -1,7 +1,10 @@
 """Writes solved.cases: what `derez` shows of types in which a number tells the place of a label behind it."""
+import re
+
 from label_book import Shown
-from model.label_types import (Align, Array, Expr, Label, Switch, at, bits_at, byte, byte_at, fact, field_bits,
-                               integer, key, num, number, rows_of, text)
+from model import type_files
+from model.label_types import (Align, Array, Label, Switch, at, bits_at, byte, byte_at, fact, field_bits, integer, key,
+                               num, number, rows_of, text)
 
 SOLVED = Shown("solved.cases", "solved_cases.py", "What derez shows where a number tells the place of a label behind it.")
 FAR, FROM = at("e"), at("s")
@@ -49,106 +52,54 @@ def lengths(name, expr, marks, before=(), items=(), form="integer", more=(), **a
     SOLVED.shows(name, body, marks, *(rows + list(more)), **also)
 
 
-@SOLVED.part("The operators over the length of a string, which has 0 bytes, 1 byte and so on, and numbers beside them.")
-def operators():
-    for name, expr, marks in [
-            ("alone", LENGTH, "rrrrr"),
-            ("and 3", LENGTH + 3, "rrrrr"),
-            ("and -1", LENGTH + number(-1), "drrrr"),
-            ("and 65533", LENGTH + 65533, "rrrdd"),
-            ("3 and", 3 + LENGTH, "rrrrr"),
-            ("-2 and", number(-2) + LENGTH, "ddrrr"),
-            ("and 0", LENGTH + 0, "rrrrr"),
-            ("less 0", LENGTH - 0, "rrrrr"),
-            ("less 2", LENGTH - 2, "ddrrr"),
-            ("less -2", LENGTH - number(-2), "rrrrr"),
-            ("less 5", LENGTH - 5, "ddddd"),
-            ("3 less", 3 - LENGTH, "rrrrd"),
-            ("0 less", 0 - LENGTH, "rdddd"),
-            ("-1 less", number(-1) - LENGTH, "ddddd"),
-            ("less", -LENGTH, "rdddd"),
-            ("less less", --LENGTH, "rrrrr"),
-            ("less the difference the other way", -((FROM - FAR) / 8), "rrrrr"),
-            ("times 1", LENGTH * 1, "rrrrr"),
-            ("times 3", LENGTH * 3, "rrrrr"),
-            ("3 times", 3 * LENGTH, "rrrrr"),
-            ("times 0", LENGTH * 0, "ddddd"),
-            ("0 times", 0 * LENGTH, "ddddd"),
-            ("times -1", LENGTH * number(-1), "rdddd"),
-            ("times 20000", LENGTH * 20000, "rrrrd"),
-            ("times -1 times -1", LENGTH * number(-1) * number(-1), "rrrrr"),
-            ("by 1", LENGTH / 1, "rrrrr"),
-            ("by 2", LENGTH / 2, "rdrdrdr"),
-            ("by 3", LENGTH / 3, "rddrddr"),
-            ("by -1", LENGTH / number(-1), "rdddd"),
-            ("by 0", LENGTH / 0, "ddddd"),
-            ("by 100", LENGTH / 100, "rdddd"),
-            ("by -1 by -1", LENGTH / number(-1) / number(-1), "rrrrr"),
-            ("times 6 by 2", LENGTH * 6 / 2, "rrrrr"),
-            ("times 3 by 2", LENGTH * 3 / 2, "rdrdr"),
-            ("by 2 times 2", LENGTH / 2 * 2, "rdrdr"),
-            ("to the left by 0", LENGTH << 0, "rrrrr"),
-            ("to the left by 3", LENGTH << 3, "rrrrr"),
-            ("to the left by 14", LENGTH << 14, "rrrrd"),
-            ("to the left by 31", LENGTH << 31, "rdddd"),
-            ("to the left by 32", LENGTH << 32, "ddddd"),
-            ("to the left by -1", LENGTH << number(-1), "ddddd"),
-            ("to the right by 0", LENGTH >> 0, "rrrrr"),
-            ("to the right by 1", LENGTH >> 1, "rdrdr"),
-            ("to the right by 2", LENGTH >> 2, "rdddr"),
-            ("to the right by 31", LENGTH >> 31, "rdddd"),
-            ("to the right by 32", LENGTH >> 32, "ddddd"),
-            ("to the right by -1", LENGTH >> number(-1), "ddddd"),
-            ("to the left by 2 to the right by 1", LENGTH << 2 >> 1, "rrrrr"),
-            ("to the right by 1 to the left by 1", LENGTH >> 1 << 1, "rdrdr"),
-            ("and 1 by 2", (LENGTH + 1) / 2, "drdrd"),
-            ("and 1, less 2, times 3", (LENGTH + 1 - 2) * 3, "drrrr"),
-            ("in bits", FAR - FROM, "rrrrr"),
-            ("in nibbles", (FAR - FROM) / 4, "rrrrr"),
-            ("in bits by 5", (FAR - FROM) / 5, "rddddr"),
-            ("in bits to the right by 3", (FAR - FROM) >> 3, "rrrrr"),
-            ("in bits to the right by 4", (FAR - FROM) >> 4, "rdrdr"),
-            ("in words", (FAR - FROM) / 16, "rdrdr"),
-            ("over quotients", FAR / 8 - FROM / 8, "rrrrr"),
-            ("by the place alone", FAR, "rrrrr"),
-            ("by the place in bytes", FAR / 8, "rrrrr"),
-            ("by the place in bytes less 2", FAR / 8 - 2, "rrrrr"),
-            ("by 72 less the place", 72 - FAR, "rrrrr"),
-            ("by 24 less the place", 24 - FAR, "rrddd"),
-            ("by the place times 9", FAR * 9, "rrrrr"),
-            ("by the place to the left by 11", FAR << 11, "rrddd"),
-    ]:
-        lengths("the length %s" % name, expr, marks)
+def length_of(row, name="%s", **also):
+    """Such a number by a row of a table: NAME @ EXPRESSION => MARKS, in which L is the length."""
+    said, expr, marks = re.match("(.*) @ (.*) => (.*)", row).groups()
+    expr = type_files.fields_of("integer = %s;" % re.sub(r"\bL\b", "((e - s) / 8)", expr))[0].fixed
+    lengths(name % said, expr, marks, **also)
+
+
+SOLVED.lines_of(
+    "The operators over the length of a string, which has 0 bytes, 1 byte and so on, and numbers beside them.", r"""
+alone @ L ‖ and 3 @ L + 3 => rrrrr ‖ and -1 @ L + -1 => drrrr ‖ and 65533 @ L + 65533 => rrrdd
+3 and @ 3 + L => rrrrr ‖ -2 and @ -2 + L => ddrrr ‖ and 0 @ L + 0 ‖ less 0 @ L - 0 => rrrrr
+less 2 @ L - 2 => ddrrr ‖ less -2 @ L - -2 => rrrrr ‖ less 5 @ L - 5 => ddddd ‖ 3 less @ 3 - L => rrrrd
+0 less @ 0 - L => rdddd ‖ -1 less @ -1 - L => ddddd ‖ less @ -L => rdddd ‖ less less @ --L => rrrrr
+less the difference the other way @ -((s - e) / 8) ‖ times 1 @ L * 1 ‖ times 3 @ L * 3 => rrrrr
+3 times @ 3 * L => rrrrr ‖ times 0 @ L * 0 ‖ 0 times @ 0 * L => ddddd ‖ times -1 @ L * -1 => rdddd
+times 20000 @ L * 20000 => rrrrd ‖ times -1 times -1 @ L * -1 * -1 ‖ by 1 @ L / 1 => rrrrr
+by 2 @ L / 2 => rdrdrdr ‖ by 3 @ L / 3 => rddrddr ‖ by -1 @ L / -1 => rdddd ‖ by 0 @ L / 0 => ddddd
+by 100 @ L / 100 => rdddd ‖ by -1 by -1 @ L / -1 / -1 ‖ times 6 by 2 @ L * 6 / 2 => rrrrr
+times 3 by 2 @ L * 3 / 2 ‖ by 2 times 2 @ L / 2 * 2 => rdrdr ‖ to the left by 0 @ L << 0 => rrrrr
+to the left by 3 @ L << 3 => rrrrr ‖ to the left by 14 @ L << 14 => rrrrd ‖ to the left by 31 @ L << 31 => rdddd
+to the left by 32 @ L << 32 ‖ to the left by -1 @ L << -1 => ddddd ‖ to the right by 0 @ L >> 0 => rrrrr
+to the right by 1 @ L >> 1 => rdrdr ‖ to the right by 2 @ L >> 2 => rdddr
+to the right by 31 @ L >> 31 => rdddd ‖ to the right by 32 @ L >> 32 ‖ to the right by -1 @ L >> -1 => ddddd
+to the left by 2 to the right by 1 @ L << 2 >> 1 => rrrrr
+to the right by 1 to the left by 1 @ L >> 1 << 1 => rdrdr ‖ and 1 by 2 @ (L + 1) / 2 => drdrd
+and 1, less 2, times 3 @ (L + 1 - 2) * 3 => drrrr ‖ in bits @ e - s ‖ in nibbles @ (e - s) / 4 => rrrrr
+in bits by 5 @ (e - s) / 5 => rddddr ‖ in bits to the right by 3 @ e - s >> 3 => rrrrr
+in bits to the right by 4 @ e - s >> 4 ‖ in words @ (e - s) / 16 => rdrdr
+over quotients @ e / 8 - s / 8 ‖ by the place alone @ e ‖ by the place in bytes @ e / 8 => rrrrr
+by the place in bytes less 2 @ e / 8 - 2 ‖ by 72 less the place @ 72 - e => rrrrr
+by 24 less the place @ 24 - e => rrddd ‖ by the place times 9 @ e * 9 => rrrrr
+by the place to the left by 11 @ e << 11 => rrddd
+""", lambda row: length_of(row, "the length %s"))
 
 
 @SOLVED.part("What can't be undone, so that the type can't be read.")
 def unsolvable():
-    for name, expr in [
-            ("a remainder", LENGTH % 100),
-            ("a remainder of it", 100 % LENGTH),
-            ("bits that both have", LENGTH & 255),
-            ("bits that one has", LENGTH | 0),
-            ("bits that one alone has", LENGTH ^ 0),
-            ("its complement", ~~LENGTH),
-            ("a comparison", LENGTH < 9),
-            ("another comparison", LENGTH >= 0),
-            ("an equality", Expr("==", LENGTH.tree, ("number", 2))),
-            ("an inequality", Expr("!=", LENGTH.tree, ("number", 2))),
-            ("a denial", Expr("!", LENGTH.tree)),
-            ("a conjunction", Expr("&&", LENGTH.tree, ("number", 1))),
-            ("a disjunction", Expr("||", ("number", 0), LENGTH.tree)),
-            ("a quotient by it", 100 / FAR),
-            ("a shift to the left by it", 1 << LENGTH),
-            ("a shift to the right by it", 100 >> LENGTH),
-            ("the label twice", (FAR + FAR - FROM - FROM) / 16),
-            ("the label twice, once times 0", LENGTH + FAR * 0),
-            ("the label in a start of bits", bits_at("n", FAR - FROM - 8, number(8))),
-            ("the label in a width of bits", bits_at("n", number(0), FAR - FROM)),
-            ("bits at the label", byte_at("e")),
-            ("a complement below", (~FAR - ~FROM) / -8),
-            ("a remainder below", (FAR % 4096 - FROM) / 8),
-    ]:
-        lengths("a length under %s can't be solved" % name, expr, "dddd", [Label("n"), byte()], [1], "byte")
+    SOLVED.table(r"""
+        a remainder @ L % 100 ‖ a remainder of it @ 100 % L ‖ bits that both have @ L & 255 => dddd
+        bits that one has @ L | 0 ‖ bits that one alone has @ L ^ 0 ‖ its complement @ ~~L => dddd
+        a comparison @ L < 9 ‖ another comparison @ L >= 0 ‖ an equality @ L == 2 ‖ an inequality @ L != 2 => dddd
+        a denial @ !L ‖ a conjunction @ L && 1 ‖ a disjunction @ 0 || L ‖ a quotient by it @ 100 / e => dddd
+        a shift to the left by it @ 1 << L ‖ a shift to the right by it @ 100 >> L => dddd
+        the label twice @ (e + e - s - s) / 16 ‖ the label twice, once times 0 @ L + e * 0 => dddd
+        the label in a start of bits @ $$BitField(n, e - s - 8, 8) => dddd
+        the label in a width of bits @ $$BitField(n, 0, e - s) ‖ bits at the label @ $$Byte(e) => dddd
+        a complement below @ (~e - ~s) / -8 ‖ a remainder below @ (e % 4096 - s) / 8 => dddd
+    """, lambda row: length_of(row, "a length under %s can't be solved", before=[Label("n"), byte()], items=[1], form="byte"))
     SOLVED.table(r"""
         // More than one name that isn't known, or one that isn't of the same fields.
         can't be read: two labels behind a string @ byte = (e - s) / 8; pstring; s: hex string; e: => d 02 00 "ab" | d 00 00
@@ -227,22 +178,19 @@ def widths():
     lengths("a number without a sign in a char", LENGTH + 253, "rrrd", form="char")
     lengths("a number in hexadecimal", LENGTH, "rrr", form="integer")
     SOLVED.say("Numbers over 31 and over 63 bits.")
-    for name, expr, marks in [
-            ("a product over 31 bits", (FAR - FROM) * 75000000, "rrrrrrrr"),
-            ("a product over 32 bits", (FAR - FROM) * 150000000, "rrrrdddd"),
-            ("a product over 31 bits, halved", (FAR - FROM) * 75000000 / 2, "rrrrdddd"),
-            ("a shift over 31 bits", (FAR - FROM) << 27, "rrrrdddd"),
-            ("a shift over 31 bits and back", (FAR - FROM) << 26 >> 26, "rrrrdddd"),
-            ("a difference over 31 bits", FAR - FROM + 2147483640, "rrrrrrrr"),
-            ("a sum below -31 bits", FAR - FROM - 2147483647, "dddddddd"),
-            ("a negative product", (FROM - FAR) * 3, "rddddddd"),
-            ("a product of 62 bits undone", LENGTH / 65536 / 65536, "rddddddd"),
-            ("a product of 93 bits undone", LENGTH / 2147483647 / 2147483647 / 2147483647, "rddddddd"),
-            ("a shift of 93 bits undone", LENGTH >> 31 >> 31 >> 31, "rddddddd"),
-            ("a shift of 62 bits to the left undone", LENGTH << 31 << 31, "rddddddd"),
-            ("a product of 0 in the end", LENGTH * 65536 * 65536, "rddddddd"),
-    ]:
-        lengths(name, expr, marks, form="longint")
+    SOLVED.table(r"""
+        a product over 31 bits @ (e - s) * 75000000 => rrrrrrrr
+        a product over 32 bits @ (e - s) * 150000000 => rrrrdddd
+        a product over 31 bits, halved @ (e - s) * 75000000 / 2 ‖ a shift over 31 bits @ e - s << 27 => rrrrdddd
+        a shift over 31 bits and back @ e - s << 26 >> 26 => rrrrdddd
+        a difference over 31 bits @ e - s + 2147483640 => rrrrrrrr
+        a sum below -31 bits @ e - s - 2147483647 => dddddddd ‖ a negative product @ (s - e) * 3 => rddddddd
+        a product of 62 bits undone @ L / 65536 / 65536 => rddddddd
+        a product of 93 bits undone @ L / 2147483647 / 2147483647 / 2147483647 => rddddddd
+        a shift of 93 bits undone @ L >> 31 >> 31 >> 31 => rddddddd
+        a shift of 62 bits to the left undone @ L << 31 << 31 => rddddddd
+        a product of 0 in the end @ L * 65536 * 65536 => rddddddd
+    """, lambda row: length_of(row, form="longint"))
     SOLVED.table(r"""
         a solution of -2^63 @ longint = -(e / 2147483647 * -1 / -2147483647 / 2) - 1; s: hex string; e: byte; => d FFFFFFFF 01 | d 00000000 01 | d 7FFFFFFF 01 | d 80000000 01
         a solution over 2^63 @ longint = (e >> 31) / 2147483647; s: hex string; e: byte; => d FFFFFFFF 01 | d 00000002 01 | d 00000003 01 | d 80000000 01

@@ -1,6 +1,6 @@
 """Writes statements.cases: the form of each statement, what it means, what is no statement, and the rules of fields.
 
-The tables below have a source on each line, in which `|` is a line end and `«TEXT×N»` is TEXT N times, and after
+The tables below have sources, in which `|` is a line end and `«TEXT×N»` is TEXT N times, and after
 ` => ` by hand what comes: the resources of the fork, as comments of tools/model/fork.py name them, with ` & ` between
 them, `nothing`, or a fault with what it keeps, after its line and a colon where that isn't the first. After ` SHOWS `
 stand the items that `derez` shows of the first resource, with `¶` between their lines.
@@ -19,20 +19,17 @@ INCLUDES = r"""
 // of a file all resources, all but those of a type, or those of a type
 include "File"; => 'Test' -1 = A0 & 'Test' 1 "name" 10 = A1 & 'Test' 2 = A2 & 'Test' 128 "Name" = A3 & 'tEST' 1 "name" = B1
 INCLUDE "Fi" $"6C" "e"; => 'Test' -1 = A0 & 'Test' 1 "name" 10 = A1 & 'Test' 2 = A2 & 'Test' 128 "Name" = A3 & 'tEST' 1 "name" = B1
-include "File" not 'Test'; => 'tEST' 1 "name" = B1
-include "" NOT 'tEST'; => 101 MissingFile: ""
+include "File" not 'Test'; => 'tEST' 1 "name" = B1 ‖ include "" NOT 'tEST'; => 101 MissingFile: ""
 include "File" NOT 'tEST'; => 'Test' -1 = A0 & 'Test' 1 "name" 10 = A1 & 'Test' 2 = A2 & 'Test' 128 "Name" = A3
 include "File" 'Test'; => 'Test' -1 = A0 & 'Test' 1 "name" 10 = A1 & 'Test' 2 = A2 & 'Test' 128 "Name" = A3
 include "File" 'Test' (128); => 'Test' 128 "Name" = A3
 include "File" 'Test' (-1 : 2 * (3 + 4)); => 'Test' -1 = A0 & 'Test' 1 "name" 10 = A1 & 'Test' 2 = A2
 include "File" 'Test' (!false : TRUE + 1); => 'Test' 1 "name" 10 = A1 & 'Test' 2 = A2
-include "File" 'Test' ("name"); => 'Test' 1 "name" 10 = A1
-include "File" 'Test' ("na" $"6D" "e"); => 'Test' 1 "name" 10 = A1
+include "File" 'Test' ("name"); ‖ include "File" 'Test' ("na" $"6D" "e"); => 'Test' 1 "name" 10 = A1
 // as resources of another type, and one with another head
 include "File" 'Test' as 'Othe'; => 'Othe' -1 = A0 & 'Othe' 1 "name" 10 = A1 & 'Othe' 2 = A2 & 'Othe' 128 "Name" = A3
 include "File" 'Test' (1:2) AS 'Othe'; => 'Othe' 1 "name" 10 = A1 & 'Othe' 2 = A2
-include "File" 'Test' (1) as 'Othe'; => 'Othe' 1 "name" 10 = A1
-include "File" 'Test' ("name") as 'Othe'; => 'Othe' 1 "name" 10 = A1
+include "File" 'Test' (1) as 'Othe'; ‖ include "File" 'Test' ("name") as 'Othe'; => 'Othe' 1 "name" 10 = A1
 include "File" 'Test' (1) as 'Othe' (2); => 'Othe' 2 "name" 10 = A1
 include "File" 'Test' ("name") as 'Othe' (2, "new", locked, 3); => 'Othe' 2 "new" 03 = A1
 // such a head may speak of the resource
@@ -41,58 +38,29 @@ include "File" 'Test' (1) as 'Othe' ($$Type + 2, $$Name); => 204 BadId: 14159348
 include "File" 'Test' (1) as 'Othe' ($$Type - 1415934834, $$Name); => 'Othe' 2 "name" 10 = A1
 include "File" 'Test' (1) as 'Othe' (3, "new " $$NAME, $$Attributes, unlocked); => 'Othe' 3 "new name" = A1
 // no `include`
-include 'Test'; => 201 Syntax
-include not 'Test'; => 201 Syntax
-include 'Test' "File"; => 201 Syntax
-include "File" => 201 Syntax
-include "File" 'Test' => 201 Syntax
-include "File" 'Test' (1) => 201 Syntax
-include "File" 'Test' (1) as 'Othe' => 201 Syntax
-include "File" 'Test' (1) as 'Othe' (2) => 201 Syntax
-include "File" 'Tes'; => 201 Syntax
-include "File" not; => 201 Syntax
-include "File" not 'Test' (1); => 201 Syntax
-include "File" not 'Test' as 'Othe'; => 201 Syntax
-include "File" (1); => 201 Syntax
-include "File" 'Test' (); => 201 Syntax
-include "File" 'Test' (1:2:3); => 201 Syntax
-include "File" 'Test' (1, 2); => 201 Syntax
-include "File" 'Test' (1:); => 201 Syntax
-include "File" 'Test' ("a" : "b"); => 201 Syntax
-include "File" 'Test' (x); => 201 Syntax
-include "File" 'Test' (1 : locked); => 201 Syntax
-include "File" 'Test' ($$ID); => 201 Syntax
-include "File" 'Test' (1 : $$Type); => 201 Syntax
-include "File" 'Test' ($$Name); => 201 Syntax
-include "File" 'Test' ("a" $$Name); => 201 Syntax
-include "File" 'Test' as 'Othe' (1); => 201 Syntax
-include "File" 'Test' (1:2) as 'Othe' (1); => 201 Syntax
-include "File" 'Test' (1) to 'Othe'; => 201 Syntax
-include "File" 'Test' (1) as; => 201 Syntax
-include "File" 'Test' (1) as 'Othe' (); => 201 Syntax
-include "File" 'Test' (1) as 'Othe' ("n"); => 201 Syntax
-include "File" 'Test' (1) as 'Othe' (x); => 201 Syntax
-include "File" 'Test' (1) as 'Othe' (2) (3); => 201 Syntax
-include "File" 'Test' 'Othe'; => 201 Syntax
+include 'Test'; ‖ include not 'Test'; ‖ include 'Test' "File"; ‖ include "File" ‖ include "File" 'Test' => 201 Syntax
+include "File" 'Test' (1) ‖ include "File" 'Test' (1) as 'Othe' => 201 Syntax
+include "File" 'Test' (1) as 'Othe' (2) ‖ include "File" 'Tes'; ‖ include "File" not; => 201 Syntax
+include "File" not 'Test' (1); ‖ include "File" not 'Test' as 'Othe'; ‖ include "File" (1); => 201 Syntax
+include "File" 'Test' (); ‖ include "File" 'Test' (1:2:3); ‖ include "File" 'Test' (1, 2); => 201 Syntax
+include "File" 'Test' (1:); ‖ include "File" 'Test' ("a" : "b"); ‖ include "File" 'Test' (x); => 201 Syntax
+include "File" 'Test' (1 : locked); ‖ include "File" 'Test' ($$ID); => 201 Syntax
+include "File" 'Test' (1 : $$Type); ‖ include "File" 'Test' ($$Name); => 201 Syntax
+include "File" 'Test' ("a" $$Name); ‖ include "File" 'Test' as 'Othe' (1); => 201 Syntax
+include "File" 'Test' (1:2) as 'Othe' (1); ‖ include "File" 'Test' (1) to 'Othe'; => 201 Syntax
+include "File" 'Test' (1) as; ‖ include "File" 'Test' (1) as 'Othe' (); => 201 Syntax
+include "File" 'Test' (1) as 'Othe' ("n"); ‖ include "File" 'Test' (1) as 'Othe' (x); => 201 Syntax
+include "File" 'Test' (1) as 'Othe' (2) (3); ‖ include "File" 'Test' 'Othe'; => 201 Syntax
 """
 
 READS = r"""
 // the bytes of a file as a new resource
 read 'Test' (128) "File"; => 'Test' 128 = 4142
-READ 'tEST' (1 + 1, "na" "me", locked, 3) "Fi" "le"; => 'tEST' 2 "name" 03 = 4142
-read; => 201 Syntax
-read 'Test' (1) "File" => 201 Syntax
-read 'Test' "File"; => 201 Syntax
-read 'Test' () "File"; => 201 Syntax
-read 'Test' (1:2) "File"; => 201 Syntax
-read 'Test' ("name") "File"; => 201 Syntax
-read 'Test' (x) "File"; => 201 Syntax
-read 'Test' ($$ID) "File"; => 201 Syntax
-read 'Test' (1, $$Name) "File"; => 201 Syntax
-read 'Test' (1, $$Attributes) "File"; => 201 Syntax
-read 'Test' (1) 'File'; => 201 Syntax
-read 'Test' (1) "File" 'Test'; => 201 Syntax
-read "File" 'Test' (1); => 201 Syntax
+READ 'tEST' (1 + 1, "na" "me", locked, 3) "Fi" "le"; => 'tEST' 2 "name" 03 = 4142 ‖ read; => 201 Syntax
+read 'Test' (1) "File" ‖ read 'Test' "File"; ‖ read 'Test' () "File"; ‖ read 'Test' (1:2) "File"; => 201 Syntax
+read 'Test' ("name") "File"; ‖ read 'Test' (x) "File"; ‖ read 'Test' ($$ID) "File"; => 201 Syntax
+read 'Test' (1, $$Name) "File"; ‖ read 'Test' (1, $$Attributes) "File"; ‖ read 'Test' (1) 'File'; => 201 Syntax
+read 'Test' (1) "File" 'Test'; ‖ read "File" 'Test' (1); => 201 Syntax
 """
 
 CHANGES = r"""
@@ -105,56 +73,32 @@ change 'Test' ("na" "me") to 'Othe' (2); => 'Test' -1 = A0 & 'Othe' 2 "name" 10 
 change 'Test' (1) to 'Test' (2, "new", purgeable); => 'Test' -1 = A0 & 'Test' 2 "new" 20 = A1 & 'Test' 128 "Name" = A3 & 'tEST' 1 "name" = B1
 change 'Test' (1) to 'Test' ($$ID + 1, $$Name, $$Type + 2, $$Attributes); => 207 OutOfRange: 1415934838
 change 'Test' (1) to 'Test' ($$ID + 8, $$Name, $$Type - 1415934834, $$Attributes); => 'Test' -1 = A0 & 'Test' 9 "name" 10 = A1 & 'Test' 2 = A2 & 'Test' 128 "Name" = A3 & 'tEST' 1 "name" = B1
-change; => 201 Syntax
-change 'Test'; => 201 Syntax
-change 'Test' (1); => 201 Syntax
-change 'Test' to; => 201 Syntax
-change (1) to 'Othe'; => 201 Syntax
-change 'Test' (1) to 'Othe' => 201 Syntax
-change 'Test' (1) to 'Othe' (2) => 201 Syntax
-change 'Test' (1) as 'Othe'; => 201 Syntax
-change 'Test' to 'Othe' (1); => 201 Syntax
-change 'Test' (1:2) to 'Othe' (1); => 201 Syntax
-change 'Test' (x) to 'Othe'; => 201 Syntax
-change 'Test' ($$ID) to 'Othe'; => 201 Syntax
-change 'Test' (1) to 'Othe' (x); => 201 Syntax
-change 'Test' (1) to 'Othe' "name"; => 201 Syntax
+change; ‖ change 'Test'; ‖ change 'Test' (1); ‖ change 'Test' to; ‖ change (1) to 'Othe'; => 201 Syntax
+change 'Test' (1) to 'Othe' ‖ change 'Test' (1) to 'Othe' (2) ‖ change 'Test' (1) as 'Othe'; => 201 Syntax
+change 'Test' to 'Othe' (1); ‖ change 'Test' (1:2) to 'Othe' (1); ‖ change 'Test' (x) to 'Othe'; => 201 Syntax
+change 'Test' ($$ID) to 'Othe'; ‖ change 'Test' (1) to 'Othe' (x); ‖ change 'Test' (1) to 'Othe' "name"; => 201 Syntax
 // resources that go
 delete 'Test'; => 'tEST' 1 "name" = B1
 delete 'Test' (1); => 'Test' -1 = A0 & 'Test' 2 = A2 & 'Test' 128 "Name" = A3 & 'tEST' 1 "name" = B1
 Delete 'tEST' (1:2); => 'Test' -1 = A0 & 'Test' 1 "name" 10 = A1 & 'Test' 2 = A2 & 'Test' 128 "Name" = A3
 delete 'Test' ("name"); => 'Test' -1 = A0 & 'Test' 2 = A2 & 'Test' 128 "Name" = A3 & 'tEST' 1 "name" = B1
 delete 'Test' ("na" $"6D65"); => 'Test' -1 = A0 & 'Test' 2 = A2 & 'Test' 128 "Name" = A3 & 'tEST' 1 "name" = B1
-delete; => 201 Syntax
-delete 'Test' => 201 Syntax
-delete 'Test' (1) => 201 Syntax
-delete 'Test' (); => 201 Syntax
-delete 'Test' (x); => 201 Syntax
-delete 'Test' ($$ID); => 201 Syntax
-delete 'Test' (1) to 'Othe'; => 201 Syntax
-delete 'Test', 'Othe'; => 201 Syntax
-delete not 'Test'; => 201 Syntax
-delete "File"; => 201 Syntax
-deletes 'Test'; => 201 Syntax
-"delete" 'Test'; => 201 Syntax
+delete; ‖ delete 'Test' ‖ delete 'Test' (1) ‖ delete 'Test' (); ‖ delete 'Test' (x); => 201 Syntax
+delete 'Test' ($$ID); ‖ delete 'Test' (1) to 'Othe'; ‖ delete 'Test', 'Othe'; ‖ delete not 'Test'; => 201 Syntax
+delete "File"; ‖ deletes 'Test'; ‖ "delete" 'Test'; => 201 Syntax
 // ids without a value
-delete 'Test' (1 / 0 : 1 << 32); => 211 ZeroDivisor
-delete 'Test' (1 : 1 << 32); => 215 BadShift: 32
+delete 'Test' (1 / 0 : 1 << 32); => 211 ZeroDivisor ‖ delete 'Test' (1 : 1 << 32); => 215 BadShift: 32
 // the mark is that of the first token
 ||delete|'Test' => 3: 201 Syntax
 """
 
 RULES = r"""
 // widths are 1 to 32
-type 'Test' { bitstring[-1]; }; => 238 BadWidth: -1
-type 'Test' { bitstring[0]; }; => 238 BadWidth: 0
-type 'Test' { bitstring[1]; }; => nothing
-type 'Test' { bitstring[32]; }; => nothing
+type 'Test' { bitstring[-1]; }; => 238 BadWidth: -1 ‖ type 'Test' { bitstring[0]; }; => 238 BadWidth: 0
+type 'Test' { bitstring[1]; }; ‖ type 'Test' { bitstring[32]; }; => nothing
 type 'Test' { bitstring[33]; }; => 238 BadWidth: 33
 // other numbers have their own width
-type 'Test' { byte; }; => nothing
-type 'Test' { boolean; }; => nothing
-type 'Test' { longint; }; => nothing
+type 'Test' { byte; }; ‖ type 'Test' { boolean; }; ‖ type 'Test' { longint; }; => nothing
 // fills are no longer than a resource
 type 'Test' { fill bit[-1]; }; => 238 BadWidth: -1
 type 'Test' { fill bit[0]; }; resource 'Test' (1) { }; => 'Test' 1
@@ -162,31 +106,22 @@ type 'Test' { fill bit[16777212]; }; resource 'Test' (1) { }; => 'Test' 1 = 00*2
 type 'Test' { fill bit[16777213]; }; => 238 BadWidth: 16777213
 type 'Test' { fill bit[2147483647]; }; => 238 BadWidth: 2147483647
 // sizes are those of the type
-type 'Test' { string[-1]; }; => 238 BadWidth: -1
-type 'Test' { string[0]; }; => nothing
-type 'Test' { string[2147483647]; }; => nothing
-type 'Test' { pstring[-1]; }; => 238 BadWidth: -1
-type 'Test' { pstring[0]; }; => nothing
-type 'Test' { pstring[255]; }; => nothing
-type 'Test' { pstring[256]; }; => 238 BadWidth: 256
-type 'Test' { wstring[-1]; }; => 238 BadWidth: -1
-type 'Test' { wstring[65535]; }; => nothing
-type 'Test' { wstring[65536]; }; => 238 BadWidth: 65536
-type 'Test' { cstring[-1]; }; => 238 BadWidth: -1
-type 'Test' { cstring[0]; }; => 238 BadWidth: 0
+type 'Test' { string[-1]; }; => 238 BadWidth: -1 ‖ type 'Test' { string[0]; }; => nothing
+type 'Test' { string[2147483647]; }; => nothing ‖ type 'Test' { pstring[-1]; }; => 238 BadWidth: -1
+type 'Test' { pstring[0]; }; ‖ type 'Test' { pstring[255]; }; => nothing
+type 'Test' { pstring[256]; }; => 238 BadWidth: 256 ‖ type 'Test' { wstring[-1]; }; => 238 BadWidth: -1
+type 'Test' { wstring[65535]; }; => nothing ‖ type 'Test' { wstring[65536]; }; => 238 BadWidth: 65536
+type 'Test' { cstring[-1]; }; => 238 BadWidth: -1 ‖ type 'Test' { cstring[0]; }; => 238 BadWidth: 0
 type 'Test' { cstring[1]; }; => nothing
 // a size is tested here only if it is a constant
-type 'Test' { pstring[2 * 128]; }; => 238 BadWidth: 256
-type 'Test' { pstring[256 / 0]; }; => nothing
-type 'Test' { cstring[FALSE]; }; => 238 BadWidth: 0
-type 'Test' { cstring[$$ID]; }; => nothing
+type 'Test' { pstring[2 * 128]; }; => 238 BadWidth: 256 ‖ type 'Test' { pstring[256 / 0]; }; => nothing
+type 'Test' { cstring[FALSE]; }; => 238 BadWidth: 0 ‖ type 'Test' { cstring[$$ID]; }; => nothing
 // the first field counts
 type 'Test' { align byte; rect; cstring[0]; bitstring[33]; }; => 238 BadWidth: 0
 // a body without fields
 type 'Test' { }; => nothing
 // stated rows are at most 1,048,576
-type 'Test' { array [0] { byte; }; }; => nothing
-type 'Test' { array [1048576] { byte; }; }; => nothing
+type 'Test' { array [0] { byte; }; }; ‖ type 'Test' { array [1048576] { byte; }; }; => nothing
 type 'Test' { array [1048577] { byte; }; }; => 238 BadWidth: 1048577
 type 'Test' { array [2147483647] { byte; }; }; => 238 BadWidth: 2147483647
 // also in a row of a row
@@ -214,24 +149,16 @@ type 'Test' { array { p: byte; }; array { P: byte; }; }; => 230 LabelTwice: "P"
 
 SCOPES = r"""
 // the last declaration with the id counts, else the last whose range has it, else the one for any id
-resource 'ICON' (1) { }; => 'ICON' 1 = 00*7
-resource 'ICON' (4) { }; => 'ICON' 4 = 00*6
-resource 'ICON' (8) { }; => 'ICON' 8 = 00*7
-resource 'ICON' (9) { }; => 'ICON' 9 = 00*5
-resource 'ICON' (10) { }; => 'ICON' 10 = 00*3
-resource 'ICON' (15) { }; => 'ICON' 15 = 00*3
-resource 'ICON' (16) { }; => 'ICON' 16 = 00
-resource 'ICON' (-32768) { }; => 'ICON' -32768 = 00
+resource 'ICON' (1) { }; => 'ICON' 1 = 00*7 ‖ resource 'ICON' (4) { }; => 'ICON' 4 = 00*6
+resource 'ICON' (8) { }; => 'ICON' 8 = 00*7 ‖ resource 'ICON' (9) { }; => 'ICON' 9 = 00*5
+resource 'ICON' (10) { }; => 'ICON' 10 = 00*3 ‖ resource 'ICON' (15) { }; => 'ICON' 15 = 00*3
+resource 'ICON' (16) { }; => 'ICON' 16 = 00 ‖ resource 'ICON' (-32768) { }; => 'ICON' -32768 = 00
 resource 'ICON' (32767) { }; => 'ICON' 32767 = 00
 // none of another type does
-resource 'MENU' (1) { }; => 202 NoType: 'MENU' 1
-resource 'MENU' (4) { }; => 202 NoType: 'MENU' 4
-resource 'MENU' (8) { }; => 202 NoType: 'MENU' 8
-resource 'MENU' (9) { }; => 202 NoType: 'MENU' 9
-resource 'MENU' (10) { }; => 202 NoType: 'MENU' 10
-resource 'MENU' (15) { }; => 202 NoType: 'MENU' 15
-resource 'MENU' (16) { }; => 202 NoType: 'MENU' 16
-resource 'MENU' (-32768) { }; => 202 NoType: 'MENU' -32768
+resource 'MENU' (1) { }; => 202 NoType: 'MENU' 1 ‖ resource 'MENU' (4) { }; => 202 NoType: 'MENU' 4
+resource 'MENU' (8) { }; => 202 NoType: 'MENU' 8 ‖ resource 'MENU' (9) { }; => 202 NoType: 'MENU' 9
+resource 'MENU' (10) { }; => 202 NoType: 'MENU' 10 ‖ resource 'MENU' (15) { }; => 202 NoType: 'MENU' 15
+resource 'MENU' (16) { }; => 202 NoType: 'MENU' 16 ‖ resource 'MENU' (-32768) { }; => 202 NoType: 'MENU' -32768
 resource 'MENU' (32767) { }; => 202 NoType: 'MENU' 32767
 // copies are of the declaration that counts
 type 'Copy' as 'ICON'; resource 'Copy' (1) { }; => 'Copy' 1 = 00
@@ -247,13 +174,10 @@ type 'ALL ' { unsigned hex byte one = 1; unsigned hex byte = -$$ID; hex string[2
 
 LIMITS = r"""
 // 64 brackets may be open, of whatever kind, and 60 in a type statement
-x «{×64»«]×64»; => 201 Syntax
-x «[×65»«}×65»; => 221 TooDeep
-TYPE «{×60»«}×60»; => 201 Syntax
+x «{×64»«]×64»; => 201 Syntax ‖ x «[×65»«}×65»; => 221 TooDeep ‖ TYPE «{×60»«}×60»; => 201 Syntax
 TYPE «{×61»«}×61»; => 221 TooDeep
 // 1,024 tokens side by side without one of { } , ;
-data 'Test' (1« + 1×509») { }; => 'Test' 510
-data 'Test' (1« + 1×510») { }; => 221 TooDeep
+data 'Test' (1« + 1×509») { }; => 'Test' 510 ‖ data 'Test' (1« + 1×510») { }; => 221 TooDeep
 """
 
 
