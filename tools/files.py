@@ -46,3 +46,13 @@ def found_in(folder, inside=""):
             else:
                 found[name] = "something that is no file (%o)" % stat.S_IFMT(entry.stat(follow_symlinks=False).st_mode)
     return found
+
+
+def rows_of(table):
+    """The rows of a table, and the comments after `//`. Between rows of a line stands ` ‖ `; of such rows that come to the
+    same, which stands after ` =>`, the last one alone says to what."""
+    for line in map(str.strip, table.strip().split("\n")):
+        group = [line] if line.startswith("//") else line.split(" ‖ ")
+        for at, row in enumerate(group):
+            comes = next((each[each.index(" =>"):] for each in group[at:] if " =>" in each), "")
+            yield row if " =>" in row or row.startswith("//") else row + comes

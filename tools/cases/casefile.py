@@ -3,6 +3,7 @@ import os
 import re
 
 from top import TOP
+from files import rows_of
 from model.case_lines import content
 from model.fork import image, resource_of
 
@@ -75,16 +76,12 @@ class Book:
         self.lines.append("")
 
     def table(self, rows, add=None):
-        """The cases that `add`, or else `line`, makes of each row of a table. A line after `//` says what is tried. Between
-        rows of a line stands ` ‖ `; of such rows that come to the same the last one alone says to what."""
-        for line in map(str.strip, rows.strip().split("\n")):
-            if line.startswith("//"):
-                self.say(line[2:].strip())
-                continue
-            group = line.split(" ‖ ")
-            for at, row in enumerate(group):
-                comes = next((each[each.index(" =>"):] for each in group[at:] if " =>" in each), "")
-                (add or self.line)(row if " =>" in row else row + comes)
+        """The cases that `add`, or else `line`, makes of each row of a table. A line after `//` says what is tried."""
+        for row in rows_of(rows):
+            if row.startswith("//"):
+                self.say(row[2:].strip())
+            else:
+                (add or self.line)(row)
 
     def lines_of(self, says, rows, add=None):
         """Makes a table the next part of the file, after a comment."""

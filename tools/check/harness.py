@@ -9,91 +9,57 @@ with the line at which it breaks, and what is printed of a case that differs. Wh
 here, by hand, is printed with what came. The status is 1 if anything is. The quick checks run it.
 """
 import os
+import re
 import subprocess
 import sys
 import tempfile
 
 from top import TOP
-from files import write
+from files import rows_of, write
 from looks import Looks
 
 RUN = ["case a case", "words rez no.r -o x", "status 2", "err text", '| rezkit: error 101 MissingFile: "no.r"']
-TWICE = "the case states this twice"
-PLACE = "a place is none of status, out, err, file NAME and fail PLACE"
-TARGET = "what is named is none of folder, out and err"
-NUMBER = "a number is missing, wrong or too great"
-DIGITS = "hexadecimal digits are wrong or odd in number"
-SIZE = "numbers that count up have not one to four bytes, or not as many"
-DOWN = "numbers that count up go down, or are too many"
-CALLS = "a sweep of no calls, or of more than 100,000"
-SWEPT = "a sweep names no other call that fails, and isn't wrong on purpose"
 SOURCE = ["case a source", "words rez s.r -o x", "file open s.r", "| ;", "status 0", "leaves bytes x"]
 NONE = ["| 0000 0100 0000 0100 0000 0000 0000 001E 00*240", "| 0000 0100 0000 0100 0000 0000 0000 001E",
         "| 0000 0000 0000 0000 001C 001E FFFF"]
 
 # Lines after those of a case, the line at which the file breaks, and what is said of it. A line that is stated again
 # stands in line 7.
-BROKEN = [
-    (["moment 0", "moment 0"], 7, TWICE),
-    (["moment 1", "moment 2"], 7, TWICE),
-    (["moment today"], 6, NUMBER),
-    (["moment 2208988800"], 1, "the moment is outside 1904 to 2039"),
-    (["room folder 1 10", "room folder 1 10"], 7, TWICE),
-    (["room out 1", "room out 2"], 7, TWICE),
-    (["room err 1", "room err 2"], 7, TWICE),
-    (["room folder 1"], 6, NUMBER),
-    (["room folder 1 2 3"], 6, "the argument has too many parts"),
-    (["room in 1"], 6, TARGET),
-    (["fail folder 1", "fail folder 2"], 7, TWICE),
-    (["fail out 1 0", "fail out 2 0"], 7, TWICE),
-    (["fail err 1 0", "fail err 1 1"], 7, TWICE),
-    (["fail folder 0"], 6, NUMBER),
-    (["fail err 0 0"], 6, NUMBER),
-    (["fail out 1"], 6, NUMBER),
-    (["fail x 1"], 6, TARGET),
-    (["fail folder 1", "fails never", "fails never"], 8, TWICE),
-    (["fails never"], 1, "no call is named that never comes"),
-    (["fail folder 1", "fails sometimes"], 7, "of calls that are to fail nothing is said but never"),
-    (["differs"], 6, "no place is named"),
-    (["differs 1"], 6, PLACE),
-    (["differs status x"], 6, PLACE),
-    (["differs status status"], 6, TWICE),
-    (["differs err", "differs out err"], 7, TWICE),
-    (["differs file x", "differs file x"], 7, TWICE),
-    (["differs fail folder", "differs fail folder"], 7, TWICE),
-    (["differs fail x"], 6, TARGET),
-    (["status 2"], 6, TWICE),
-    (["out text", "out text"], 7, TWICE),
-    (["gone x", "leaves text x"], 7, TWICE),
-    (["file text x", "file open x"], 7, TWICE),
-    (["file words x"], 6, "the kind of content is none of text, open and bytes"),
-    (["file bytes x", "| 0"], 6, DIGITS),
-    (["file bytes x", "| 00..0"], 6, DIGITS),
-    (["file bytes x", "| 0x..01"], 6, DIGITS),
-    (["file bytes x", "| 00..01..02"], 6, DIGITS),
-    (["file bytes x", "| 00..01:0"], 6, DIGITS),
-    (["file bytes x", "| 00..01*2"], 6, DIGITS),
-    (["file bytes x", "| .."], 6, SIZE),
-    (["file bytes x", "| 00..0100"], 6, SIZE),
-    (["file bytes x", "| 0000000000..0000000001"], 6, SIZE),
-    (["file bytes x", "| 02..01"], 6, DOWN),
-    (["file bytes x", "| 00000000..01312D00"], 6, DOWN),
-    (["file bytes x", "| 00*20000001"], 6, "a wrong number of times"),
-    (["gone x", "| y"], 6, "this key takes no content"),
-    (["says x"], 6, "there is no such key"),
-    (["sweep folder 1 0", "sweep out 1 0"], 7, TWICE),
-    (["sweep folder 0 0"], 6, CALLS),
-    (["sweep out 0 1"], 6, CALLS),
-    (["sweep err 100001 0"], 6, CALLS),
-    (["sweep folder 1"], 6, NUMBER),
-    (["sweep folder 1 x"], 6, NUMBER),
-    (["sweep out 1 2 3"], 6, "the argument has too many parts"),
-    (["sweep in 1 0"], 6, TARGET),
-    (["sweep folder 1 0", "fail out 1 0"], 1, SWEPT),
-    (["sweep folder 1 0", "fail folder 2", "fails never"], 1, SWEPT),
-    (["sweep folder 1 0", "differs out"], 1, SWEPT),
-    (["case another case"], 6, "the case states no status"),
-]
+BROKEN = """
+moment 0¶moment 0 ‖ moment 1¶moment 2 => 7: the case states this twice
+moment today => 6: a number is missing, wrong or too great ‖ moment 2208988800 => 1: the moment is outside 1904 to 2039
+room folder 1 10¶room folder 1 10 ‖ room out 1¶room out 2 ‖ room err 1¶room err 2 => 7: the case states this twice
+room folder 1 => 6: a number is missing, wrong or too great ‖ room folder 1 2 3 => 6: the argument has too many parts
+room in 1 => 6: what is named is none of folder, out and err
+fail folder 1¶fail folder 2 ‖ fail out 1 0¶fail out 2 0 ‖ fail err 1 0¶fail err 1 1 => 7: the case states this twice
+fail folder 0 ‖ fail err 0 0 ‖ fail out 1 => 6: a number is missing, wrong or too great
+fail x 1 => 6: what is named is none of folder, out and err
+fail folder 1¶fails never¶fails never => 8: the case states this twice
+fails never => 1: no call is named that never comes
+fail folder 1¶fails sometimes => 7: of calls that are to fail nothing is said but never
+differs => 6: no place is named ‖ differs 1 => 6: a place is none of status, out, err, file NAME and fail PLACE
+differs status x => 6: a place is none of status, out, err, file NAME and fail PLACE
+differs status status => 6: the case states this twice ‖ differs err¶differs out err => 7: the case states this twice
+differs file x¶differs file x ‖ differs fail folder¶differs fail folder => 7: the case states this twice
+differs fail x => 6: what is named is none of folder, out and err ‖ status 2 => 6: the case states this twice
+out text¶out text ‖ gone x¶leaves text x ‖ file text x¶file open x => 7: the case states this twice
+file words x => 6: the kind of content is none of text, open and bytes
+file bytes x¶| 0 ‖ file bytes x¶| 00..0 ‖ file bytes x¶| 0x..01 => 6: hexadecimal digits are wrong or odd in number
+file bytes x¶| 00..01..02 ‖ file bytes x¶| 00..01:0 => 6: hexadecimal digits are wrong or odd in number
+file bytes x¶| 00..01*2 => 6: hexadecimal digits are wrong or odd in number
+file bytes x¶| .. ‖ file bytes x¶| 00..0100 => 6: numbers that count up have not one to four bytes, or not as many
+file bytes x¶| 0000000000..0000000001 => 6: numbers that count up have not one to four bytes, or not as many
+file bytes x¶| 02..01 ‖ file bytes x¶| 00000000..01312D00 => 6: numbers that count up go down, or are too many
+file bytes x¶| 00*20000001 => 6: a wrong number of times ‖ gone x¶| y => 6: this key takes no content
+says x => 6: there is no such key ‖ sweep folder 1 0¶sweep out 1 0 => 7: the case states this twice
+sweep folder 0 0 ‖ sweep out 0 1 ‖ sweep err 100001 0 => 6: a sweep of no calls, or of more than 100,000
+sweep folder 1 ‖ sweep folder 1 x => 6: a number is missing, wrong or too great
+sweep out 1 2 3 => 6: the argument has too many parts ‖ sweep in 1 0 => 6: what is named is none of folder, out and err
+sweep folder 1 0¶fail out 1 0 => 1: a sweep names no other call that fails, and isn't wrong on purpose
+sweep folder 1 0¶fail folder 2¶fails never => 1: a sweep names no other call that fails, and isn't wrong on purpose
+sweep folder 1 0¶differs out => 1: a sweep names no other call that fails, and isn't wrong on purpose
+case another case => 6: the case states no status
+"""
 
 # Whole files, what is printed of each, and the status.
 PRINTED = [
@@ -170,10 +136,11 @@ PRINTED = [
 
 def files():
     """Each file: its lines, what is printed of it, and the status."""
-    for lines, line, says in BROKEN:
+    for row in rows_of(BROKEN):
+        lines, line, says = re.match("(.*) => ([0-9]+): (.*)", row).groups()
         # A moment is looked at when its case is run, and else the file isn't read.
         cases = 1 if says.startswith("the moment") else 0
-        yield RUN + lines, "./one.cases:%d: %s\n%d cases, 1 differ" % (line, says, cases), 1
+        yield RUN + lines.split("¶"), "./one.cases:%s: %s\n%d cases, 1 differ" % (line, says, cases), 1
     yield from PRINTED
 
 
