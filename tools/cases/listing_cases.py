@@ -76,11 +76,8 @@ def forms():
     rows = ["fork 328", "'Test' (128) 2", "'Test' (129) 0", "resources 2"]
     dates = ["created 2000-01-01 00:00:00", "modified 2039-12-31 23:59:59"]
     lines = {
-        "raw": [],
-        "double": ['name "App"', *FRONT, *dates],
-        "single": ['name "App"', *FRONT, *dates, "data 13"],
-        "macbin": ['name "App"', *FRONT, "locked true", *dates, "data 13"],
-        "hqx": ['name "App"', *FRONT, "data 13"],
+        "raw": [], "double": ['name "App"', *FRONT, *dates], "single": ['name "App"', *FRONT, *dates, "data 13"],
+        "macbin": ['name "App"', *FRONT, "locked true", *dates, "data 13"], "hqx": ['name "App"', *FRONT, "data 13"],
     }
     for form in FORMS:
         data, rest = written(form, file), ["fork 0", "resources 0"]

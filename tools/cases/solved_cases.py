@@ -131,14 +131,9 @@ def sides():
         if said == "a place before":
             before = [byte(), Label("q"), byte(), Label("p")]
         for name, expr, marks in [
-                ("and", LENGTH + side, "rrrr"),
-                ("behind", side + LENGTH, "rrrr"),
-                ("less", LENGTH - side, "ddrr"),
-                ("from", side - LENGTH, "rrrd"),
-                ("times", LENGTH * side, "rrrr"),
-                ("of", side * LENGTH, "rrrr"),
-                ("by", LENGTH / side, "rdrd"),
-                ("to the left by", LENGTH << side, "rrrr"),
+                ("and", LENGTH + side, "rrrr"), ("behind", side + LENGTH, "rrrr"), ("less", LENGTH - side, "ddrr"),
+                ("from", side - LENGTH, "rrrd"), ("times", LENGTH * side, "rrrr"), ("of", side * LENGTH, "rrrr"),
+                ("by", LENGTH / side, "rdrd"), ("to the left by", LENGTH << side, "rrrr"),
                 ("to the right by", LENGTH >> side, "rddd"),
         ]:
             body = list(before) + [integer(expr), Label("s"), Label("f"), text("string"), Label("e"), byte()]
@@ -147,8 +142,7 @@ def sides():
                 "a length %s %s" % (name, said), body, marks[2], rows[2], first=2)
     SOLVED.say("What stands beside a length and has no value.")
     for name, side in [
-            ("a zero divisor", number(1) / 0),
-            ("a bad shift", number(1) << 40),
+            ("a zero divisor", number(1) / 0), ("a bad shift", number(1) << 40),
             ("bits before the resource", bits_at("n", number(-9), number(8))),
             ("bits of itself", bits_at("n", number(8), number(8))),
             ("a part of itself", bits_at("n", number(1), number(8))),
@@ -230,8 +224,7 @@ def places():
     case("a length behind a solved place", "byte = (b - a) / 8; a: string; b: byte = (b - a) / 8; byte;", "rd",
          "01 61 01 07", "01 61 02 07")
     for between, field in [
-            ("a string", text("pstring")),
-            ("a fixed string", text("pstring", None, b"xy")),
+            ("a string", text("pstring")), ("a fixed string", text("pstring", None, b"xy")),
             ("an array", Array("r", None, [byte()])),
             ("a switch", Switch([("A", [key("byte", 1)]), ("B", [key("byte", 2), byte()])])),
             ("a string with a size", text("string", byte_at("n"))),

@@ -66,17 +66,10 @@ def each_alone():
             refuse_source("%s of %s" % (code, item), templates, "resource '%s' (1) { %s };\n" % (code, item), "1: error 207 OutOfRange: %s" % value)
     BOOK.say("Items of another kind, too few of them, and too many.")
     for code, item, says in [
-            ("DBYT", '"A"', "206 WrongKind: 1"),
-            ("PSTR", "65", "206 WrongKind: 1"),
-            ("RECT", "1", "206 WrongKind: 1"),
-            ("HEXD", "{ }", "206 WrongKind: 1"),
-            ("TNAM", '"TEST"', "206 WrongKind: 1"),
-            ("DBYT", "", "208 TooFew: 0"),
-            ("FBYT", "0", "209 TooMany: 1"),
-            ("AWRD", "0", "209 TooMany: 1"),
-            ("CHAR", '"AB"', "216 TextTooLong: 2"),
-            ("DBYT", "A", '203 UnknownName: "A"'),
-            ("PSTR", '"%s"' % ("a" * 256), "216 TextTooLong: 256"),
+            ("DBYT", '"A"', "206 WrongKind: 1"), ("PSTR", "65", "206 WrongKind: 1"), ("RECT", "1", "206 WrongKind: 1"),
+            ("HEXD", "{ }", "206 WrongKind: 1"), ("TNAM", '"TEST"', "206 WrongKind: 1"), ("DBYT", "", "208 TooFew: 0"),
+            ("FBYT", "0", "209 TooMany: 1"), ("AWRD", "0", "209 TooMany: 1"), ("CHAR", '"AB"', "216 TextTooLong: 2"),
+            ("DBYT", "A", '203 UnknownName: "A"'), ("PSTR", '"%s"' % ("a" * 256), "216 TextTooLong: 256"),
         ]:
         refuse_source("%s given %s" % (code, item[:10] or "nothing"), file_of((code, code)), "resource '%s' (1) { %s };\n" % (code, item),
                       "1: error %s" % says)
@@ -185,17 +178,13 @@ def deep():
 
 # What stands behind a list or a string to the end, and whether the type can be read then.
 ENDS = [
-    ("nothing", "", "", True),
-    ("a number", "HBYT", "01", True),
+    ("nothing", "", "", True), ("a number", "HBYT", "01", True),
     ("numbers of each size", "DBYT DWRD DLNG HBYT HWRD HLNG", "01 0001 00000001 01 0001 00000001", True),
     ("a character, a type and a rectangle", "CHAR TNAM RECT", "41 54455354 0001 0002 0003 0004", True),
-    ("fills", "FBYT FWRD FLNG", "00 0000 00000000", True),
-    ("a string", "PSTR", "00", False),
-    ("a string that ends with a zero byte", "CSTR", "00", False),
-    ("an align of words", "AWRD", "", False),
+    ("fills", "FBYT FWRD FLNG", "00 0000 00000000", True), ("a string", "PSTR", "00", False),
+    ("a string that ends with a zero byte", "CSTR", "00", False), ("an align of words", "AWRD", "", False),
     ("an align of longs behind a number", "HBYT ALNG", "01 00 00", False),
-    ("another string to the end", "HEXD", "", False),
-    ("a list to the end", "LSTB HBYT LSTE", "", False),
+    ("another string to the end", "HEXD", "", False), ("a list to the end", "LSTB HBYT LSTE", "", False),
     ("a counted list", "OCNT LSTC HBYT LSTE", "0000", False),
 ]
 
@@ -225,15 +214,10 @@ def unknown():
                  "_DBY", "____", "LSTD", "OCN1"]:
         passed_over("the code %s" % code, "HBYT " + code)
     for name, codes in [
-            ("alone", "BOOL"),
-            ("first", "BOOL HBYT"),
-            ("in a list", "OCNT LSTC HBYT BOOL LSTE"),
-            ("in a list that never ends", "OCNT LSTC BOOL"),
-            ("while a number waits for its list", "OCNT BOOL"),
-            ("before an end without a list", "HBYT BOOL LSTE"),
-            ("before a list without a number", "BOOL LSTC"),
-            ("before an empty list", "BOOL LSTB LSTE"),
-            ("before 61 lists", "BOOL " + "LSTB " * 61),
+            ("alone", "BOOL"), ("first", "BOOL HBYT"), ("in a list", "OCNT LSTC HBYT BOOL LSTE"),
+            ("in a list that never ends", "OCNT LSTC BOOL"), ("while a number waits for its list", "OCNT BOOL"),
+            ("before an end without a list", "HBYT BOOL LSTE"), ("before a list without a number", "BOOL LSTC"),
+            ("before an empty list", "BOOL LSTB LSTE"), ("before 61 lists", "BOOL " + "LSTB " * 61),
         ]:
         passed_over("an unknown code %s" % name, codes)
     passed_over("an unknown code before an entry that is cut", entries("HBYT BOOL HBYT")[:-1])

@@ -26,15 +26,8 @@ from help import EXAMPLES
 from running import program_of
 
 WALKS = (
-    ("README.md", "docs/TOUR.md"),
-    ("docs/MESSAGES.md",),
-    ("docs/DAMAGED.md",),
-    ("docs/TEMPLATES.md",),
-    ("docs/TYPES.md",),
-    ("docs/TRANSLATING.md",),
-    ("docs/PORTING.md",),
-    ("docs/ARCHIVING.md",),
-    ("docs/LOOKING.md",),
+    ("README.md", "docs/TOUR.md"), ("docs/MESSAGES.md",), ("docs/DAMAGED.md",), ("docs/TEMPLATES.md",),
+    ("docs/TYPES.md",), ("docs/TRANSLATING.md",), ("docs/PORTING.md",), ("docs/ARCHIVING.md",), ("docs/LOOKING.md",),
 )
 MODULES = (("workbench/rezkit-po", "polib"), ("workbench/rezkit-look", "PIL"), ("workbench/rezkit-icons", "PIL"))
 PYTHON = "/usr/bin/python3"
