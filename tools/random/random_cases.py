@@ -1,63 +1,22 @@
 #!/usr/bin/env python3
-"""Prints random cases of commands, with what docs/LANGUAGE.md and docs/FORMATS.md say that they must leave.
+"""Prints random cases of expressions, with what docs/LANGUAGE.md says that they must leave.
 
-    python3 tools/random/random_cases.py forks SEED COUNT > FOLDER/random.cases
-    python3 tools/random/random_cases.py expressions SEED COUNT > FOLDER/random.cases
+    python3 tools/random/random_cases.py SEED COUNT > FOLDER/random.cases
     crates/rezkit_cases/out/rezkit_cases FOLDER
 
-`forks` are resource forks, most of them with some bytes changed, and what `derez` shows of them or the first rule of
-admission that they break. `expressions` stand in ids and in conditions. This is no part of the gate: it is a second,
-plain reading of the documents, against which the program can be tried for as long as one likes.
+They stand in ids and in conditions. This is no part of the gate: it is a second, plain reading of the document,
+against which the program can be tried for as long as one likes.
 """
 import random
 import sys
 
 import top  # noqa: F401
-from model import shown
+from runs import seeded
 from model.case_lines import byte_lines
 from model.faults import Refused
 from model.fork import fork_of
 from model.label_types import LEVEL, value_of
 from model.quoting import quoted
-
-def some_bytes(count):
-    return bytes(random.choice([random.randrange(256), random.randrange(32, 127)]) for _ in range(count))
-
-
-def some_resource():
-    kind = random.choice([b"Test", b"Aaaa", b"\0'\"\\", some_bytes(4)])
-    ident = random.choice([random.randrange(-32768, 32768), random.randrange(3)])
-    name = some_bytes(random.choice([0, 0, 1, 3, 63, 64, 65, 128, 129, 200, 255]))
-    attr = random.choice([0, 0, random.randrange(256), 1 << random.randrange(8)])
-    return kind, ident, name, attr, some_bytes(random.choice([0, 1, 2, 15, 16, 17, 33, random.randrange(60)]))
-
-
-def some_fork():
-    resources = {}
-    for each in (some_resource() for _ in range(random.choice([0, 1, 1, 2, 3, 5]))):
-        resources.setdefault(each[:2], each)
-    fork = bytearray(fork_of(list(resources.values())))
-    at_map = int.from_bytes(fork[4:8], "big")
-    for _ in range(random.choice([0, 0, 1, 1, 1, 2, 3])):
-        ranges = [(0, 16), (at_map + 16, len(fork)), (at_map + 16, len(fork)), (256, len(fork))]
-        at = random.randrange(*random.choice(ranges))
-        fork[at] = random.choice([0, 255, random.randrange(256), (fork[at] + 1) % 256, (fork[at] - 1) % 256])
-    if random.random() < 0.1:
-        fork = fork[:random.randrange(len(fork) + 1)]
-    return bytes(fork + bytes(random.choice([0] * 9 + [random.randrange(40)])))
-
-
-def fork_case(k):
-    fork = some_fork()
-    given = "case fork %d\nwords derez f -from raw\nfile bytes f\n%s" % (k, byte_lines(fork))
-    try:
-        text = shown.derez(["f", "-from", "raw"], {"f": fork})
-    except Refused as rule:
-        return given + "status 2\nerr text\n| rezkit: error %s\n" % rule
-    return given + "status 0\nout bytes\n" + byte_lines(text.encode())
-
-
-# Expressions.
 
 VALUES = [0, 1, 2, 3, 5, 7, 31, 32, 255, 65535, 2 ** 31 - 1, 2 ** 31, 2 ** 32 - 1]
 
@@ -118,16 +77,9 @@ def expression_case(k):
     return "case expression %d\nwords rez e.r -o x\nfile text e.r\n%s" % (k, case(text, tree))
 
 
-MAKERS = {"forks": fork_case, "expressions": expression_case}
-
-
 def main():
-    if len(sys.argv) != 4 or sys.argv[1] not in MAKERS:
-        sys.exit(__doc__)
-    make = MAKERS[sys.argv[1]]
-    random.seed(int(sys.argv[2]))
-    for k in range(int(sys.argv[3])):
-        sys.stdout.write(make(k) + "\n")
+    for k in seeded():
+        sys.stdout.write(expression_case(k) + "\n")
 
 
 if __name__ == "__main__":
