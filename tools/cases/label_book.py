@@ -1,6 +1,8 @@
 """Books of types with labels.
 
-Each type stands as the text of its fields, or as a list of them, of which label_types.py writes the text. labels.py
+Each type stands as the text of its fields, or as a list of them, of which label_types.py writes the text. In a row of
+a table it stands after the name and ` @ `: for `rez` with a row of items after another ` @ `, or as a whole source,
+in which `¶` is a line end; and for `derez` with resources after ` => `, each after its mark. labels.py
 lays its rows, and what label_spelling.py says of the bytes must be the same. Where bytes or the line on `err` stand by
 hand, they are compared with what labels.py says. Of `derez` stands by hand after the name which resources it shows by
 a `resource` statement, `r`, and which as bytes, `d`; each resource stands as its bytes or as the values of a row.

@@ -1,6 +1,6 @@
 """Writes rows.cases: what bytes tell under fields, that it gives the bytes again, and how it is shown.
 
-Each line of the tables has fields, after ` @ ` bytes in hexadecimal, and after ` => ` by hand what comes. In the
+Each row of the tables has fields, after ` @ ` bytes in hexadecimal, and after ` => ` by hand what comes. In the
 tables of rows that is the row: numbers without a sign, a text in quote marks, the numbers of a point in brackets, the
 rows of an array in braces with `|` between them, and a case as its name with its row in parentheses; `none` where
 there is no row; and `unreadable` where nothing is read under the fields, with items after it that give the bytes. In

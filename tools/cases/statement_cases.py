@@ -1,9 +1,9 @@
 """Writes statements.cases: the form of each statement, what it means, what is no statement, and the rules of fields.
 
-The tables below have sources, in which `|` is a line end and `«TEXT×N»` is TEXT N times, and after
-` => ` by hand what comes: the resources of the fork, as comments of tools/model/fork.py name them, with ` & ` between
-them, `nothing`, or a fault with what it keeps, after its line and a colon where that isn't the first. After ` SHOWS `
-stand the items that `derez` shows of the first resource, with `¶` between their lines.
+The tables below have sources, in which `|` is a line end and `«TEXT×N»` is TEXT N times, and after ` => ` by hand what
+comes: the resources of the fork, as comments of tools/model/fork.py name them, with ` & ` between them, `nothing`, or a
+fault with what it keeps, after its line and a colon where that isn't the first. After ` SHOWS ` stand the items that
+`derez` shows of the first resource, with `¶` between their lines.
 """
 import re
 
