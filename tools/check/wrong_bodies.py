@@ -13,14 +13,14 @@ gate doesn't read, and this script tries them. Run it over a crate after a chang
 The script needs `rt`, Rattle's command. It copies the crates, names the folders `must-fail` in the copy, and has
 `rt must-fail` try them there, over what `rt` kept of the proofs in `out/`. So it takes about a minute for a crate
 whose libraries are built (`rt lib` in the crate's folder builds them), and else as long as these take to be proved.
-What is tried is told a line each. Of each edit that was refused it writes the line in tools/check/wrong_bodies.txt:
-the name, and the sum of the crate's src/ and specs/, without the lines that are comments, and of the edit, for which
-it was refused. It removes the line of an edit that wasn't. The status is 1 if an edit isn't refused, or can't be
+What is tried is told a line each. Of each edit that was refused it writes into tools/check/wrong_bodies.txt, after its
+crate: its name, and the front of the sum of the crate's src/ and specs/, without the lines that are comments, and of
+the edit, for which it was refused. It removes an edit that wasn't. The status is 1 if an edit isn't refused, or can't be
 tried.
 
 With --check it needs no `rt` and changes nothing. The status is 1 if an edit of wrong-bodies/ or must-fail/ doesn't
 apply (the text after each `old:` stands in its file exactly once, where the pairs before it have been applied), or if
-one of wrong-bodies/ has no line in tools/check/wrong_bodies.txt. Edits whose sum is another now are printed, which is
+one of wrong-bodies/ isn't in tools/check/wrong_bodies.txt. Edits whose sum is another now are printed, which is
 no failure.
 """
 import glob
@@ -31,11 +31,13 @@ import shutil
 import subprocess
 import sys
 import tempfile
+import textwrap
 
 from top import TOP
 
 RECORD = os.path.join(TOP, "tools", "check", "wrong_bodies.txt")
 ABOUT = "# Of each wrong body the sum for which it was last refused; tools/check/wrong_bodies.py says what is summed, and writes this file.\n"
+BOUND = "\0"  # the blank between an edit and its sum, where no line may end
 COMMENT = re.compile(rb"^[ \t]*(//|--).*\n?", re.MULTILINE)
 TRIED = re.compile(r"must-fail (\w+/[\w.-]+\.edit): (refused, as it must be|NOT REFUSED)")
 
@@ -131,22 +133,34 @@ def sum_of(top, crate, path):
                 whole.update(b"%s\0%s\0" % (name.encode(), hashlib.sha256(code).digest()))
     with open(path, "rb") as file:
         whole.update(file.read())
-    return whole.hexdigest()
+    return whole.hexdigest()[:8]
 
 
 def record():
     """Of each edit that was ever refused the sum for which it was."""
     if not os.path.exists(RECORD):
         return {}
-    return dict(line.split(" ") for line in text_of(RECORD).splitlines() if line and not line.startswith("#"))
+    told, crate, words = {}, "", iter(text_of(RECORD).partition("\n")[2].split())
+    for word in words:
+        if word.endswith(":"):
+            crate = word[:-1]
+        else:
+            told[f"{crate}/{word}.edit"] = next(words).rstrip(",")
+    return told
 
 
 def write_record(sums):
-    """Puts sums into the record, and leaves out the lines of edits that are no more, or have None for a sum."""
+    """Puts sums into the record, and leaves out edits that are no more, or have None for a sum."""
     there = {f"{crate}/{name}" for crate, name, _ in edits(TOP, "wrong-bodies")}
     told = {name: total for name, total in {**record(), **sums}.items() if total and name in there}
+    pairs = {}
+    for name in sorted(told):
+        crate, edit = name.split("/")
+        pairs.setdefault(crate, []).append(f"{edit.removesuffix('.edit')}{BOUND}{told[name]}")
+    lines = [textwrap.fill(f"{crate}: {', '.join(some)}", 120, subsequent_indent="  ", break_on_hyphens=False)
+             for crate, some in pairs.items()]
     with open(RECORD, "w", encoding="utf-8") as file:
-        file.write(ABOUT + "".join(f"{name} {told[name]}\n" for name in sorted(told)))
+        file.write(ABOUT + "\n".join(lines).replace(BOUND, " ") + "\n")
 
 
 def check():
